@@ -1,0 +1,9 @@
+pub mod Places
+pub mod BitSums
+pub mod Patterns
+pub mod Blocks
+pub mod Bijection
+pub mod Streams
+pub mod WordBytes
+pub mod Wraps
+pub mod Unique

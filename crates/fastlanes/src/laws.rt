@@ -1,0 +1,65 @@
+//! What holds of every word type and every block: each law is the contract of a small function.
+#![tactic(auto)]
+
+ghost use Rattle.std.specs.Prelude.{◌≡◌, ◌≢◌, ℕ, ◌+◌, ◌*◌, ◌/◌, ◌%◌, ◌^◌, ◌<◌, ◌≤◌, length};
+ghost use Rattle.fastlanes.specs.Layout.{place, row_of, lane_of, segment, segment_row, segment_lane, Packed, word_at, unpacked_item};
+
+use crate::words::FastLanes;
+
+/// A word that was put is read again, and the other words stay.
+pub fn put_then_read<W: FastLanes>(word: W, bytes: &mut [u8], k: usize) -> W
+    requires { (k + 1) * (W.T / 8) ≤ length bytes.old }
+    ensures read { result ≡ word }
+    ensures put { word_at W.T bytes.new k ≡ W.pattern word }
+    ensures others { (j : ℕ) → j ≢ k → word_at W.T bytes.new j ≡ word_at W.T bytes.old j }
+{
+    word.put_word(bytes, k);
+    W::word(bytes, k)
+}
+
+/// The sum and the difference undo each other.
+#[tactic(auto, using(crate::proofs::Wraps::sum_then_difference, crate::proofs::Wraps::difference_then_sum))]
+pub fn sum_and_difference<W: FastLanes>(x: W, y: W) -> (W, W)
+    ensures first { result.0 ≡ x }
+    ensures second { result.1 ≡ x }
+{
+    x.in_range();
+    y.in_range();
+    (
+        x.wrapping_sum(y).wrapping_difference(y),
+        x.wrapping_difference(y).wrapping_sum(y),
+    )
+}
+
+/// Rows and lanes name the positions of a block, each once.
+pub fn places<W: FastLanes>()
+    ensures each { (i : ℕ) → i < 1024 → (place (row_of W.LANES i) (lane_of W.LANES i) ≡ i) × (row_of W.LANES i < W.T) × (lane_of W.LANES i < W.LANES) }
+    ensures once { (r l : ℕ) → r < W.T → l < W.LANES → (row_of W.LANES (place r l) ≡ r) × (lane_of W.LANES (place r l) ≡ l) × (place r l < 1024) }
+{}
+
+/// The lanes' segments name the positions of a block, each once.
+pub fn segments<W: FastLanes>()
+    ensures each { (i : ℕ) → i < 1024 → (segment (segment_lane W.T i) + segment_row W.T i ≡ i) × (segment_row W.T i < W.T) × (segment_lane W.T i < W.LANES) }
+    ensures once { (r l : ℕ) → r < W.T → l < W.LANES → (segment_row W.T (segment l + r) ≡ r) × (segment_lane W.T (segment l + r) ≡ l) × (segment l + r < 1024) }
+{}
+
+/// Whatever the words of a block are, they are the packing of some items.
+pub fn items_exist<W: FastLanes>(width: usize)
+    requires { width ≤ W.T }
+    ensures { (word : ℕ → ℕ) → Packed W.T W.LANES width (unpacked_item W.T W.LANES width word) word }
+{}
+
+/// The low bits of the items determine each word of the packed block.
+pub fn one_packing<W: FastLanes>(width: usize)
+    requires { width ≤ W.T }
+    ensures { (item same word other : ℕ → ℕ) → ((i : ℕ) → i < 1024 → item i % 2 ^ width ≡ same i % 2 ^ width)
+        → Packed W.T W.LANES width item word → Packed W.T W.LANES width same other
+        → ((m : ℕ) → m < width * W.LANES → (word m < 2 ^ W.T) × (other m < 2 ^ W.T)) → (m : ℕ) → m < width * W.LANES → word m ≡ other m }
+{}
+
+/// The words of a packed block determine the low bits of its items.
+pub fn one_unpacking<W: FastLanes>(width: usize)
+    requires { width ≤ W.T }
+    ensures { (item word : ℕ → ℕ) → Packed W.T W.LANES width item word
+        → (i : ℕ) → i < 1024 → item i % 2 ^ width ≡ unpacked_item W.T W.LANES width word i }
+{}

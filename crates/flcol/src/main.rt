@@ -1,0 +1,45 @@
+//! Columns of integers, packed.
+#![tactic(auto)]
+
+mod ends;
+mod engine;
+mod fault;
+mod native;
+mod packing;
+mod start;
+mod text;
+mod transfer;
+mod words;
+
+use crate::ends::{ReadEnd, WriteEnd};
+use crate::fault::Fault;
+use std::process::ExitCode;
+use std::{env, io};
+
+/// Runs the program over the standard streams. A word that isn't UTF-8 gives no command.
+fn status(rt: &HostRuntime) -> u8 {
+    let mut errors = WriteEnd::new(rt.stderr());
+    let words = match env::args(rt) {
+        Ok(words) => words,
+        Err(e) => {
+            return if e.kind() == io::ErrorKind::OutOfMemory {
+                start::refuse(&mut errors, Fault::OutOfMemory)
+            } else {
+                start::usage(&mut errors)
+            };
+        }
+    };
+    let Ok(words) = words.skip(1).collect::<Vec<String>>(rt.alloc()) else {
+        return start::refuse(&mut errors, Fault::OutOfMemory);
+    };
+    let mut source = ReadEnd::new(rt.reader());
+    let mut sink = WriteEnd::new(rt.stdout());
+    start::start(rt.alloc(), &words, &mut source, &mut sink, &mut errors)
+}
+
+fn main(rt: HostRuntime) -> ExitCode {
+    ExitCode::from(status(&rt))
+}
+
+#[cfg(test)]
+mod tests;
