@@ -1,5 +1,5 @@
 -- Where the items and the bits of a block of 1024 items lie.
-use Rattle.std.specs.Prelude.{◌≡◌, ℕ, suc, zero, ◌+◌, ◌*◌, ◌/◌, ◌%◌, ◌^◌, ◌<◌, List, [], ◌∷◌, slice_index, map, Bool, true, false, ◌-◌, bit_and, bit_or, if◌then◌else◌, nat_lt}
+use Rattle.std.specs.Prelude.{◌≡◌, ℕ, suc, zero, ◌+◌, ◌*◌, ◌/◌, ◌%◌, ◌^◌, ◌<◌, List, [], ◌∷◌, slice_index, map, Bool, true, false, ◌-◌}
 use Rattle.std.specs.Int.{bit_at}
 
 -- the order of the rows in eights

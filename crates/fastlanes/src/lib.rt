@@ -3,18 +3,35 @@
 //! `docs/LAYOUT.md` draws the layout.
 #![tactic(auto)]
 
+pub mod comparing;
 pub mod counts;
+pub mod deltas;
+pub mod kernel_laws;
 pub mod laws;
 pub mod layout;
 pub mod packing;
+pub mod points;
+pub mod round_trips;
+pub mod runs;
+pub mod transposing;
+pub mod turning;
 pub mod unpacking;
+pub(crate) mod widths;
 pub mod words;
 
+pub use comparing::unpack_cmp;
 pub use counts::Work;
+pub use deltas::{delta, undelta};
 pub use layout::{FL_CHUNK_SIZE, pos, seg};
 pub use packing::pack;
-pub use unpacking::{unpack, unpack_single};
+pub use points::{unpack_indices, unpack_single};
+pub use runs::{rle_decode, rle_encode};
+pub use transposing::{transpose, untranspose};
+pub use turning::transpose_bits;
+pub use unpacking::{unfor_pack, unpack};
 pub use words::FastLanes;
 
+#[cfg(test)]
+mod kernel_tests;
 #[cfg(test)]
 mod tests;

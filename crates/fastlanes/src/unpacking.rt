@@ -1,175 +1,326 @@
-//! Reading the items of a packed block, one bit at a time.
+//! Unpacking a block, sixteen lanes at a time.
 #![tactic(auto)]
 
-ghost use Rattle.std.specs.Prelude.{◌≡◌, ◌≢◌, ℕ, ◌+◌, ◌*◌, ◌/◌, ◌%◌, ◌^◌, ◌<◌, ◌≤◌, min, length};
-ghost use Rattle.std.specs.Int.{bit_at};
-ghost use Rattle.fastlanes.specs.Layout.{place, row_of, lane_of, Packed, bit_value, word_at, pattern_at, unpacked_item, unpacked_bits, packed_bit, words_of_item};
+ghost use Rattle.std.specs.Prelude.{◌≡◌, ℕ, ◌+◌, ◌*◌, ◌/◌, ◌%◌, ◌^◌, ◌<◌, ◌≤◌, Bool, true, false, min, length};
+ghost use Rattle.fastlanes.specs.Layout.{place, pattern_at, unpacked_item};
+ghost use Rattle.fastlanes.specs.Filled.{Filled, IsReference, item_of, sum_of};
 
 use crate::counts::Work;
-use crate::layout::{FL_CHUNK_SIZE, row};
+use crate::layout::{FL_CHUNK_SIZE, pos};
+use crate::widths::{at_width, begin, bits, group_at, lanes};
 use crate::words::FastLanes;
 
-/// The word of its lane's stream that holds bit `b` of the item at row `r`.
-#[tactic(auto, using(crate::proofs::Streams::row_times_width, crate::proofs::Streams::stream_below))]
-fn word_of_bit<W: FastLanes>(width: usize, r: usize, b: usize) -> usize
+/// The items at row `r` of the lanes of group `g`.
+#[inline(always)]
+pub(crate) fn items_of_row<W: FastLanes>(width: usize, words: &[W], r: usize, g: usize) -> W::Vector
     requires width { width ≤ W.T }
+    requires block { length words.now ≡ width * W.LANES }
     requires row { r < W.T }
-    requires bit { b < width }
-    ensures value { result ≡ (r * width + b) / W.T }
-    ensures below { result < width }
+    requires group { 16 * g + 16 ≤ W.LANES }
+    ensures whole { W.whole result }
+    ensures items { (j : ℕ) → j < 16 → W.lane result j ≡ item_of W.T W.LANES width (pattern_at W.pattern words.now) r (16 * g + j) }
 {
-    (r * width + b) / W::T
-}
-
-/// Word `k` of lane `l` of a packed block, counted.
-#[tactic(auto, using(crate::proofs::Streams::word_fits))]
-fn stream_word<W: FastLanes>(width: usize, bytes: &[u8], k: usize, l: usize, work: &mut Work) -> W
-    requires width { width ≤ W.T }
-    requires block { length bytes.now ≡ 128 * width }
-    requires word { k < width }
-    requires lane { l < W.LANES }
-    ensures word { W.pattern result ≡ word_at W.T bytes.now (k * W.LANES + l) }
-    ensures words { work.new.words ≡ min (work.old.words + 1) u64.MAX }
-    ensures blocks { work.new.blocks ≡ work.old.blocks }
-{
-    work.add_word();
-    W::word(bytes, k * W::LANES + l)
-}
-
-/// Word `last` of lane `l`, read only if it is not `low`, which is word `first`.
-fn last_word<W: FastLanes>(
-    width: usize,
-    bytes: &[u8],
-    first: usize,
-    last: usize,
-    l: usize,
-    low: W,
-    work: &mut Work,
-) -> W
-    requires width { width ≤ W.T }
-    requires block { length bytes.now ≡ 128 * width }
-    requires order { first ≤ last }
-    requires word { last < width }
-    requires lane { l < W.LANES }
-    requires low { W.pattern low ≡ word_at W.T bytes.now (first * W.LANES + l) }
-    ensures word { W.pattern result ≡ word_at W.T bytes.now (last * W.LANES + l) }
-    ensures one_word { first ≡ last → work.new.words ≡ work.old.words }
-    ensures two_words { first < last → work.new.words ≡ min (work.old.words + 1) u64.MAX }
-    ensures blocks { work.new.blocks ≡ work.old.blocks }
-{
-    if first < last {
-        stream_word(width, bytes, last, l, work)
-    } else {
-        low
-    }
-}
-
-/// Bit `b` of the item at row `r`, of which `low` and `high` are the first and the last word.
-#[tactic(auto, using(crate::proofs::Streams::row_times_width, crate::proofs::Streams::stream_below))]
-fn bit_of_two<W: FastLanes>(width: usize, r: usize, b: usize, low: W, high: W) -> bool
-    requires width { width ≤ W.T }
-    requires row { r < W.T }
-    requires bit { b < width }
-    ensures low { (r * width + b) / W.T ≡ r * width / W.T → bit_value result ≡ bit_at (W.pattern low) ((r * width + b) % W.T) }
-    ensures high { (r * width + b) / W.T ≢ r * width / W.T → bit_value result ≡ bit_at (W.pattern high) ((r * width + b) % W.T) }
-{
-    let at = r * width;
-    if (at + b) / W::T == at / W::T {
-        low.bit((at + b) % W::T)
-    } else {
-        high.bit((at + b) % W::T)
-    }
-}
-
-/// The row and the lane of position `index`.
-#[tactic(auto, using(crate::proofs::Bijection::position_placed))]
-fn row_and_lane<W: FastLanes>(index: usize) -> (usize, usize)
-    requires { index < 1024 }
-    ensures row { result.0 < W.T }
-    ensures lane { result.1 < W.LANES }
-    ensures place { place result.0 result.1 ≡ index }
-    ensures value { (result.0 ≡ row_of W.LANES index) × (result.1 ≡ lane_of W.LANES index) }
-{
-    (row(index, W::LANES), index % W::LANES)
-}
-
-/// The item at `index` of a packed block of `128 * width` bytes, read without its neighbours.
-///
-/// It reads each word that holds a bit of the item once, so at most two, and none at width 0.
-#[tactic(auto, using(crate::proofs::BitSums::unpacked_bits_none, crate::proofs::Streams::two_words), unfolding(crate::specs::Layout::unpacked_item))]
-pub fn unpack_single<W: FastLanes>(width: usize, bytes: &[u8], index: usize, work: &mut Work) -> W
-    requires width { width ≤ W.T }
-    requires block { length bytes.now ≡ 128 * width }
-    requires index { index < 1024 }
-    // The item that the bits make, and so the low bits of whatever item was packed there.
-    ensures bits { W.pattern result ≡ unpacked_item W.T W.LANES width (word_at W.T bytes.now) index }
-    ensures item { (item : ℕ → ℕ) → Packed W.T W.LANES width item (word_at W.T bytes.now) → W.pattern result ≡ item index % 2 ^ width }
-
-    ensures no_word { width ≡ 0 → work.new.words ≡ work.old.words }
-    ensures words { 0 < width → work.new.words ≡ min (work.old.words + words_of_item W.T width (row_of W.LANES index)) u64.MAX }
-    ensures few { work.new.words ≤ work.old.words + 2 }
-    ensures blocks { work.new.blocks ≡ work.old.blocks }
-{
-    let mut item = W::zero();
     if width == 0 {
-        return item;
+        return W::splat(W::zero());
     }
-    let (r, l) = row_and_lane::<W>(index);
-    let first = word_of_bit::<W>(width, r, 0);
-    let last = word_of_bit::<W>(width, r, width - 1);
-    let low: W = stream_word(width, bytes, first, l, work);
-    let high = last_word(width, bytes, first, last, l, low, work);
-    for b in 0..width {
-        let on = bit_of_two(width, r, b, low, high);
-        item = item.with_bit(b, on);
+    let (k, shift) = begin::<W>(width, r);
+    let begun = W::shift_right(W::load(words, group_at::<W>(width, k, g)), shift);
+    let t = bits::<W>();
+    if shift + width <= t {
+        W::and(begun, W::low_mask(width))
+    } else {
+        let rest = W::shift_left(W::load(words, group_at::<W>(width, k + 1, g)), t - shift);
+        W::and(W::or(begun, rest), W::low_mask(width))
     }
-    item
 }
 
-/// Bit `b` of the item at row `r` of lane `l` of these words.
-#[tactic(auto, using(crate::proofs::Streams::row_times_width, crate::proofs::Streams::stream_below, crate::proofs::Blocks::word_in_block, crate::proofs::Patterns::pattern_at_read), unfolding(crate::specs::Layout::packed_bit))]
-fn bit_at_row<W: FastLanes>(width: usize, words: &[W], r: usize, l: usize, b: usize) -> bool
+/// Each lane plus the lane of the reference, which is 0 where the items have no frame.
+#[inline(always)]
+fn framed<W: FastLanes, const FRAMED: bool>(row: W::Vector, reference: W::Vector) -> W::Vector
+    requires row { W.whole row }
+    requires reference { W.whole reference }
+    requires frame { IsReference FRAMED (W.lane reference) }
+    requires small { (j : ℕ) → j < 16 → W.lane row j < 2 ^ W.T }
+    ensures whole { W.whole result }
+    ensures lanes { (j : ℕ) → j < 16 → W.lane result j ≡ (W.lane row j + W.lane reference j) % 2 ^ W.T }
+{
+    if FRAMED { W::add(row, reference) } else { row }
+}
+
+/// Writes the items at row `r` of the lanes of group `g`, plus the reference.
+#[inline(always)]
+fn unpack_row<W: FastLanes, const FRAMED: bool>(
+    width: usize,
+    words: &[W],
+    reference: W::Vector,
+    r: usize,
+    g: usize,
+    items: &mut [W; FL_CHUNK_SIZE],
+)
     requires width { width ≤ W.T }
     requires block { length words.now ≡ width * W.LANES }
+    requires reference { W.whole reference }
+    requires frame { IsReference FRAMED (W.lane reference) }
     requires row { r < W.T }
-    requires lane { l < W.LANES }
-    requires bit { b < width }
-    ensures { bit_value result ≡ packed_bit W.T W.LANES (pattern_at W.pattern words.now) l (r * width + b) }
+    requires group { 16 * g + 16 ≤ W.LANES }
+    ensures filled { Filled W.T W.LANES place (sum_of W.T W.LANES width (pattern_at W.pattern words.now) (W.lane reference)) g r (r + 1) (pattern_at W.pattern items.old) (pattern_at W.pattern items.new) }
+    ensures whole { length items.new ≡ 1024 }
 {
-    let s = r * width + b;
-    words[s / W::T * W::LANES + l].bit(s % W::T)
+    let row = framed::<W, FRAMED>(items_of_row(width, words, r, g), reference);
+    W::store(row, items, pos(r, 16 * g));
 }
 
-/// The item at row `r` of lane `l` of these words.
-#[tactic(auto, using(crate::proofs::BitSums::unpacked_bits_none))]
-fn item_at_row<W: FastLanes>(width: usize, words: &[W], r: usize, l: usize) -> W
+/// Writes the items at the eight rows from `r` on of the lanes of group `g`, plus the reference.
+#[inline(always)]
+fn unpack_8<W: FastLanes, const FRAMED: bool>(
+    width: usize,
+    words: &[W],
+    reference: W::Vector,
+    r: usize,
+    g: usize,
+    items: &mut [W; FL_CHUNK_SIZE],
+)
     requires width { width ≤ W.T }
     requires block { length words.now ≡ width * W.LANES }
-    requires row { r < W.T }
-    requires lane { l < W.LANES }
-    ensures { W.pattern result ≡ unpacked_bits W.T W.LANES width (pattern_at W.pattern words.now) r l width }
+    requires reference { W.whole reference }
+    requires frame { IsReference FRAMED (W.lane reference) }
+    requires row { r + 8 ≤ W.T }
+    requires group { 16 * g + 16 ≤ W.LANES }
+    ensures filled { Filled W.T W.LANES place (sum_of W.T W.LANES width (pattern_at W.pattern words.now) (W.lane reference)) g r (r + 8) (pattern_at W.pattern items.old) (pattern_at W.pattern items.new) }
+    ensures whole { length items.new ≡ 1024 }
 {
-    let mut item = W::zero();
-    for b in 0..width {
-        item = item.with_bit(b, bit_at_row(width, words, r, l, b));
+    unpack_row::<W, FRAMED>(width, words, reference, r, g, items);
+    unpack_row::<W, FRAMED>(width, words, reference, r + 1, g, items);
+    unpack_row::<W, FRAMED>(width, words, reference, r + 2, g, items);
+    unpack_row::<W, FRAMED>(width, words, reference, r + 3, g, items);
+    unpack_row::<W, FRAMED>(width, words, reference, r + 4, g, items);
+    unpack_row::<W, FRAMED>(width, words, reference, r + 5, g, items);
+    unpack_row::<W, FRAMED>(width, words, reference, r + 6, g, items);
+    unpack_row::<W, FRAMED>(width, words, reference, r + 7, g, items);
+}
+
+/// Writes the items at the 16 rows of the lanes of group `g`, plus the reference.
+fn unpack_16<W: FastLanes, const FRAMED: bool, const WIDTH: usize>(
+    words: &[W],
+    reference: W::Vector,
+    g: usize,
+    items: &mut [W; FL_CHUNK_SIZE],
+)
+    requires width { WIDTH ≤ W.T }
+    requires block { length words.now ≡ WIDTH * W.LANES }
+    requires reference { W.whole reference }
+    requires frame { IsReference FRAMED (W.lane reference) }
+    requires row { 16 ≤ W.T }
+    requires group { 16 * g + 16 ≤ W.LANES }
+    ensures filled { Filled W.T W.LANES place (sum_of W.T W.LANES WIDTH (pattern_at W.pattern words.now) (W.lane reference)) g 0 16 (pattern_at W.pattern items.old) (pattern_at W.pattern items.new) }
+    ensures whole { length items.new ≡ 1024 }
+{
+    unpack_8::<W, FRAMED>(WIDTH, words, reference, 0, g, items);
+    unpack_8::<W, FRAMED>(WIDTH, words, reference, 8, g, items);
+}
+
+/// Writes the items at the 32 rows of the lanes of group `g`, plus the reference.
+fn unpack_32<W: FastLanes, const FRAMED: bool, const WIDTH: usize>(
+    words: &[W],
+    reference: W::Vector,
+    g: usize,
+    items: &mut [W; FL_CHUNK_SIZE],
+)
+    requires width { WIDTH ≤ W.T }
+    requires block { length words.now ≡ WIDTH * W.LANES }
+    requires reference { W.whole reference }
+    requires frame { IsReference FRAMED (W.lane reference) }
+    requires row { 32 ≤ W.T }
+    requires group { 16 * g + 16 ≤ W.LANES }
+    ensures filled { Filled W.T W.LANES place (sum_of W.T W.LANES WIDTH (pattern_at W.pattern words.now) (W.lane reference)) g 0 32 (pattern_at W.pattern items.old) (pattern_at W.pattern items.new) }
+    ensures whole { length items.new ≡ 1024 }
+{
+    unpack_8::<W, FRAMED>(WIDTH, words, reference, 0, g, items);
+    unpack_8::<W, FRAMED>(WIDTH, words, reference, 8, g, items);
+    unpack_8::<W, FRAMED>(WIDTH, words, reference, 16, g, items);
+    unpack_8::<W, FRAMED>(WIDTH, words, reference, 24, g, items);
+}
+
+/// Writes the items at the 64 rows of the lanes of group `g`, plus the reference.
+fn unpack_64<W: FastLanes, const FRAMED: bool, const WIDTH: usize>(
+    words: &[W],
+    reference: W::Vector,
+    g: usize,
+    items: &mut [W; FL_CHUNK_SIZE],
+)
+    requires width { WIDTH ≤ W.T }
+    requires block { length words.now ≡ WIDTH * W.LANES }
+    requires reference { W.whole reference }
+    requires frame { IsReference FRAMED (W.lane reference) }
+    requires row { 64 ≤ W.T }
+    requires group { 16 * g + 16 ≤ W.LANES }
+    ensures filled { Filled W.T W.LANES place (sum_of W.T W.LANES WIDTH (pattern_at W.pattern words.now) (W.lane reference)) g 0 64 (pattern_at W.pattern items.old) (pattern_at W.pattern items.new) }
+    ensures whole { length items.new ≡ 1024 }
+{
+    unpack_8::<W, FRAMED>(WIDTH, words, reference, 0, g, items);
+    unpack_8::<W, FRAMED>(WIDTH, words, reference, 8, g, items);
+    unpack_8::<W, FRAMED>(WIDTH, words, reference, 16, g, items);
+    unpack_8::<W, FRAMED>(WIDTH, words, reference, 24, g, items);
+    unpack_8::<W, FRAMED>(WIDTH, words, reference, 32, g, items);
+    unpack_8::<W, FRAMED>(WIDTH, words, reference, 40, g, items);
+    unpack_8::<W, FRAMED>(WIDTH, words, reference, 48, g, items);
+    unpack_8::<W, FRAMED>(WIDTH, words, reference, 56, g, items);
+}
+
+/// Writes the items at all rows of the lanes of group `g`, plus the reference.
+#[inline(always)]
+fn unpack_group<W: FastLanes, const FRAMED: bool, const WIDTH: usize>(
+    words: &[W],
+    reference: W::Vector,
+    g: usize,
+    items: &mut [W; FL_CHUNK_SIZE],
+)
+    requires width { WIDTH ≤ W.T }
+    requires block { length words.now ≡ WIDTH * W.LANES }
+    requires reference { W.whole reference }
+    requires frame { IsReference FRAMED (W.lane reference) }
+    requires group { 16 * g + 16 ≤ W.LANES }
+    ensures filled { Filled W.T W.LANES place (sum_of W.T W.LANES WIDTH (pattern_at W.pattern words.now) (W.lane reference)) g 0 W.T (pattern_at W.pattern items.old) (pattern_at W.pattern items.new) }
+    ensures whole { length items.new ≡ 1024 }
+{
+    let t = bits::<W>();
+    if t == 8 {
+        unpack_8::<W, FRAMED>(WIDTH, words, reference, 0, g, items);
+    } else if t == 16 {
+        unpack_16::<W, FRAMED, WIDTH>(words, reference, g, items);
+    } else if t == 32 {
+        unpack_32::<W, FRAMED, WIDTH>(words, reference, g, items);
+    } else {
+        unpack_64::<W, FRAMED, WIDTH>(words, reference, g, items);
     }
-    item
 }
 
-/// The item at position `i` of these words.
-#[tactic(auto, unfolding(crate::specs::Layout::unpacked_item))]
-pub(crate) fn unpacked_at<W: FastLanes>(width: usize, words: &[W], i: usize) -> W
+/// Sixteen times the reference.
+#[inline(always)]
+fn splat_reference<W: FastLanes, const FRAMED: bool>(reference: W) -> W::Vector
+    requires { FRAMED ≡ false → W.pattern reference ≡ 0 }
+    ensures whole { W.whole result }
+    ensures lanes { (j : ℕ) → j < 16 → W.lane result j ≡ W.pattern reference }
+    ensures frame { IsReference FRAMED (W.lane result) }
+{
+    W::splat(reference)
+}
+
+/// Writes the items of a block, plus the reference.
+fn unpack_groups<W: FastLanes, const FRAMED: bool, const WIDTH: usize>(
+    words: &[W],
+    reference: W,
+    items: &mut [W; FL_CHUNK_SIZE],
+)
+    requires width { WIDTH ≤ W.T }
+    requires block { length words.now ≡ WIDTH * W.LANES }
+    requires frame { FRAMED ≡ false → W.pattern reference ≡ 0 }
+    ensures items { (i : ℕ) → i < 1024 → pattern_at W.pattern items.new i ≡ (unpacked_item W.T W.LANES WIDTH (pattern_at W.pattern words.now) i + W.pattern reference) % 2 ^ W.T }
+    ensures whole { length items.new ≡ 1024 }
+{
+    let reference = splat_reference::<W, FRAMED>(reference);
+    for g in 0..lanes::<W>() / 16 {
+        unpack_group::<W, FRAMED, WIDTH>(words, reference, g, items);
+    }
+}
+
+/// Unpacks at a width of at most 8 bits.
+fn unpack_to_8<W: FastLanes, const FRAMED: bool>(
+    width: usize,
+    words: &[W],
+    reference: W,
+    items: &mut [W; FL_CHUNK_SIZE],
+)
+    requires most { width ≤ 8 }
     requires width { width ≤ W.T }
     requires block { length words.now ≡ width * W.LANES }
-    requires index { i < 1024 }
-    ensures { W.pattern result ≡ unpacked_item W.T W.LANES width (pattern_at W.pattern words.now) i }
+    requires frame { FRAMED ≡ false → W.pattern reference ≡ 0 }
+    ensures items { (i : ℕ) → i < 1024 → pattern_at W.pattern items.new i ≡ (unpacked_item W.T W.LANES width (pattern_at W.pattern words.now) i + W.pattern reference) % 2 ^ W.T }
+    ensures whole { length items.new ≡ 1024 }
 {
-    let (r, l) = row_and_lane::<W>(i);
-    item_at_row(width, words, r, l)
+    at_width!(width, [0 1 2 3 4 5 6 7], 8, unpack_groups, FRAMED, (words, reference, items))
+}
+
+/// Unpacks at a width of 9 to 16 bits.
+fn unpack_to_16<W: FastLanes, const FRAMED: bool>(
+    width: usize,
+    words: &[W],
+    reference: W,
+    items: &mut [W; FL_CHUNK_SIZE],
+)
+    requires above { 8 < width }
+    requires most { width ≤ 16 }
+    requires width { width ≤ W.T }
+    requires block { length words.now ≡ width * W.LANES }
+    requires frame { FRAMED ≡ false → W.pattern reference ≡ 0 }
+    ensures items { (i : ℕ) → i < 1024 → pattern_at W.pattern items.new i ≡ (unpacked_item W.T W.LANES width (pattern_at W.pattern words.now) i + W.pattern reference) % 2 ^ W.T }
+    ensures whole { length items.new ≡ 1024 }
+{
+    at_width!(width, [9 10 11 12 13 14 15], 16, unpack_groups, FRAMED, (words, reference, items))
+}
+
+/// Unpacks at a width of 17 to 32 bits.
+fn unpack_to_32<W: FastLanes, const FRAMED: bool>(
+    width: usize,
+    words: &[W],
+    reference: W,
+    items: &mut [W; FL_CHUNK_SIZE],
+)
+    requires above { 16 < width }
+    requires most { width ≤ 32 }
+    requires width { width ≤ W.T }
+    requires block { length words.now ≡ width * W.LANES }
+    requires frame { FRAMED ≡ false → W.pattern reference ≡ 0 }
+    ensures items { (i : ℕ) → i < 1024 → pattern_at W.pattern items.new i ≡ (unpacked_item W.T W.LANES width (pattern_at W.pattern words.now) i + W.pattern reference) % 2 ^ W.T }
+    ensures whole { length items.new ≡ 1024 }
+{
+    at_width!(width, [17 18 19 20 21 22 23 24 25 26 27 28 29 30 31], 32, unpack_groups, FRAMED, (words, reference, items))
+}
+
+/// Unpacks at a width of 33 to 64 bits.
+fn unpack_to_64<W: FastLanes, const FRAMED: bool>(
+    width: usize,
+    words: &[W],
+    reference: W,
+    items: &mut [W; FL_CHUNK_SIZE],
+)
+    requires above { 32 < width }
+    requires most { width ≤ 64 }
+    requires width { width ≤ W.T }
+    requires block { length words.now ≡ width * W.LANES }
+    requires frame { FRAMED ≡ false → W.pattern reference ≡ 0 }
+    ensures items { (i : ℕ) → i < 1024 → pattern_at W.pattern items.new i ≡ (unpacked_item W.T W.LANES width (pattern_at W.pattern words.now) i + W.pattern reference) % 2 ^ W.T }
+    ensures whole { length items.new ≡ 1024 }
+{
+    at_width!(width, [33 34 35 36 37 38 39 40 41 42 43 44 45 46 47 48 49 50 51 52 53 54 55 56 57 58 59 60 61 62 63], 64, unpack_groups, FRAMED, (words, reference, items))
+}
+
+/// Writes the items of a block at any width, plus the reference.
+pub(crate) fn unpack_block<W: FastLanes, const FRAMED: bool>(
+    width: usize,
+    words: &[W],
+    reference: W,
+    items: &mut [W; FL_CHUNK_SIZE],
+)
+    requires width { width ≤ W.T }
+    requires block { length words.now ≡ width * W.LANES }
+    requires frame { FRAMED ≡ false → W.pattern reference ≡ 0 }
+    ensures items { (i : ℕ) → i < 1024 → pattern_at W.pattern items.new i ≡ (unpacked_item W.T W.LANES width (pattern_at W.pattern words.now) i + W.pattern reference) % 2 ^ W.T }
+    ensures whole { length items.new ≡ 1024 }
+{
+    let t = bits::<W>();
+    if t == 8 || width <= 8 {
+        unpack_to_8::<W, FRAMED>(width, words, reference, items);
+    } else if t == 16 || width <= 16 {
+        unpack_to_16::<W, FRAMED>(width, words, reference, items);
+    } else if t == 32 || width <= 32 {
+        unpack_to_32::<W, FRAMED>(width, words, reference, items);
+    } else {
+        unpack_to_64::<W, FRAMED>(width, words, reference, items);
+    }
 }
 
 /// Unpacks a block: writes the item at each position, its bits from `width` on 0.
-#[tactic(auto, using(crate::proofs::Patterns::pattern_at_set_same, crate::proofs::Patterns::pattern_at_set_other))]
 pub fn unpack<W: FastLanes>(
     width: usize,
     words: &[W],
@@ -179,11 +330,29 @@ pub fn unpack<W: FastLanes>(
     requires width { width ≤ W.T }
     requires block { length words.now ≡ width * W.LANES }
     ensures items { (i : ℕ) → i < 1024 → pattern_at W.pattern items.new i ≡ unpacked_item W.T W.LANES width (pattern_at W.pattern words.now) i }
+    ensures whole { length items.new ≡ 1024 }
     ensures blocks { work.new.blocks ≡ min (work.old.blocks + 1) u64.MAX }
     ensures words { work.new.words ≡ work.old.words }
 {
     work.add_block();
-    for i in 0..FL_CHUNK_SIZE {
-        items[i] = unpacked_at(width, words, i);
-    }
+    unpack_block::<W, false>(width, words, W::zero(), items);
+}
+
+/// Unpacks a block and adds the reference to each item, modulo 2 to the number of bits.
+pub fn unfor_pack<W: FastLanes>(
+    width: usize,
+    words: &[W],
+    reference: W,
+    items: &mut [W; FL_CHUNK_SIZE],
+    work: &mut Work,
+)
+    requires width { width ≤ W.T }
+    requires block { length words.now ≡ width * W.LANES }
+    ensures items { (i : ℕ) → i < 1024 → pattern_at W.pattern items.new i ≡ (unpacked_item W.T W.LANES width (pattern_at W.pattern words.now) i + W.pattern reference) % 2 ^ W.T }
+    ensures whole { length items.new ≡ 1024 }
+    ensures blocks { work.new.blocks ≡ min (work.old.blocks + 1) u64.MAX }
+    ensures words { work.new.words ≡ work.old.words }
+{
+    work.add_block();
+    unpack_block::<W, true>(width, words, reference, items);
 }

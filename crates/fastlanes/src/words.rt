@@ -1,32 +1,33 @@
 //! The words that a block is packed into.
-ghost use Rattle.std.specs.Prelude.{◌≡◌, ◌≢◌, ℕ, ◌+◌, ◌-◌, ◌*◌, ◌/◌, ◌%◌, ◌^◌, ◌<◌, ◌≤◌, length};
+ghost use Rattle.std.specs.Prelude.{◌≡◌, ◌≢◌, ◌⊎◌, ℕ, ◌+◌, ◌-◌, ◌*◌, ◌/◌, ◌%◌, ◌^◌, ◌<◌, ◌≤◌, length, slice_index, bit_and, bit_or, nat_eq};
 ghost use Rattle.std.specs.Int.{bit_at};
+ghost use Rattle.std.specs.Mem.{type_size};
 ghost use Rattle.std.proofs.Common.{lit≤};
-ghost use Rattle.fastlanes.specs.Layout.{word_at, bit_value, IsWordWidth, bits_8, bits_16, bits_32, bits_64};
+ghost use Rattle.fastlanes.specs.Layout.{word_at, pattern_at, bit_value, IsWordWidth, bits_8, bits_16, bits_32, bits_64};
 
-/// An unsigned integer type whose values are the words of a packed block: `u8`, `u16`, `u32`, `u64`.
-///
-/// Clauses see a word as its pattern, a whole number from 0 to 2^T - 1.
+use std::simd::{u8x16, u16x16, u32x16, u64x16};
+
+/// An unsigned type whose values are the words of a packed block, with vectors of sixteen of them.
 pub trait FastLanes: Copy {
-    /// The number of bits of a word, and of rows of a block: 8, 16, 32 or 64.
+    /// The bits of a word, and the rows of a block.
     const T: usize;
 
-    /// The number of lanes of a block: 1024 / T.
+    /// The lanes of a block.
     const LANES: usize;
 
     ghost T: { ℕ };
 
     ghost LANES: { ℕ };
 
-    // The number that a word stands for.
+    /// The number that a word stands for.
     ghost pattern: { Self → ℕ };
 
-    /// Word `k` of these bytes, which is stored little-endian from byte `k * T / 8` on.
+    /// Word `k` of these bytes, the low byte first.
     fn word(bytes: &[u8], k: usize) -> Self
         requires { (k + 1) * (T / 8) ≤ length bytes.now }
         ensures { pattern result ≡ word_at T bytes.now k };
 
-    /// Writes this word as word `k` of these bytes, and no other byte.
+    /// Writes word `k` of these bytes.
     fn put_word(self, bytes: &mut [u8], k: usize)
         requires { (k + 1) * (T / 8) ≤ length bytes.old }
         ensures put { word_at T bytes.new k ≡ pattern self }
@@ -36,37 +37,140 @@ pub trait FastLanes: Copy {
     fn zero() -> Self
         ensures { pattern result ≡ 0 };
 
-    /// Whether bit `b` is set; bit 0 is the lowest.
+    /// Whether bit `b` is set.
     fn bit(self, b: usize) -> bool
         requires { b < T }
         ensures { bit_at (pattern self) b ≡ bit_value result };
 
-    /// The same word with bit `b`, which stands above all that are set, set if `on`.
+    /// The same word with bit `b` set if `on`, above its other bits.
     fn with_bit(self, b: usize, on: bool) -> Self
         requires below { b < T }
         requires above { pattern self < 2 ^ b }
         ensures { pattern result ≡ pattern self + bit_value on * 2 ^ b };
 
-    /// The sum modulo 2^T.
+    /// The sum, modulo 2 to the number of bits.
     fn wrapping_sum(self, other: Self) -> Self
         ensures { pattern result ≡ (pattern self + pattern other) % 2 ^ T };
 
-    /// The difference modulo 2^T.
+    /// The difference, modulo 2 to the number of bits.
     fn wrapping_difference(self, other: Self) -> Self
         ensures { pattern result ≡ (pattern self + (2 ^ T - pattern other)) % 2 ^ T };
 
-    /// Does nothing; its clause says that a word's pattern is below 2^T.
+    /// The `width` bits from bit `shift` of this word on.
+    fn bits_from(self, shift: usize, width: usize) -> Self
+        requires some { 0 < width }
+        requires within { shift + width ≤ T }
+        ensures { pattern result ≡ bit_and (pattern self / 2 ^ shift) (2 ^ width - 1) };
+
+    /// The `width` bits from bit `shift` of this word on, which go on in the word `next`.
+    fn bits_across(self, next: Self, shift: usize, width: usize) -> Self
+        requires width { width ≤ T }
+        requires shift { shift < T }
+        requires across { T < shift + width }
+        ensures { pattern result ≡ bit_and (bit_or (pattern self / 2 ^ shift) (pattern next * 2 ^ (T - shift) % 2 ^ T)) (2 ^ width - 1) };
+
+    /// Whether the words are equal.
+    fn same(self, other: Self) -> bool
+        ensures { result ≡ nat_eq (pattern self) (pattern other) };
+
+    /// A word's pattern is one of its bits.
     fn in_range(self)
         ensures { pattern self < 2 ^ T };
 
-    // A word has 8, 16, 32 or 64 bits, and a block 1024 items.
+    /// A vector of sixteen words.
+    type Vector: Copy;
+
+    /// A vector has its sixteen words.
+    ghost whole: { Self.Vector → Type 0 };
+
+    /// The pattern of a word of a vector.
+    ghost lane: { Self.Vector → ℕ → ℕ };
+
+    /// The sixteen words from `at` on.
+    fn load(words: &[Self], at: usize) -> Self::Vector
+        requires room { at + 16 ≤ length words.now }
+        ensures whole { whole result }
+        ensures lanes { (j : ℕ) → j < 16 → lane result j ≡ pattern_at pattern words.now (at + j) }
+        ensures small { (j : ℕ) → j < 16 → lane result j < 2 ^ T };
+
+    /// Writes the sixteen words from `at` on.
+    fn store(vector: Self::Vector, words: &mut [Self], at: usize)
+        requires whole { whole vector }
+        requires room { at + 16 ≤ length words.old }
+        ensures lanes { (j : ℕ) → j < 16 → pattern_at pattern words.new (at + j) ≡ lane vector j }
+        ensures others { (i : ℕ) → (i < at) ⊎ (at + 16 ≤ i) → pattern_at pattern words.new i ≡ pattern_at pattern words.old i };
+
+    /// The sixteen words of a vector.
+    fn to_words(vector: Self::Vector) -> [Self; 16]
+        requires whole { whole vector }
+        ensures { (j : ℕ) → j < 16 → pattern_at pattern result j ≡ lane vector j };
+
+    /// Sixteen times this word.
+    fn splat(word: Self) -> Self::Vector
+        ensures whole { whole result }
+        ensures lanes { (j : ℕ) → j < 16 → lane result j ≡ pattern word };
+
+    /// Sixteen words whose low `width` bits are set.
+    fn low_mask(width: usize) -> Self::Vector
+        requires some { 0 < width }
+        requires width { width ≤ T }
+        ensures whole { whole result }
+        ensures lanes { (j : ℕ) → j < 16 → lane result j ≡ 2 ^ width - 1 };
+
+    /// Each word shifted to the right by so many bits.
+    fn shift_right(vector: Self::Vector, by: usize) -> Self::Vector
+        requires whole { whole vector }
+        requires by { by < T }
+        ensures whole { whole result }
+        ensures lanes { (j : ℕ) → j < 16 → lane result j ≡ lane vector j / 2 ^ by };
+
+    /// Each word shifted to the left by so many bits, the bits above a word lost.
+    fn shift_left(vector: Self::Vector, by: usize) -> Self::Vector
+        requires whole { whole vector }
+        requires by { by < T }
+        ensures whole { whole result }
+        ensures lanes { (j : ℕ) → j < 16 → lane result j ≡ lane vector j * 2 ^ by % 2 ^ T };
+
+    /// The bits that both words of a lane have.
+    fn and(vector: Self::Vector, other: Self::Vector) -> Self::Vector
+        requires whole { whole vector }
+        requires other { whole other }
+        ensures whole { whole result }
+        ensures lanes { (j : ℕ) → j < 16 → lane result j ≡ bit_and (lane vector j) (lane other j) };
+
+    /// The bits that one of the two words of a lane has.
+    fn or(vector: Self::Vector, other: Self::Vector) -> Self::Vector
+        requires whole { whole vector }
+        requires other { whole other }
+        ensures whole { whole result }
+        ensures lanes { (j : ℕ) → j < 16 → lane result j ≡ bit_or (lane vector j) (lane other j) };
+
+    /// The sum of the two words of a lane, modulo 2 to the number of bits.
+    fn add(vector: Self::Vector, other: Self::Vector) -> Self::Vector
+        requires whole { whole vector }
+        requires other { whole other }
+        ensures whole { whole result }
+        ensures lanes { (j : ℕ) → j < 16 → lane result j ≡ (lane vector j + lane other j) % 2 ^ T };
+
+    /// The difference of the two words of a lane, modulo 2 to the number of bits.
+    fn subtract(vector: Self::Vector, other: Self::Vector) -> Self::Vector
+        requires whole { whole vector }
+        requires other { whole other }
+        ensures whole { whole result }
+        ensures lanes { (j : ℕ) → j < 16 → lane result j ≡ (lane vector j + (2 ^ T - lane other j)) % 2 ^ T };
+
+    /// A word takes at most eight bytes, so that arrays of words fit in memory.
+    fn in_memory()
+        ensures { type_size Self.row ≤ 8 };
+
+    /// A word has 8, 16, 32 or 64 bits, and a block 1024 items.
     ghost shape: { IsWordWidth T LANES };
 
     ghost few_rows: { T ≤ 64 };
 
     ghost few_lanes: { LANES ≤ 128 };
 
-    // Words of one pattern are equal.
+    /// Words of one pattern are equal.
     ghost one_word: { (x y : Self) → pattern x ≡ pattern y → x ≡ y };
 }
 
@@ -109,7 +213,90 @@ impl FastLanes for u8 {
         self.wrapping_sub(other)
     }
 
+    #[inline(always)]
+    #[tactic(auto, using(crate::proofs::Shifts::mask_is))]
+    fn bits_from(self, shift: usize, width: usize) -> Self {
+        self >> shift & u8::MAX >> (8 - width)
+    }
+
+    #[inline(always)]
+    #[tactic(auto, using(crate::proofs::Shifts::mask_is))]
+    fn bits_across(self, next: Self, shift: usize, width: usize) -> Self {
+        (self >> shift | next << (8 - shift)) & u8::MAX >> (8 - width)
+    }
+
+    fn same(self, other: Self) -> bool {
+        self == other
+    }
+
     fn in_range(self) {}
+
+    fn in_memory() {}
+
+    type Vector = u8x16;
+
+    ghost whole = { λ v. length v ≡ 16 };
+
+    ghost lane = { λ v j. slice_index v j };
+
+    #[inline(always)]
+    #[tactic(auto, using(crate::proofs::Sixteen::loaded))]
+    fn load(words: &[Self], at: usize) -> u8x16 {
+        u8x16::from_slice(&words[at..])
+    }
+
+    #[inline(always)]
+    #[tactic(auto, using(crate::proofs::Sixteen::stored, crate::proofs::Sixteen::stored_others))]
+    fn store(vector: u8x16, words: &mut [Self], at: usize) {
+        vector.copy_to_slice(&mut words[at..]);
+    }
+
+    #[inline(always)]
+    #[tactic(auto, using(crate::proofs::Vectors::pattern_at_number))]
+    fn to_words(vector: u8x16) -> [Self; 16] {
+        vector.to_array()
+    }
+
+    #[inline(always)]
+    #[tactic(auto, using(crate::proofs::Sixteen::splatted))]
+    fn splat(word: Self) -> u8x16 {
+        u8x16::splat(word)
+    }
+
+    #[inline(always)]
+    fn low_mask(width: usize) -> u8x16 {
+        u8x16::splat(u8::MAX) >> u8x16::splat(8 - width as u8)
+    }
+
+    #[inline(always)]
+    fn shift_right(vector: u8x16, by: usize) -> u8x16 {
+        vector >> u8x16::splat(by as u8)
+    }
+
+    #[inline(always)]
+    fn shift_left(vector: u8x16, by: usize) -> u8x16 {
+        vector << u8x16::splat(by as u8)
+    }
+
+    #[inline(always)]
+    fn and(vector: u8x16, other: u8x16) -> u8x16 {
+        vector & other
+    }
+
+    #[inline(always)]
+    fn or(vector: u8x16, other: u8x16) -> u8x16 {
+        vector | other
+    }
+
+    #[inline(always)]
+    fn add(vector: u8x16, other: u8x16) -> u8x16 {
+        vector + other
+    }
+
+    #[inline(always)]
+    fn subtract(vector: u8x16, other: u8x16) -> u8x16 {
+        vector - other
+    }
 
     ghost shape = { bits_8 };
 
@@ -163,7 +350,90 @@ impl FastLanes for u16 {
         self.wrapping_sub(other)
     }
 
+    #[inline(always)]
+    #[tactic(auto, using(crate::proofs::Shifts::mask_is))]
+    fn bits_from(self, shift: usize, width: usize) -> Self {
+        self >> shift & u16::MAX >> (16 - width)
+    }
+
+    #[inline(always)]
+    #[tactic(auto, using(crate::proofs::Shifts::mask_is))]
+    fn bits_across(self, next: Self, shift: usize, width: usize) -> Self {
+        (self >> shift | next << (16 - shift)) & u16::MAX >> (16 - width)
+    }
+
+    fn same(self, other: Self) -> bool {
+        self == other
+    }
+
     fn in_range(self) {}
+
+    fn in_memory() {}
+
+    type Vector = u16x16;
+
+    ghost whole = { λ v. length v ≡ 16 };
+
+    ghost lane = { λ v j. slice_index v j };
+
+    #[inline(always)]
+    #[tactic(auto, using(crate::proofs::Sixteen::loaded))]
+    fn load(words: &[Self], at: usize) -> u16x16 {
+        u16x16::from_slice(&words[at..])
+    }
+
+    #[inline(always)]
+    #[tactic(auto, using(crate::proofs::Sixteen::stored, crate::proofs::Sixteen::stored_others))]
+    fn store(vector: u16x16, words: &mut [Self], at: usize) {
+        vector.copy_to_slice(&mut words[at..]);
+    }
+
+    #[inline(always)]
+    #[tactic(auto, using(crate::proofs::Vectors::pattern_at_number))]
+    fn to_words(vector: u16x16) -> [Self; 16] {
+        vector.to_array()
+    }
+
+    #[inline(always)]
+    #[tactic(auto, using(crate::proofs::Sixteen::splatted))]
+    fn splat(word: Self) -> u16x16 {
+        u16x16::splat(word)
+    }
+
+    #[inline(always)]
+    fn low_mask(width: usize) -> u16x16 {
+        u16x16::splat(u16::MAX) >> u16x16::splat(16 - width as u16)
+    }
+
+    #[inline(always)]
+    fn shift_right(vector: u16x16, by: usize) -> u16x16 {
+        vector >> u16x16::splat(by as u16)
+    }
+
+    #[inline(always)]
+    fn shift_left(vector: u16x16, by: usize) -> u16x16 {
+        vector << u16x16::splat(by as u16)
+    }
+
+    #[inline(always)]
+    fn and(vector: u16x16, other: u16x16) -> u16x16 {
+        vector & other
+    }
+
+    #[inline(always)]
+    fn or(vector: u16x16, other: u16x16) -> u16x16 {
+        vector | other
+    }
+
+    #[inline(always)]
+    fn add(vector: u16x16, other: u16x16) -> u16x16 {
+        vector + other
+    }
+
+    #[inline(always)]
+    fn subtract(vector: u16x16, other: u16x16) -> u16x16 {
+        vector - other
+    }
 
     ghost shape = { bits_16 };
 
@@ -219,7 +489,90 @@ impl FastLanes for u32 {
         self.wrapping_sub(other)
     }
 
+    #[inline(always)]
+    #[tactic(auto, using(crate::proofs::Shifts::mask_is))]
+    fn bits_from(self, shift: usize, width: usize) -> Self {
+        self >> shift & u32::MAX >> (32 - width)
+    }
+
+    #[inline(always)]
+    #[tactic(auto, using(crate::proofs::Shifts::mask_is))]
+    fn bits_across(self, next: Self, shift: usize, width: usize) -> Self {
+        (self >> shift | next << (32 - shift)) & u32::MAX >> (32 - width)
+    }
+
+    fn same(self, other: Self) -> bool {
+        self == other
+    }
+
     fn in_range(self) {}
+
+    fn in_memory() {}
+
+    type Vector = u32x16;
+
+    ghost whole = { λ v. length v ≡ 16 };
+
+    ghost lane = { λ v j. slice_index v j };
+
+    #[inline(always)]
+    #[tactic(auto, using(crate::proofs::Sixteen::loaded))]
+    fn load(words: &[Self], at: usize) -> u32x16 {
+        u32x16::from_slice(&words[at..])
+    }
+
+    #[inline(always)]
+    #[tactic(auto, using(crate::proofs::Sixteen::stored, crate::proofs::Sixteen::stored_others))]
+    fn store(vector: u32x16, words: &mut [Self], at: usize) {
+        vector.copy_to_slice(&mut words[at..]);
+    }
+
+    #[inline(always)]
+    #[tactic(auto, using(crate::proofs::Vectors::pattern_at_number))]
+    fn to_words(vector: u32x16) -> [Self; 16] {
+        vector.to_array()
+    }
+
+    #[inline(always)]
+    #[tactic(auto, using(crate::proofs::Sixteen::splatted))]
+    fn splat(word: Self) -> u32x16 {
+        u32x16::splat(word)
+    }
+
+    #[inline(always)]
+    fn low_mask(width: usize) -> u32x16 {
+        u32x16::splat(u32::MAX) >> u32x16::splat(32 - width as u32)
+    }
+
+    #[inline(always)]
+    fn shift_right(vector: u32x16, by: usize) -> u32x16 {
+        vector >> u32x16::splat(by as u32)
+    }
+
+    #[inline(always)]
+    fn shift_left(vector: u32x16, by: usize) -> u32x16 {
+        vector << u32x16::splat(by as u32)
+    }
+
+    #[inline(always)]
+    fn and(vector: u32x16, other: u32x16) -> u32x16 {
+        vector & other
+    }
+
+    #[inline(always)]
+    fn or(vector: u32x16, other: u32x16) -> u32x16 {
+        vector | other
+    }
+
+    #[inline(always)]
+    fn add(vector: u32x16, other: u32x16) -> u32x16 {
+        vector + other
+    }
+
+    #[inline(always)]
+    fn subtract(vector: u32x16, other: u32x16) -> u32x16 {
+        vector - other
+    }
 
     ghost shape = { bits_32 };
 
@@ -283,7 +636,90 @@ impl FastLanes for u64 {
         self.wrapping_sub(other)
     }
 
+    #[inline(always)]
+    #[tactic(auto, using(crate::proofs::Shifts::mask_is))]
+    fn bits_from(self, shift: usize, width: usize) -> Self {
+        self >> shift & u64::MAX >> (64 - width)
+    }
+
+    #[inline(always)]
+    #[tactic(auto, using(crate::proofs::Shifts::mask_is))]
+    fn bits_across(self, next: Self, shift: usize, width: usize) -> Self {
+        (self >> shift | next << (64 - shift)) & u64::MAX >> (64 - width)
+    }
+
+    fn same(self, other: Self) -> bool {
+        self == other
+    }
+
     fn in_range(self) {}
+
+    fn in_memory() {}
+
+    type Vector = u64x16;
+
+    ghost whole = { λ v. length v ≡ 16 };
+
+    ghost lane = { λ v j. slice_index v j };
+
+    #[inline(always)]
+    #[tactic(auto, using(crate::proofs::Sixteen::loaded))]
+    fn load(words: &[Self], at: usize) -> u64x16 {
+        u64x16::from_slice(&words[at..])
+    }
+
+    #[inline(always)]
+    #[tactic(auto, using(crate::proofs::Sixteen::stored, crate::proofs::Sixteen::stored_others))]
+    fn store(vector: u64x16, words: &mut [Self], at: usize) {
+        vector.copy_to_slice(&mut words[at..]);
+    }
+
+    #[inline(always)]
+    #[tactic(auto, using(crate::proofs::Vectors::pattern_at_number))]
+    fn to_words(vector: u64x16) -> [Self; 16] {
+        vector.to_array()
+    }
+
+    #[inline(always)]
+    #[tactic(auto, using(crate::proofs::Sixteen::splatted))]
+    fn splat(word: Self) -> u64x16 {
+        u64x16::splat(word)
+    }
+
+    #[inline(always)]
+    fn low_mask(width: usize) -> u64x16 {
+        u64x16::splat(u64::MAX) >> u64x16::splat(64 - width as u64)
+    }
+
+    #[inline(always)]
+    fn shift_right(vector: u64x16, by: usize) -> u64x16 {
+        vector >> u64x16::splat(by as u64)
+    }
+
+    #[inline(always)]
+    fn shift_left(vector: u64x16, by: usize) -> u64x16 {
+        vector << u64x16::splat(by as u64)
+    }
+
+    #[inline(always)]
+    fn and(vector: u64x16, other: u64x16) -> u64x16 {
+        vector & other
+    }
+
+    #[inline(always)]
+    fn or(vector: u64x16, other: u64x16) -> u64x16 {
+        vector | other
+    }
+
+    #[inline(always)]
+    fn add(vector: u64x16, other: u64x16) -> u64x16 {
+        vector + other
+    }
+
+    #[inline(always)]
+    fn subtract(vector: u64x16, other: u64x16) -> u64x16 {
+        vector - other
+    }
 
     ghost shape = { bits_64 };
 

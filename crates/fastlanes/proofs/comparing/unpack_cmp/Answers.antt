@@ -1,0 +1,8 @@
+use Rattle.std.proofs.Common.{sym}
+use Rattle.fastlanes.proofs.ByteBits.{bit_kept}
+use Rattle.fastlanes.proofs.comparing.unpack_cmp.Goals as goal
+
+pub returns-clause-bits : goal.returns-clause-bits
+returns-clause-bits g c r l p q =
+    rw (sym (bit_kept g.W.FastLanes.T g.W.FastLanes.LANES c.compare_block.new.bytes c.words_of_bytes.new.words l r g.met.W.FastLanes.shape c.bytes_fit.ensures p q c.words_of_bytes.ensures.words))
+    (c.compare_block.ensures.set r l p q)

@@ -1,0 +1,19 @@
+use Rattle.std.proofs.Common.{◌+◌, ◌*◌, ◌∙◌, sym}
+use Rattle.fastlanes.specs.Layout.{pattern_at}
+use Rattle.fastlanes.specs.Delta.{item_delta}
+use Rattle.fastlanes.proofs.Fillings.{row_filled, item_here}
+use Rattle.fastlanes.proofs.DeltaRows.{before_more, delta_here}
+use Rattle.fastlanes.proofs.deltas.delta_row.Goals as goal
+
+pub returns-clause-before : goal.returns-clause-before
+returns-clause-before g c j h =
+    c.load-row.ensures.lanes j h ∙ (item_here (pattern_at g.W.FastLanes.pattern c.args.items.now) c.args.r c.args.g j _ c.pos-at.ensures
+    ∙ sym (before_more (pattern_at g.W.FastLanes.pattern c.args.bases.now) (pattern_at g.W.FastLanes.pattern c.args.items.now) c.args.r (16 * c.args.g + j)))
+
+pub returns-clause-filled : goal.returns-clause-filled
+returns-clause-filled g c =
+    row_filled g.W.FastLanes.T g.W.FastLanes.LANES (item_delta g.W.FastLanes.T (pattern_at g.W.FastLanes.pattern c.args.bases.now) (pattern_at g.W.FastLanes.pattern c.args.items.now)) c.args.g c.args.r _
+    (pattern_at g.W.FastLanes.pattern c.args.deltas.now) (pattern_at g.W.FastLanes.pattern c.store.new.words) (g.W.FastLanes.lane c.subtract.result)
+    g.met.W.FastLanes.shape c.requires.row c.requires.group c.pos-at.ensures c.store.ensures.lanes c.store.ensures.others
+    (λ j h. delta_here g.W.FastLanes.T (pattern_at g.W.FastLanes.pattern c.args.bases.now) (pattern_at g.W.FastLanes.pattern c.args.items.now) c.args.r c.args.g j _ _ _ _
+    c.pos-at.ensures (c.load-row.ensures.lanes j h) (c.requires.before j h) (c.subtract.ensures.lanes j h))

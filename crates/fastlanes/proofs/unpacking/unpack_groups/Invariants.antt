@@ -1,0 +1,10 @@
+use Rattle.std.proofs.Common.{◌≡◌, ℕ, ◌*◌, ◌<◌, length}
+use Rattle.fastlanes.specs.Layout.{place, pattern_at}
+use Rattle.fastlanes.specs.Filled.{sum_of}
+use Rattle.fastlanes.proofs.unpacking.unpack_groups.Given as goal
+
+abbrev pub invariant-loop-g : goal.invariant-loop-g
+invariant-loop-g g l = record {
+  filled : (s m : ℕ) → s < g.W.FastLanes.T → m < 16 * l.g → pattern_at g.W.FastLanes.pattern l.items (place s m) ≡ sum_of g.W.FastLanes.T g.W.FastLanes.LANES g.row.WIDTH (pattern_at g.W.FastLanes.pattern l.words) (g.W.FastLanes.lane l.reference) s m;
+  whole : length l.items ≡ 1024;
+}

@@ -1,0 +1,385 @@
+//! Comparing the items of a packed block, sixteen lanes at a time.
+#![tactic(auto)]
+
+ghost use Rattle.std.specs.Prelude.{◌≡◌, ℕ, ◌+◌, ◌-◌, ◌*◌, ◌/◌, ◌%◌, ◌^◌, ◌<◌, ◌≤◌, min, length, slice_index};
+ghost use Rattle.fastlanes.specs.Layout.{place, pattern_at, word_at, bit_value};
+ghost use Rattle.fastlanes.specs.Filled.{item_of};
+ghost use Rattle.fastlanes.specs.Compared.{is_set, has_bit, IsAnswer, Answers};
+
+use crate::counts::Work;
+use crate::unpacking::items_of_row;
+use crate::widths::{at_width, bits, lanes};
+use crate::words::FastLanes;
+
+/// Sets bit `r` of each word whose item compares so with `rhs`, and no other.
+#[inline(always)]
+#[tactic(auto, using(crate::proofs::ComparedBits::zero_below), unfolding(crate::specs::Compared::IsAnswer))]
+fn compare_lanes<W: FastLanes, F: Fn(W, W) -> bool>(
+    row: W::Vector,
+    cmp: &F,
+    rhs: W,
+    r: usize,
+) -> W::Vector
+    requires whole { W.whole row }
+    requires row { r < W.T }
+    requires callable { F.IsAlwaysCallable cmp.now }
+    ensures whole { W.whole result }
+    ensures one { (j : ℕ) → j < 16 → W.lane result j ≡ bit_value (is_set (W.lane result j) r) * 2 ^ r }
+    ensures set { (j : ℕ) → j < 16 → IsAnswer W.pattern (F.post cmp.now) rhs (W.lane row j) (is_set (W.lane result j) r) }
+{
+    W::in_memory();
+    let mut words = W::to_words(row);
+    for j in 0..16usize {
+        words[j] = W::zero().with_bit(r, cmp(words[j], rhs));
+    }
+    W::load(&words, 0)
+}
+
+/// Adds the answers for row `r` of the lanes of group `g` to those for the rows below.
+#[inline(always)]
+fn compare_row<W: FastLanes, F: Fn(W, W) -> bool>(
+    width: usize,
+    words: &[W],
+    cmp: &F,
+    rhs: W,
+    r: usize,
+    g: usize,
+    held: W::Vector,
+) -> W::Vector
+    requires width { width ≤ W.T }
+    requires block { length words.now ≡ width * W.LANES }
+    requires row { r < W.T }
+    requires group { 16 * g + 16 ≤ W.LANES }
+    requires callable { F.IsAlwaysCallable cmp.now }
+    requires whole { W.whole held }
+    requires held { Answers W.pattern (F.post cmp.now) rhs (item_of W.T W.LANES width (pattern_at W.pattern words.now)) g r (W.lane held) }
+    ensures whole { W.whole result }
+    ensures held { Answers W.pattern (F.post cmp.now) rhs (item_of W.T W.LANES width (pattern_at W.pattern words.now)) g (r + 1) (W.lane result) }
+{
+    let row = items_of_row(width, words, r, g);
+    W::or(held, compare_lanes(row, cmp, rhs, r))
+}
+
+/// Adds the answers for the eight rows from `r` on of the lanes of group `g` to those for the rows below.
+#[inline(always)]
+fn compare_8<W: FastLanes, F: Fn(W, W) -> bool>(
+    width: usize,
+    words: &[W],
+    cmp: &F,
+    rhs: W,
+    r: usize,
+    g: usize,
+    held: W::Vector,
+) -> W::Vector
+    requires width { width ≤ W.T }
+    requires block { length words.now ≡ width * W.LANES }
+    requires row { r + 8 ≤ W.T }
+    requires group { 16 * g + 16 ≤ W.LANES }
+    requires callable { F.IsAlwaysCallable cmp.now }
+    requires whole { W.whole held }
+    requires held { Answers W.pattern (F.post cmp.now) rhs (item_of W.T W.LANES width (pattern_at W.pattern words.now)) g r (W.lane held) }
+    ensures whole { W.whole result }
+    ensures held { Answers W.pattern (F.post cmp.now) rhs (item_of W.T W.LANES width (pattern_at W.pattern words.now)) g (r + 8) (W.lane result) }
+{
+    let held = compare_row(width, words, cmp, rhs, r, g, held);
+    let held = compare_row(width, words, cmp, rhs, r + 1, g, held);
+    let held = compare_row(width, words, cmp, rhs, r + 2, g, held);
+    let held = compare_row(width, words, cmp, rhs, r + 3, g, held);
+    let held = compare_row(width, words, cmp, rhs, r + 4, g, held);
+    let held = compare_row(width, words, cmp, rhs, r + 5, g, held);
+    let held = compare_row(width, words, cmp, rhs, r + 6, g, held);
+    compare_row(width, words, cmp, rhs, r + 7, g, held)
+}
+
+/// The answers for the 16 rows of the lanes of group `g`.
+fn compare_16<W: FastLanes, F: Fn(W, W) -> bool, const WIDTH: usize>(
+    words: &[W],
+    cmp: &F,
+    rhs: W,
+    g: usize,
+    held: W::Vector,
+) -> W::Vector
+    requires width { WIDTH ≤ W.T }
+    requires block { length words.now ≡ WIDTH * W.LANES }
+    requires row { 16 ≤ W.T }
+    requires group { 16 * g + 16 ≤ W.LANES }
+    requires callable { F.IsAlwaysCallable cmp.now }
+    requires whole { W.whole held }
+    requires held { Answers W.pattern (F.post cmp.now) rhs (item_of W.T W.LANES WIDTH (pattern_at W.pattern words.now)) g 0 (W.lane held) }
+    ensures whole { W.whole result }
+    ensures held { Answers W.pattern (F.post cmp.now) rhs (item_of W.T W.LANES WIDTH (pattern_at W.pattern words.now)) g 16 (W.lane result) }
+{
+    let held = compare_8(WIDTH, words, cmp, rhs, 0, g, held);
+    compare_8(WIDTH, words, cmp, rhs, 8, g, held)
+}
+
+/// The answers for the 32 rows of the lanes of group `g`.
+fn compare_32<W: FastLanes, F: Fn(W, W) -> bool, const WIDTH: usize>(
+    words: &[W],
+    cmp: &F,
+    rhs: W,
+    g: usize,
+    held: W::Vector,
+) -> W::Vector
+    requires width { WIDTH ≤ W.T }
+    requires block { length words.now ≡ WIDTH * W.LANES }
+    requires row { 32 ≤ W.T }
+    requires group { 16 * g + 16 ≤ W.LANES }
+    requires callable { F.IsAlwaysCallable cmp.now }
+    requires whole { W.whole held }
+    requires held { Answers W.pattern (F.post cmp.now) rhs (item_of W.T W.LANES WIDTH (pattern_at W.pattern words.now)) g 0 (W.lane held) }
+    ensures whole { W.whole result }
+    ensures held { Answers W.pattern (F.post cmp.now) rhs (item_of W.T W.LANES WIDTH (pattern_at W.pattern words.now)) g 32 (W.lane result) }
+{
+    let held = compare_8(WIDTH, words, cmp, rhs, 0, g, held);
+    let held = compare_8(WIDTH, words, cmp, rhs, 8, g, held);
+    let held = compare_8(WIDTH, words, cmp, rhs, 16, g, held);
+    compare_8(WIDTH, words, cmp, rhs, 24, g, held)
+}
+
+/// The answers for the 64 rows of the lanes of group `g`.
+fn compare_64<W: FastLanes, F: Fn(W, W) -> bool, const WIDTH: usize>(
+    words: &[W],
+    cmp: &F,
+    rhs: W,
+    g: usize,
+    held: W::Vector,
+) -> W::Vector
+    requires width { WIDTH ≤ W.T }
+    requires block { length words.now ≡ WIDTH * W.LANES }
+    requires row { 64 ≤ W.T }
+    requires group { 16 * g + 16 ≤ W.LANES }
+    requires callable { F.IsAlwaysCallable cmp.now }
+    requires whole { W.whole held }
+    requires held { Answers W.pattern (F.post cmp.now) rhs (item_of W.T W.LANES WIDTH (pattern_at W.pattern words.now)) g 0 (W.lane held) }
+    ensures whole { W.whole result }
+    ensures held { Answers W.pattern (F.post cmp.now) rhs (item_of W.T W.LANES WIDTH (pattern_at W.pattern words.now)) g 64 (W.lane result) }
+{
+    let held = compare_8(WIDTH, words, cmp, rhs, 0, g, held);
+    let held = compare_8(WIDTH, words, cmp, rhs, 8, g, held);
+    let held = compare_8(WIDTH, words, cmp, rhs, 16, g, held);
+    let held = compare_8(WIDTH, words, cmp, rhs, 24, g, held);
+    let held = compare_8(WIDTH, words, cmp, rhs, 32, g, held);
+    let held = compare_8(WIDTH, words, cmp, rhs, 40, g, held);
+    let held = compare_8(WIDTH, words, cmp, rhs, 48, g, held);
+    compare_8(WIDTH, words, cmp, rhs, 56, g, held)
+}
+
+/// No answer yet.
+#[inline(always)]
+fn none_held<W: FastLanes>() -> W::Vector
+    ensures whole { W.whole result }
+    ensures lanes { (j : ℕ) → j < 16 → W.lane result j ≡ 0 }
+{
+    W::splat(W::zero())
+}
+
+/// The answers for all rows of the lanes of group `g`.
+#[inline(always)]
+#[tactic(auto, using(crate::proofs::ComparedBits::answers_none))]
+fn compare_group<W: FastLanes, F: Fn(W, W) -> bool, const WIDTH: usize>(
+    words: &[W],
+    cmp: &F,
+    rhs: W,
+    g: usize,
+) -> W::Vector
+    requires width { WIDTH ≤ W.T }
+    requires block { length words.now ≡ WIDTH * W.LANES }
+    requires group { 16 * g + 16 ≤ W.LANES }
+    requires callable { F.IsAlwaysCallable cmp.now }
+    ensures whole { W.whole result }
+    ensures held { Answers W.pattern (F.post cmp.now) rhs (item_of W.T W.LANES WIDTH (pattern_at W.pattern words.now)) g W.T (W.lane result) }
+{
+    let held = none_held::<W>();
+    let t = bits::<W>();
+    if t == 8 {
+        compare_8(WIDTH, words, cmp, rhs, 0, g, held)
+    } else if t == 16 {
+        compare_16::<W, F, WIDTH>(words, cmp, rhs, g, held)
+    } else if t == 32 {
+        compare_32::<W, F, WIDTH>(words, cmp, rhs, g, held)
+    } else {
+        compare_64::<W, F, WIDTH>(words, cmp, rhs, g, held)
+    }
+}
+
+/// Writes the words of the lanes of group `g`, the low byte first.
+#[inline(always)]
+#[tactic(auto, using(crate::proofs::Patterns::pattern_at_read, crate::proofs::Streams::word_in_bytes))]
+fn put_group<W: FastLanes>(held: W::Vector, g: usize, bytes: &mut [u8; 128])
+    requires whole { W.whole held }
+    requires group { 16 * g + 16 ≤ W.LANES }
+    ensures put { (j : ℕ) → j < 16 → word_at W.T bytes.new (16 * g + j) ≡ W.lane held j }
+    ensures others { (k : ℕ) → k < 16 * g → word_at W.T bytes.new k ≡ word_at W.T bytes.old k }
+    ensures whole { length bytes.new ≡ 128 }
+{
+    W::in_memory();
+    let words = W::to_words(held);
+    for j in 0..16usize {
+        words[j].put_word(bytes, 16 * g + j);
+    }
+}
+
+/// Sets bit `r` of word `l` of these bytes where the item at row `r` of lane `l` compares so with `rhs`.
+fn compare_groups<W: FastLanes, F: Fn(W, W) -> bool, const WIDTH: usize>(
+    words: &[W],
+    cmp: &F,
+    rhs: W,
+    bytes: &mut [u8; 128],
+)
+    requires width { WIDTH ≤ W.T }
+    requires block { length words.now ≡ WIDTH * W.LANES }
+    requires callable { F.IsAlwaysCallable cmp.now }
+    ensures set { (r l : ℕ) → r < W.T → l < W.LANES → IsAnswer W.pattern (F.post cmp.now) rhs (item_of W.T W.LANES WIDTH (pattern_at W.pattern words.now) r l) (is_set (word_at W.T bytes.new l) r) }
+    ensures whole { length bytes.new ≡ 128 }
+{
+    for g in 0..lanes::<W>() / 16 {
+        put_group::<W>(compare_group::<W, F, WIDTH>(words, cmp, rhs, g), g, bytes);
+    }
+}
+
+/// Compares at a width of at most 8 bits.
+fn compare_to_8<W: FastLanes, F: Fn(W, W) -> bool>(
+    width: usize,
+    words: &[W],
+    cmp: &F,
+    rhs: W,
+    bytes: &mut [u8; 128],
+)
+    requires most { width ≤ 8 }
+    requires width { width ≤ W.T }
+    requires block { length words.now ≡ width * W.LANES }
+    requires callable { F.IsAlwaysCallable cmp.now }
+    ensures set { (r l : ℕ) → r < W.T → l < W.LANES → IsAnswer W.pattern (F.post cmp.now) rhs (item_of W.T W.LANES width (pattern_at W.pattern words.now) r l) (is_set (word_at W.T bytes.new l) r) }
+    ensures whole { length bytes.new ≡ 128 }
+{
+    at_width!(width, [0 1 2 3 4 5 6 7], 8, compare_groups, F, (words, cmp, rhs, bytes))
+}
+
+/// Compares at a width of 9 to 16 bits.
+fn compare_to_16<W: FastLanes, F: Fn(W, W) -> bool>(
+    width: usize,
+    words: &[W],
+    cmp: &F,
+    rhs: W,
+    bytes: &mut [u8; 128],
+)
+    requires above { 8 < width }
+    requires most { width ≤ 16 }
+    requires width { width ≤ W.T }
+    requires block { length words.now ≡ width * W.LANES }
+    requires callable { F.IsAlwaysCallable cmp.now }
+    ensures set { (r l : ℕ) → r < W.T → l < W.LANES → IsAnswer W.pattern (F.post cmp.now) rhs (item_of W.T W.LANES width (pattern_at W.pattern words.now) r l) (is_set (word_at W.T bytes.new l) r) }
+    ensures whole { length bytes.new ≡ 128 }
+{
+    at_width!(width, [9 10 11 12 13 14 15], 16, compare_groups, F, (words, cmp, rhs, bytes))
+}
+
+/// Compares at a width of 17 to 32 bits.
+fn compare_to_32<W: FastLanes, F: Fn(W, W) -> bool>(
+    width: usize,
+    words: &[W],
+    cmp: &F,
+    rhs: W,
+    bytes: &mut [u8; 128],
+)
+    requires above { 16 < width }
+    requires most { width ≤ 32 }
+    requires width { width ≤ W.T }
+    requires block { length words.now ≡ width * W.LANES }
+    requires callable { F.IsAlwaysCallable cmp.now }
+    ensures set { (r l : ℕ) → r < W.T → l < W.LANES → IsAnswer W.pattern (F.post cmp.now) rhs (item_of W.T W.LANES width (pattern_at W.pattern words.now) r l) (is_set (word_at W.T bytes.new l) r) }
+    ensures whole { length bytes.new ≡ 128 }
+{
+    at_width!(width, [17 18 19 20 21 22 23 24 25 26 27 28 29 30 31], 32, compare_groups, F, (words, cmp, rhs, bytes))
+}
+
+/// Compares at a width of 33 to 64 bits.
+fn compare_to_64<W: FastLanes, F: Fn(W, W) -> bool>(
+    width: usize,
+    words: &[W],
+    cmp: &F,
+    rhs: W,
+    bytes: &mut [u8; 128],
+)
+    requires above { 32 < width }
+    requires most { width ≤ 64 }
+    requires width { width ≤ W.T }
+    requires block { length words.now ≡ width * W.LANES }
+    requires callable { F.IsAlwaysCallable cmp.now }
+    ensures set { (r l : ℕ) → r < W.T → l < W.LANES → IsAnswer W.pattern (F.post cmp.now) rhs (item_of W.T W.LANES width (pattern_at W.pattern words.now) r l) (is_set (word_at W.T bytes.new l) r) }
+    ensures whole { length bytes.new ≡ 128 }
+{
+    at_width!(width, [33 34 35 36 37 38 39 40 41 42 43 44 45 46 47 48 49 50 51 52 53 54 55 56 57 58 59 60 61 62 63], 64, compare_groups, F, (words, cmp, rhs, bytes))
+}
+
+/// The same at any width.
+fn compare_block<W: FastLanes, F: Fn(W, W) -> bool>(
+    width: usize,
+    words: &[W],
+    cmp: &F,
+    rhs: W,
+    bytes: &mut [u8; 128],
+)
+    requires width { width ≤ W.T }
+    requires block { length words.now ≡ width * W.LANES }
+    requires callable { F.IsAlwaysCallable cmp.now }
+    ensures set { (r l : ℕ) → r < W.T → l < W.LANES → IsAnswer W.pattern (F.post cmp.now) rhs (item_of W.T W.LANES width (pattern_at W.pattern words.now) r l) (is_set (word_at W.T bytes.new l) r) }
+    ensures whole { length bytes.new ≡ 128 }
+{
+    let t = bits::<W>();
+    if t == 8 || width <= 8 {
+        compare_to_8(width, words, cmp, rhs, bytes);
+    } else if t == 16 || width <= 16 {
+        compare_to_16(width, words, cmp, rhs, bytes);
+    } else if t == 32 || width <= 32 {
+        compare_to_32(width, words, cmp, rhs, bytes);
+    } else {
+        compare_to_64(width, words, cmp, rhs, bytes);
+    }
+}
+
+/// A byte is below 256.
+#[inline(always)]
+pub(crate) fn bytes_fit(bytes: &[u8])
+    ensures { (i : ℕ) → slice_index bytes.now i < 256 }
+{
+    let _count = bytes.len();
+}
+
+/// The bytes as words of 64 bits, the low byte first.
+#[inline(always)]
+fn words_of_bytes(bytes: &[u8; 128], words: &mut [u64; 16])
+    ensures words { (k : ℕ) → k < 16 → slice_index words.new k ≡ word_at 64 bytes.now k }
+    ensures whole { length words.new ≡ 16 }
+{
+    for k in 0..16usize {
+        words[k] = u64::word(bytes, k);
+    }
+}
+
+/// Compares each item of a packed block with `rhs`: bit `l * T + r` becomes the answer for the item at row `r` of lane `l`.
+///
+/// `transpose_bits` brings the bits into the order of the items.
+pub fn unpack_cmp<W: FastLanes, F: Fn(W, W) -> bool + Drop>(
+    width: usize,
+    words: &[W],
+    bits: &mut [u64; 16],
+    cmp: F,
+    rhs: W,
+    work: &mut Work,
+)
+    requires width { width ≤ W.T }
+    requires block { length words.now ≡ width * W.LANES }
+    requires callable { F.IsAlwaysCallable cmp }
+    ensures bits { (r l : ℕ) → r < W.T → l < W.LANES → IsAnswer W.pattern (F.post cmp) rhs (item_of W.T W.LANES width (pattern_at W.pattern words.now) r l) (has_bit bits.new (l * W.T + r)) }
+    ensures whole { length bits.new ≡ 16 }
+    ensures blocks { work.new.blocks ≡ min (work.old.blocks + 1) u64.MAX }
+    ensures words { work.new.words ≡ work.old.words }
+{
+    work.add_block();
+    let mut bytes = [0u8; 128];
+    compare_block(width, words, &cmp, rhs, &mut bytes);
+    bytes_fit(&bytes);
+    words_of_bytes(&bytes, bits);
+}

@@ -1,0 +1,199 @@
+//! Differences along rows, and their sums, sixteen lanes at a time.
+#![tactic(auto)]
+
+ghost use Rattle.std.specs.Prelude.{◌≡◌, ℕ, ◌+◌, ◌*◌, ◌/◌, ◌%◌, ◌^◌, ◌<◌, ◌≤◌, length};
+ghost use Rattle.fastlanes.specs.Layout.{place, pattern_at};
+ghost use Rattle.fastlanes.specs.Delta.{item_before, item_delta, summed_before, summed_item};
+ghost use Rattle.fastlanes.specs.Filled.{Filled};
+
+use crate::layout::{FL_CHUNK_SIZE, pos};
+use crate::widths::{bits, lanes};
+use crate::words::FastLanes;
+
+/// Writes the deltas at row `r` of the lanes of group `g`, and gives the row's items.
+#[inline(always)]
+#[tactic(auto, using(crate::proofs::RowBits::row_room))]
+fn delta_row<W: FastLanes>(
+    items: &[W; FL_CHUNK_SIZE],
+    bases: &[W],
+    before: W::Vector,
+    r: usize,
+    g: usize,
+    deltas: &mut [W; FL_CHUNK_SIZE],
+) -> W::Vector
+    requires row { r < W.T }
+    requires group { 16 * g + 16 ≤ W.LANES }
+    requires whole { W.whole before }
+    requires before { (j : ℕ) → j < 16 → W.lane before j ≡ item_before (pattern_at W.pattern bases.now) (pattern_at W.pattern items.now) r (16 * g + j) }
+    ensures vector { W.whole result }
+    ensures before { (j : ℕ) → j < 16 → W.lane result j ≡ item_before (pattern_at W.pattern bases.now) (pattern_at W.pattern items.now) (r + 1) (16 * g + j) }
+    ensures filled { Filled W.T W.LANES place (item_delta W.T (pattern_at W.pattern bases.now) (pattern_at W.pattern items.now)) g r (r + 1) (pattern_at W.pattern deltas.old) (pattern_at W.pattern deltas.new) }
+    ensures whole { length deltas.new ≡ 1024 }
+{
+    let at = pos(r, 16 * g);
+    let row = W::load(items, at);
+    W::store(W::subtract(row, before), deltas, at);
+    row
+}
+
+/// Writes the deltas at the eight rows from `r` on of the lanes of group `g`, and gives the last row's items.
+#[inline(always)]
+fn delta_8<W: FastLanes>(
+    items: &[W; FL_CHUNK_SIZE],
+    bases: &[W],
+    before: W::Vector,
+    r: usize,
+    g: usize,
+    deltas: &mut [W; FL_CHUNK_SIZE],
+) -> W::Vector
+    requires row { r + 8 ≤ W.T }
+    requires group { 16 * g + 16 ≤ W.LANES }
+    requires whole { W.whole before }
+    requires before { (j : ℕ) → j < 16 → W.lane before j ≡ item_before (pattern_at W.pattern bases.now) (pattern_at W.pattern items.now) r (16 * g + j) }
+    ensures vector { W.whole result }
+    ensures before { (j : ℕ) → j < 16 → W.lane result j ≡ item_before (pattern_at W.pattern bases.now) (pattern_at W.pattern items.now) (r + 8) (16 * g + j) }
+    ensures filled { Filled W.T W.LANES place (item_delta W.T (pattern_at W.pattern bases.now) (pattern_at W.pattern items.now)) g r (r + 8) (pattern_at W.pattern deltas.old) (pattern_at W.pattern deltas.new) }
+    ensures whole { length deltas.new ≡ 1024 }
+{
+    let before = delta_row(items, bases, before, r, g, deltas);
+    let before = delta_row(items, bases, before, r + 1, g, deltas);
+    let before = delta_row(items, bases, before, r + 2, g, deltas);
+    let before = delta_row(items, bases, before, r + 3, g, deltas);
+    let before = delta_row(items, bases, before, r + 4, g, deltas);
+    let before = delta_row(items, bases, before, r + 5, g, deltas);
+    let before = delta_row(items, bases, before, r + 6, g, deltas);
+    delta_row(items, bases, before, r + 7, g, deltas)
+}
+
+/// The bases of the lanes of group `g`.
+#[inline(always)]
+fn bases_of<W: FastLanes>(bases: &[W], g: usize) -> W::Vector
+    requires bases { length bases.now ≡ W.LANES }
+    requires group { 16 * g + 16 ≤ W.LANES }
+    ensures whole { W.whole result }
+    ensures lanes { (j : ℕ) → j < 16 → W.lane result j ≡ pattern_at W.pattern bases.now (16 * g + j) }
+    ensures small { (j : ℕ) → j < 16 → W.lane result j < 2 ^ W.T }
+{
+    W::load(bases, 16 * g)
+}
+
+/// Writes the deltas of the lanes of group `g`.
+#[inline(always)]
+#[tactic(auto, using(crate::proofs::Fillings::whole_eights))]
+fn delta_group<W: FastLanes>(
+    items: &[W; FL_CHUNK_SIZE],
+    bases: &[W],
+    g: usize,
+    deltas: &mut [W; FL_CHUNK_SIZE],
+)
+    requires bases { length bases.now ≡ W.LANES }
+    requires group { 16 * g + 16 ≤ W.LANES }
+    ensures filled { Filled W.T W.LANES place (item_delta W.T (pattern_at W.pattern bases.now) (pattern_at W.pattern items.now)) g 0 W.T (pattern_at W.pattern deltas.old) (pattern_at W.pattern deltas.new) }
+    ensures whole { length deltas.new ≡ 1024 }
+{
+    let mut before = bases_of(bases, g);
+    for q in 0..bits::<W>() / 8 {
+        before = delta_8(items, bases, before, 8 * q, g, deltas);
+    }
+}
+
+/// The deltas of a block's items: row 0 minus the bases, each further row minus the one before.
+pub fn delta<W: FastLanes>(items: &[W; FL_CHUNK_SIZE], bases: &[W], deltas: &mut [W; FL_CHUNK_SIZE])
+    requires { length bases.now ≡ W.LANES }
+    ensures deltas { (r l : ℕ) → r < W.T → l < W.LANES → pattern_at W.pattern deltas.new (place r l) ≡ item_delta W.T (pattern_at W.pattern bases.now) (pattern_at W.pattern items.now) r l }
+    ensures whole { length deltas.new ≡ 1024 }
+{
+    for g in 0..lanes::<W>() / 16 {
+        delta_group(items, bases, g, deltas);
+    }
+}
+
+/// Adds the deltas at row `r` of the lanes of group `g` to the sums, writes them and gives them.
+#[inline(always)]
+#[tactic(auto, using(crate::proofs::RowBits::row_room))]
+fn undelta_row<W: FastLanes>(
+    deltas: &[W; FL_CHUNK_SIZE],
+    bases: &[W],
+    sums: W::Vector,
+    r: usize,
+    g: usize,
+    items: &mut [W; FL_CHUNK_SIZE],
+) -> W::Vector
+    requires row { r < W.T }
+    requires group { 16 * g + 16 ≤ W.LANES }
+    requires whole { W.whole sums }
+    requires sums { (j : ℕ) → j < 16 → W.lane sums j ≡ summed_before W.T (pattern_at W.pattern bases.now) (pattern_at W.pattern deltas.now) r (16 * g + j) }
+    ensures vector { W.whole result }
+    ensures sums { (j : ℕ) → j < 16 → W.lane result j ≡ summed_before W.T (pattern_at W.pattern bases.now) (pattern_at W.pattern deltas.now) (r + 1) (16 * g + j) }
+    ensures filled { Filled W.T W.LANES place (summed_item W.T (pattern_at W.pattern bases.now) (pattern_at W.pattern deltas.now)) g r (r + 1) (pattern_at W.pattern items.old) (pattern_at W.pattern items.new) }
+    ensures whole { length items.new ≡ 1024 }
+{
+    let at = pos(r, 16 * g);
+    let row = W::add(sums, W::load(deltas, at));
+    W::store(row, items, at);
+    row
+}
+
+/// Writes the items at the eight rows from `r` on of the lanes of group `g`, and gives the last of them.
+#[inline(always)]
+fn undelta_8<W: FastLanes>(
+    deltas: &[W; FL_CHUNK_SIZE],
+    bases: &[W],
+    sums: W::Vector,
+    r: usize,
+    g: usize,
+    items: &mut [W; FL_CHUNK_SIZE],
+) -> W::Vector
+    requires row { r + 8 ≤ W.T }
+    requires group { 16 * g + 16 ≤ W.LANES }
+    requires whole { W.whole sums }
+    requires sums { (j : ℕ) → j < 16 → W.lane sums j ≡ summed_before W.T (pattern_at W.pattern bases.now) (pattern_at W.pattern deltas.now) r (16 * g + j) }
+    ensures vector { W.whole result }
+    ensures sums { (j : ℕ) → j < 16 → W.lane result j ≡ summed_before W.T (pattern_at W.pattern bases.now) (pattern_at W.pattern deltas.now) (r + 8) (16 * g + j) }
+    ensures filled { Filled W.T W.LANES place (summed_item W.T (pattern_at W.pattern bases.now) (pattern_at W.pattern deltas.now)) g r (r + 8) (pattern_at W.pattern items.old) (pattern_at W.pattern items.new) }
+    ensures whole { length items.new ≡ 1024 }
+{
+    let sums = undelta_row(deltas, bases, sums, r, g, items);
+    let sums = undelta_row(deltas, bases, sums, r + 1, g, items);
+    let sums = undelta_row(deltas, bases, sums, r + 2, g, items);
+    let sums = undelta_row(deltas, bases, sums, r + 3, g, items);
+    let sums = undelta_row(deltas, bases, sums, r + 4, g, items);
+    let sums = undelta_row(deltas, bases, sums, r + 5, g, items);
+    let sums = undelta_row(deltas, bases, sums, r + 6, g, items);
+    undelta_row(deltas, bases, sums, r + 7, g, items)
+}
+
+/// Writes the items of the lanes of group `g`.
+#[inline(always)]
+#[tactic(auto, using(crate::proofs::Fillings::whole_eights))]
+fn undelta_group<W: FastLanes>(
+    deltas: &[W; FL_CHUNK_SIZE],
+    bases: &[W],
+    g: usize,
+    items: &mut [W; FL_CHUNK_SIZE],
+)
+    requires bases { length bases.now ≡ W.LANES }
+    requires group { 16 * g + 16 ≤ W.LANES }
+    ensures filled { Filled W.T W.LANES place (summed_item W.T (pattern_at W.pattern bases.now) (pattern_at W.pattern deltas.now)) g 0 W.T (pattern_at W.pattern items.old) (pattern_at W.pattern items.new) }
+    ensures whole { length items.new ≡ 1024 }
+{
+    let mut sums = bases_of(bases, g);
+    for q in 0..bits::<W>() / 8 {
+        sums = undelta_8(deltas, bases, sums, 8 * q, g, items);
+    }
+}
+
+/// The items of a block's deltas: the base and the deltas of each row up to theirs, modulo 2 to the number of bits.
+pub fn undelta<W: FastLanes>(
+    deltas: &[W; FL_CHUNK_SIZE],
+    bases: &[W],
+    items: &mut [W; FL_CHUNK_SIZE],
+)
+    requires { length bases.now ≡ W.LANES }
+    ensures items { (r l : ℕ) → r < W.T → l < W.LANES → pattern_at W.pattern items.new (place r l) ≡ summed_item W.T (pattern_at W.pattern bases.now) (pattern_at W.pattern deltas.now) r l }
+    ensures whole { length items.new ≡ 1024 }
+{
+    for g in 0..lanes::<W>() / 16 {
+        undelta_group(deltas, bases, g, items);
+    }
+}

@@ -1,0 +1,35 @@
+//! What the kernels on delta blocks and on runs rest on: each law is the contract of a small function.
+#![tactic(auto)]
+
+ghost use Rattle.std.specs.Prelude.{◌≡◌, ℕ, ◌+◌, ◌^◌, ◌<◌, ◌≤◌};
+ghost use Rattle.fastlanes.specs.Layout.{place};
+ghost use Rattle.fastlanes.specs.Delta.{Transposed, item_delta, summed_item};
+ghost use Rattle.fastlanes.specs.Runs.{changes};
+
+use crate::words::FastLanes;
+
+/// What is stored determines the items, and the items determine what is stored.
+pub fn one_transposition<W: FastLanes>()
+    ensures items { (item other stored : ℕ → ℕ) → Transposed W.T W.LANES item stored → Transposed W.T W.LANES other stored → (i : ℕ) → i < 1024 → item i ≡ other i }
+    ensures stored { (item stored other : ℕ → ℕ) → Transposed W.T W.LANES item stored → Transposed W.T W.LANES item other → (i : ℕ) → i < 1024 → stored i ≡ other i }
+{}
+
+/// Differences sum to the items, and sums differ by the deltas, whatever the bases.
+pub fn sums_and_differences<W: FastLanes>()
+    ensures sums { (base item delta : ℕ → ℕ) → ((m : ℕ) → m < W.LANES → base m < 2 ^ W.T)
+        → ((s m : ℕ) → s < W.T → m < W.LANES → item (place s m) < 2 ^ W.T)
+        → ((s m : ℕ) → s < W.T → m < W.LANES → delta (place s m) ≡ item_delta W.T base item s m)
+        → (r l : ℕ) → r < W.T → l < W.LANES → summed_item W.T base delta r l ≡ item (place r l) }
+    ensures differences { (base item delta : ℕ → ℕ) → ((m : ℕ) → m < W.LANES → base m < 2 ^ W.T)
+        → ((s m : ℕ) → s < W.T → m < W.LANES → delta (place s m) < 2 ^ W.T)
+        → ((s m : ℕ) → s < W.T → m < W.LANES → item (place s m) ≡ summed_item W.T base delta s m)
+        → (r l : ℕ) → r < W.T → l < W.LANES → item_delta W.T base item r l ≡ delta (place r l) }
+{}
+
+/// Positions of one run hold one item, and runs begin with 0 and grow by at most 1.
+pub fn runs_hold_one_item()
+    ensures same { (item : ℕ → ℕ) (q p : ℕ) → q ≤ p → changes item q ≡ changes item p → item q ≡ item p }
+    ensures first { (item : ℕ → ℕ) → changes item 0 ≡ 0 }
+    ensures steps { (item : ℕ → ℕ) (q : ℕ) → changes item (q + 1) ≤ changes item q + 1 }
+    ensures grows { (item : ℕ → ℕ) (q p : ℕ) → q ≤ p → changes item q ≤ changes item p }
+{}

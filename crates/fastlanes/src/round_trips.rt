@@ -1,0 +1,89 @@
+//! What was encoded is decoded to itself.
+#![tactic(auto)]
+
+ghost use Rattle.std.specs.Prelude.{◌≡◌, ℕ, ◌^◌, ◌<◌, length};
+ghost use Rattle.fastlanes.specs.Layout.{pattern_at};
+
+use crate::deltas::{delta, undelta};
+use crate::layout::FL_CHUNK_SIZE;
+use crate::runs::{rle_decode, rle_encode};
+use crate::transposing::{transpose, untranspose};
+use crate::words::FastLanes;
+
+/// The patterns of these words are words' patterns.
+pub fn all_in_range<W: FastLanes>(words: &[W])
+    ensures { (i : ℕ) → i < length words.now → pattern_at W.pattern words.now i < 2 ^ W.T }
+{
+    for i in 0..words.len() {
+        words[i].in_range();
+    }
+}
+
+/// Transposed items are brought back.
+pub fn transpose_and_back<W: FastLanes>(
+    items: &[W; FL_CHUNK_SIZE],
+    stored: &mut [W; FL_CHUNK_SIZE],
+    back: &mut [W; FL_CHUNK_SIZE],
+)
+    ensures { back.new ≡ items.now }
+{
+    transpose(items, stored);
+    untranspose(stored, back);
+}
+
+/// Items that were brought back are transposed again.
+pub fn untranspose_and_back<W: FastLanes>(
+    stored: &[W; FL_CHUNK_SIZE],
+    items: &mut [W; FL_CHUNK_SIZE],
+    back: &mut [W; FL_CHUNK_SIZE],
+)
+    ensures { back.new ≡ stored.now }
+{
+    untranspose(stored, items);
+    transpose(items, back);
+}
+
+/// The deltas of items sum to the items, whatever the bases.
+pub fn delta_and_back<W: FastLanes>(
+    items: &[W; FL_CHUNK_SIZE],
+    bases: &[W],
+    deltas: &mut [W; FL_CHUNK_SIZE],
+    back: &mut [W; FL_CHUNK_SIZE],
+)
+    requires { length bases.now ≡ W.LANES }
+    ensures { back.new ≡ items.now }
+{
+    all_in_range(items);
+    all_in_range(bases);
+    delta(items, bases, deltas);
+    undelta(deltas, bases, back);
+}
+
+/// The sums of deltas differ by the deltas, whatever the bases.
+pub fn undelta_and_back<W: FastLanes>(
+    deltas: &[W; FL_CHUNK_SIZE],
+    bases: &[W],
+    items: &mut [W; FL_CHUNK_SIZE],
+    back: &mut [W; FL_CHUNK_SIZE],
+)
+    requires { length bases.now ≡ W.LANES }
+    ensures { back.new ≡ deltas.now }
+{
+    all_in_range(deltas);
+    all_in_range(bases);
+    undelta(deltas, bases, items);
+    delta(items, bases, back);
+}
+
+/// Run values and indices give the items back.
+pub fn runs_and_back<W: FastLanes>(
+    items: &[W; FL_CHUNK_SIZE],
+    values: &mut [W; FL_CHUNK_SIZE],
+    indices: &mut [u16; FL_CHUNK_SIZE],
+    back: &mut [W; FL_CHUNK_SIZE],
+)
+    ensures { back.new ≡ items.now }
+{
+    let count = rle_encode(items, values, indices);
+    rle_decode(&values[..count], indices, back);
+}

@@ -1,0 +1,10 @@
+mod FieldRows
+mod SchemaSteps
+mod WrittenGroups
+mod WrittenSlots
+mod AnyMessages
+mod WrittenRows
+mod WrittenRead
+mod MessagesAgain
+mod RowsSay
+mod ScalarsAgain
