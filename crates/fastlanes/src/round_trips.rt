@@ -1,8 +1,10 @@
 //! What was encoded is decoded to itself.
 #![tactic(auto)]
 
-ghost use Rattle.std.specs.Prelude.{◌≡◌, ℕ, ◌^◌, ◌<◌, length};
-ghost use Rattle.fastlanes.specs.Layout.{pattern_at};
+ghost use Rattle.std.specs.Prelude.{◌≡◌, ℕ, ◌+◌, ◌^◌, ◌<◌, length, slice_index};
+ghost use Rattle.fastlanes.specs.Layout.{pattern_at, place};
+ghost use Rattle.fastlanes.specs.Delta.{Transposed, item_delta, summed_item};
+ghost use Rattle.fastlanes.specs.Runs.{changes};
 
 use crate::deltas::{delta, undelta};
 use crate::layout::FL_CHUNK_SIZE;
@@ -25,7 +27,8 @@ pub fn transpose_and_back<W: FastLanes>(
     stored: &mut [W; FL_CHUNK_SIZE],
     back: &mut [W; FL_CHUNK_SIZE],
 )
-    ensures { back.new ≡ items.now }
+    ensures stored { Transposed W.T W.LANES (pattern_at W.pattern items.now) (pattern_at W.pattern stored.new) }
+    ensures back { back.new ≡ items.now }
 {
     transpose(items, stored);
     untranspose(stored, back);
@@ -37,7 +40,8 @@ pub fn untranspose_and_back<W: FastLanes>(
     items: &mut [W; FL_CHUNK_SIZE],
     back: &mut [W; FL_CHUNK_SIZE],
 )
-    ensures { back.new ≡ stored.now }
+    ensures items { Transposed W.T W.LANES (pattern_at W.pattern items.new) (pattern_at W.pattern stored.now) }
+    ensures back { back.new ≡ stored.now }
 {
     untranspose(stored, items);
     transpose(items, back);
@@ -51,7 +55,8 @@ pub fn delta_and_back<W: FastLanes>(
     back: &mut [W; FL_CHUNK_SIZE],
 )
     requires { length bases.now ≡ W.LANES }
-    ensures { back.new ≡ items.now }
+    ensures deltas { (r l : ℕ) → r < W.T → l < W.LANES → pattern_at W.pattern deltas.new (place r l) ≡ item_delta W.T (pattern_at W.pattern bases.now) (pattern_at W.pattern items.now) r l }
+    ensures back { back.new ≡ items.now }
 {
     all_in_range(items);
     all_in_range(bases);
@@ -67,7 +72,8 @@ pub fn undelta_and_back<W: FastLanes>(
     back: &mut [W; FL_CHUNK_SIZE],
 )
     requires { length bases.now ≡ W.LANES }
-    ensures { back.new ≡ deltas.now }
+    ensures items { (r l : ℕ) → r < W.T → l < W.LANES → pattern_at W.pattern items.new (place r l) ≡ summed_item W.T (pattern_at W.pattern bases.now) (pattern_at W.pattern deltas.now) r l }
+    ensures back { back.new ≡ deltas.now }
 {
     all_in_range(deltas);
     all_in_range(bases);
@@ -82,7 +88,9 @@ pub fn runs_and_back<W: FastLanes>(
     indices: &mut [u16; FL_CHUNK_SIZE],
     back: &mut [W; FL_CHUNK_SIZE],
 )
-    ensures { back.new ≡ items.now }
+    ensures indices { (q : ℕ) → q < 1024 → slice_index indices.new q ≡ changes (pattern_at W.pattern items.now) q }
+    ensures values { (q : ℕ) → q < 1024 → pattern_at W.pattern values.new (changes (pattern_at W.pattern items.now) q) ≡ pattern_at W.pattern items.now q }
+    ensures back { back.new ≡ items.now }
 {
     let count = rle_encode(items, values, indices);
     rle_decode(&values[..count], indices, back);

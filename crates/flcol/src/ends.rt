@@ -110,6 +110,7 @@ impl<W> WriteEnd<W> {
     pub fn new(inner: W) -> WriteEnd<W>
         ensures inner { result.inner ≡ inner }
         ensures unmarked { result.failed ≡ false }
+        ensures flushed { result.flushed ≡ true }
     {
         WriteEnd {
             inner,

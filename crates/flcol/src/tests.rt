@@ -7,8 +7,9 @@ mod memory;
 use crate::ends::{ReadEnd, WriteEnd};
 use crate::fault::Fault;
 use crate::start::start;
-use memory::{FromMemory, Interrupted, ToMemory};
+use memory::{Broken, FromMemory, Interrupted, ToMemory, Unflushed};
 use std::alloc::Global;
+use std::io::{Read, Write};
 use std::test::Fail;
 
 const USAGE: &[u8] = b"usage: flcol pack TYPE WIDTH | encode TYPE ENCODING | run OP.. QUERY\n";
@@ -360,6 +361,34 @@ fn interruptions_are_no_faults(rt: HostRuntime) -> Result<(), Fail> {
     let want = zeros_but(alloc, 128, &[(0, 1)])?;
     assert!(rt; writer.bytes.as_slice() == want.as_slice());
     assert_eq!(rt; writer.flushes, 1);
+    Ok(())
+}
+
+/// What a run over these ends, and with the words `pack u8 1`, says of itself.
+fn said<R: Read + Drop, W: Write + Drop>(
+    alloc: Global,
+    reader: R,
+    writer: W,
+) -> Result<Vec<u8>, Fail> {
+    let words = words(alloc, &["pack", "u8", "1"])?;
+    let mut errors = ToMemory::new(alloc, 100, None);
+    let mut source = ReadEnd::new(reader);
+    let mut sink = WriteEnd::new(writer);
+    start(alloc, &words, &mut source, &mut sink, &mut errors);
+    Ok(errors.bytes)
+}
+
+/// An error of std's reader or writer is a fault, and so is one of its flush.
+#[test]
+fn errors_of_std_are_faults(rt: HostRuntime) -> Result<(), Fail> {
+    let alloc = rt.alloc();
+    let text: &[u8] = b"1\n";
+    let read = said(alloc, Broken, Vec::new(alloc))?;
+    assert_eq!(rt; read.as_slice(), b"error 43 ReadFault\n".as_slice());
+    let write = said(alloc, text, Broken)?;
+    assert_eq!(rt; write.as_slice(), b"error 44 WriteFault\n".as_slice());
+    let flush = said(alloc, text, Unflushed)?;
+    assert_eq!(rt; flush.as_slice(), b"error 44 WriteFault\n".as_slice());
     Ok(())
 }
 

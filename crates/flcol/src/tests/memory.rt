@@ -182,3 +182,43 @@ impl Write for Interrupted {
         Ok(())
     }
 }
+
+/// A reader and writer that fails at each call.
+#[derive(Drop)]
+pub struct Broken;
+
+impl Read for Broken {
+    ghost remaining = { λ _. None };
+
+    fn read(&mut self, _buf: &mut [u8]) -> io::Result<usize> {
+        Err(io::Error::from(io::ErrorKind::BrokenPipe))
+    }
+}
+
+impl Write for Broken {
+    ghost contents = { λ _. None };
+
+    fn write(&mut self, _buf: &[u8]) -> io::Result<usize> {
+        Err(io::Error::from(io::ErrorKind::BrokenPipe))
+    }
+
+    fn flush(&mut self) -> io::Result<()> {
+        Err(io::Error::from(io::ErrorKind::BrokenPipe))
+    }
+}
+
+/// A writer that takes all bytes, and fails to flush them.
+#[derive(Drop)]
+pub struct Unflushed;
+
+impl Write for Unflushed {
+    ghost contents = { λ _. None };
+
+    fn write(&mut self, buf: &[u8]) -> io::Result<usize> {
+        Ok(buf.len())
+    }
+
+    fn flush(&mut self) -> io::Result<()> {
+        Err(io::Error::from(io::ErrorKind::BrokenPipe))
+    }
+}

@@ -5,8 +5,8 @@ use Rattle.fastlanes.proofs.Wholes.{same_block}
 use Rattle.fastlanes.proofs.DeltaRows.{differences_back}
 use Rattle.fastlanes.proofs.round_trips.undelta_and_back.Goals as goal
 
-pub returns : goal.returns
-returns g c = same_block g.W.FastLanes.pattern g.W.FastLanes.T g.W.FastLanes.LANES g.met.W.FastLanes.shape g.met.W.FastLanes.one_word _ _ (omega arith) (omega arith) (λ r l p q.
+pub returns-clause-back : goal.returns-clause-back
+returns-clause-back g c = same_block g.W.FastLanes.pattern g.W.FastLanes.T g.W.FastLanes.LANES g.met.W.FastLanes.shape g.met.W.FastLanes.one_word _ _ (omega arith) (omega arith) (λ r l p q.
     let there = place_read g.W.FastLanes.T g.W.FastLanes.LANES r l g.met.W.FastLanes.shape p q in
     let long : length c.args.deltas.now ≡ 1024 = omega arith in
     c.delta.ensures.deltas r l p q ∙ differences_back g.W.FastLanes.T g.W.FastLanes.LANES (pattern_at g.W.FastLanes.pattern c.args.bases.now) (pattern_at g.W.FastLanes.pattern c.undelta.new.items) (pattern_at g.W.FastLanes.pattern c.args.deltas.now) r l p q
