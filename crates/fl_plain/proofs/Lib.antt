@@ -1,0 +1,8 @@
+pub mod CastLaws
+pub mod ColumnAlgebra
+pub mod ConstantLaws
+pub mod ItemLaws
+pub mod ListLaws
+pub mod QuestionLaws
+pub mod SelectionLaws
+mod Examples

@@ -1,0 +1,29 @@
+use Rattle.std.proofs.Common.{◌≡◌, ◌∙◌, ◌+◌, ◌++◌, ◌∷◌, [], map, take, option_map, is_some, unwrap_or, pos, refl, ap, arith}
+use Rattle.std.proofs.lemmas.List.{take_all, map_push, length_push}
+use Rattle.fl_plain.proofs.ItemLaws.{new_options, map_read, is_some-option_map}
+use Rattle.fl_plain.proofs.primitive.PrimitiveArray.from_options.Goals as goal
+
+pub returns : goal.returns
+returns g c =
+    let options = c.args.options.now in
+    let value = g.T.Number.value in
+    let full : take c.loop-option.option-index options ≡ options = take_all c.loop-option.option-index options (omega arith) in
+    record { plain = new_options g.T.NativePType.PTYPE (map (option_map value) options) (map value c.loop-option.slots.items) c.loop-option.bits c.new.result (rw full at c.loop-option.invariant.slots) (rw full at c.loop-option.invariant.bits) c.new.ensures }
+
+pub loop-option-preserved : goal.loop-option-preserved
+loop-option-preserved g c =
+    let value = g.T.Number.value in
+    let options = c.args.options.now in
+    let i = c.loop-option.option-index in
+    let seen = map (option_map value) (take i options) in
+    let x = option_map value c.option-item.result in
+    let more : map (option_map value) (take (i + 1) options) ≡ seen ++ x ∷ [] = map_read (option_map value) options i c.option-item.result c.loop-option-test.true c.option-item.is in
+    let new_bits = map_push (λ item. is_some item) seen x in
+    let new_slots = map_push (λ item. unwrap_or item (pos 0)) seen x in
+    let pushed = map_push value c.loop-option.slots.items c.slot_of.result in
+    let bit : c.is_some.result ≡ is_some x = c.is_some.ensures ∙ is_some-option_map value c.option-item.result in
+    record {
+      each = rw c.in_ok-push-2.ensures.ok (length_push c.loop-option.bits c.is_some.result ∙ ap (λ n. n + 1) c.loop-option.invariant.each);
+      bits = rw (c.in_ok-push-2.ensures.ok, more, new_bits, bit, c.loop-option.invariant.bits) refl;
+      slots = rw (c.in_ok-push.ensures.items, more, new_slots, pushed, c.slot_of.ensures, c.loop-option.invariant.slots) refl;
+    }

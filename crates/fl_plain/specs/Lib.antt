@@ -1,0 +1,12 @@
+pub use Rattle.fl_types.specs.Bits
+pub use Rattle.fl_types.specs.Integers
+pub use Rattle.fl_types.specs.Masks
+pub use Rattle.fl_types.specs.Refusals
+pub use Rattle.fl_types.specs.Slots
+pub use Rattle.fl_types.specs.Types
+pub use Rattle.fl_types.specs.Validities
+pub use Rattle.fl_types.specs.Values
+pub mod Columns
+pub mod Operations
+pub mod Questions
+pub mod Selections

@@ -1,0 +1,71 @@
+//! Plain arrays whose bits are read as another integer type of the same width.
+
+ghost use Rattle.std.specs.Prelude.{◌≡◌, ◌++◌, ◌∷◌, [], map, length, IfOk, Ok};
+ghost use Rattle.fl_types.specs.Slots.{integers_of, ptype_of};
+ghost use Rattle.fl_types.specs.Integers.{bits_of_type, other_sign, pattern_of, read_as};
+ghost use Rattle.fl_types.specs.Refusals.{Answers};
+ghost use Rattle.fl_plain.specs.Columns.{reread_plain};
+
+use crate::primitive::PrimitiveArray;
+use fastlanes::FastLanes;
+use fl_types::{FastLanesError, NativePType, PType, Slots};
+use std::alloc::{AllocError, Global};
+
+/// The value whose pattern is that of another one.
+fn reread<P: FastLanes, S: NativePType<Physical = P>, T: NativePType<Physical = P>>(value: S) -> T
+    ensures { T.value result ≡ read_as T.PTYPE (pattern_of S.PTYPE (S.value value)) }
+{
+    T::from_physical(value.to_physical())
+}
+
+/// The values whose patterns are those of these values.
+fn reread_all<P: FastLanes, S: NativePType<Physical = P>, T: NativePType<Physical = P>>(
+    alloc: Global,
+    items: &[S],
+) -> Result<Vec<T>, AllocError>
+    ensures { IfOk result (λ v. map T.value v.items ≡ map (λ z. read_as T.PTYPE (pattern_of S.PTYPE z)) (map S.value items.now)) }
+{
+    let mut read = Vec::with_capacity(alloc, items.len())?;
+    for item in items {
+        read.push(reread::<P, S, T>(*item))?;
+    }
+    Ok(read)
+}
+
+/// The slots whose patterns are those of these slots, in the type of the other sign.
+fn reread_slots(slots: &Slots, alloc: Global) -> Result<Slots, AllocError>
+    ensures typed { IfOk result (λ s. ptype_of s ≡ other_sign (ptype_of slots.now)) }
+    ensures slots { IfOk result (λ s. integers_of s ≡ map (λ z. read_as (other_sign (ptype_of slots.now)) (pattern_of (ptype_of slots.now) z)) (integers_of slots.now)) }
+{
+    match slots {
+        Slots::U8(items) => Ok(Slots::I8(reread_all::<u8, u8, i8>(alloc, items.as_slice())?)),
+        Slots::U16(items) => Ok(Slots::I16(reread_all::<u16, u16, i16>(alloc, items.as_slice())?)),
+        Slots::U32(items) => Ok(Slots::I32(reread_all::<u32, u32, i32>(alloc, items.as_slice())?)),
+        Slots::U64(items) => Ok(Slots::I64(reread_all::<u64, u64, i64>(alloc, items.as_slice())?)),
+        Slots::I8(items) => Ok(Slots::U8(reread_all::<u8, i8, u8>(alloc, items.as_slice())?)),
+        Slots::I16(items) => Ok(Slots::U16(reread_all::<u16, i16, u16>(alloc, items.as_slice())?)),
+        Slots::I32(items) => Ok(Slots::U32(reread_all::<u32, i32, u32>(alloc, items.as_slice())?)),
+        Slots::I64(items) => Ok(Slots::U64(reread_all::<u64, i64, u64>(alloc, items.as_slice())?)),
+    }
+}
+
+impl PrimitiveArray {
+    /// The array whose slots have the same bits in another type of the same width. The validity is
+    /// kept, and so are the slots where the type stays.
+    #[tactic(auto, using(crate::proofs::ItemLaws::reread_same))]
+    pub fn reinterpret_cast(
+        self,
+        alloc: Global,
+        ptype: PType,
+    ) -> Result<PrimitiveArray, FastLanesError>
+        requires { bits_of_type ptype ≡ bits_of_type self.ptype }
+        ensures { Answers (λ a. a) result (Ok (reread_plain ptype self)) }
+    {
+        if self.ptype() == ptype {
+            self.in_range();
+            return Ok(self);
+        }
+        let (slots, validity) = self.into_parts();
+        Ok(PrimitiveArray::from_slots(reread_slots(&slots, alloc)?, validity))
+    }
+}

@@ -1,0 +1,5 @@
+pub mod BitLists
+pub mod Maps
+pub mod MaskLaws
+pub mod Patterns
+pub mod RefusalLaws

@@ -1,0 +1,28 @@
+-- Lists of truth values, kept 64 to a word.
+use Rattle.std.specs.Prelude.{◌==◌, ◌-◌, ◌/◌, ◌%◌, ℕ, Bool, List, map, slice_index, take, drop, count_by}
+use Rattle.std.specs.Int.{bit_at}
+use Rattle.std.specs.List.{range_with_len}
+
+-- f 0 to f (n - 1)
+abbrev pub table : {A : Type 0} → (ℕ → A) → ℕ → List A
+table f n = map f (range_with_len 0 n)
+
+-- the items from start to below end
+abbrev pub between : {A : Type 0} → ℕ → ℕ → List A → List A
+between start end items = take (end - start) (drop start items)
+
+-- bit j of a word
+unfoldable pub bit_of_word : ℕ → ℕ → Bool
+bit_of_word word j = bit_at word j == 1
+
+-- bit i of these words
+unfoldable pub is_set : List ℕ → ℕ → Bool
+is_set words i = bit_of_word (slice_index words (i / 64)) (i % 64)
+
+-- the first n bits of these words
+unfoldable pub first_bits : List ℕ → ℕ → List Bool
+first_bits words n = table (is_set words) n
+
+-- how many are true
+abbrev pub true_count : List Bool → ℕ
+true_count bits = count_by (λ bit. bit) bits

@@ -1,0 +1,174 @@
+//! Lists of truth values.
+
+ghost use Rattle.std.specs.Prelude.{◌≡◌, ◌<◌, ◌≤◌, ◌+◌, ◌^◌, ◌*◌, ◌/◌, ℕ, Bool, [], ◌∷◌, ◌++◌, length, slice_get, slice_index, slice_index_or, false, Some, IfOk, IfErr, OnOk, OnErr, Ok};
+ghost use Rattle.std.specs.Int.{bit_at};
+ghost use Rattle.fastlanes.specs.Layout.{bit_value};
+ghost use Rattle.fl_types.specs.Bits.{between, bit_of_word, first_bits, is_set, table, true_count};
+ghost use Rattle.fl_types.specs.Refusals.{Answers};
+ghost use Rattle.fl_types.specs.declared.error.FastLanesError.TheVariants.{OutOfMemory};
+
+use crate::error::FastLanesError;
+use fastlanes::FastLanes;
+use std::alloc::{AllocError, Global};
+use std::marker::Model;
+
+/// A list of truth values, kept 64 to a word. Contracts see the list.
+#[derive(Drop)]
+pub struct BitList {
+    words: Vec<u64>,
+    len: usize,
+}
+
+impl Model for BitList {
+    ghost use Rattle.std.specs.Prelude.{◌≡◌, ◌+◌, ◌/◌, List, Bool, length};
+    ghost use Rattle.fl_types.specs.Bits.{first_bits};
+
+    ghost Value = { List Bool };
+
+    ghost view = { λ a. first_bits a.words.items a.len };
+
+    ghost invariant = { λ a. length a.words.items ≡ (a.len + 63) / 64 };
+}
+
+impl BitList {
+    /// The empty list, which grows by this allocator.
+    #[tactic(auto, unfolding(crate::specs::Bits::first_bits))]
+    pub fn new(alloc: Global) -> BitList
+        ensures { result ≡ [] }
+    {
+        BitList {
+            words: Vec::new(alloc),
+            len: 0,
+        }
+    }
+
+    /// How many there are.
+    #[tactic(auto, using(crate::proofs::BitLists::length_first_bits))]
+    pub fn len(&self) -> usize
+        ensures { result ≡ length self.now }
+    {
+        self.len
+    }
+
+    /// The one at an index.
+    #[tactic(auto, using(crate::proofs::BitLists::length_first_bits, crate::proofs::BitLists::get_first_bits))]
+    pub fn get(&self, i: usize) -> bool
+        requires { i < length self.now }
+        ensures { slice_get self.now i ≡ Some result }
+    {
+        bit_of(self.words.as_slice(), i)
+    }
+
+    /// The answers of `bit` at 0 to `len - 1`. Each word is made of 64 answers at once.
+    pub fn from_fn<F: Fn(usize) -> bool>(
+        alloc: Global,
+        len: usize,
+        bit: F,
+    ) -> Result<BitList, FastLanesError>
+        requires { (i : ℕ) → i < len → F.pre bit i }
+        ensures len { IfOk result (λ b. length b ≡ len) }
+        ensures bits { IfOk result (λ b. (i : ℕ) → i < len → F.post bit i (slice_index_or b i false)) }
+        ensures memory { IfErr result (λ e. e ≡ OutOfMemory) }
+    {
+        let mut words = Vec::with_capacity(alloc, len / 64 + 1)?;
+        for k in 0..len / 64 {
+            words.push(word_of(64 * k, 64, &bit))?;
+        }
+        match len % 64 {
+            0 => Ok(BitList { words, len }),
+            rest => {
+                words.push(word_of(len - rest, rest, &bit))?;
+                Ok(BitList { words, len })
+            }
+        }
+    }
+
+    /// Adds one at the end. A list of `usize::MAX` grows no more.
+    pub fn push(&mut self, bit: bool) -> Result<(), FastLanesError>
+        ensures ok { OnOk result (self.new ≡ self.old ++ bit ∷ []) }
+        ensures err { OnErr result (self.new ≡ self.old) }
+        ensures memory { IfErr result (λ e. e ≡ OutOfMemory) }
+    {
+        if self.len == usize::MAX {
+            return Err(FastLanesError::OutOfMemory);
+        }
+        push_bit(&mut self.words, self.len, bit)?;
+        self.len += 1;
+        Ok(())
+    }
+
+    /// Those from `start` to below `end`.
+    pub fn slice(&self, alloc: Global, start: usize, end: usize) -> Result<BitList, FastLanesError>
+        requires order { start ≤ end }
+        requires range { end ≤ length self.now }
+        ensures { Answers (λ b. b) result (Ok (between start end self.now)) }
+    {
+        BitList::from_fn(alloc, end - start, |i| self.get(start + i))
+    }
+
+    /// A copy.
+    pub fn try_clone(&self, alloc: Global) -> Result<BitList, FastLanesError>
+        ensures { Answers (λ b. b) result (Ok self.now) }
+    {
+        Ok(BitList {
+            words: Vec::from_slice(alloc, self.words.as_slice())?,
+            len: self.len,
+        })
+    }
+
+    /// How many are true.
+    pub fn count_true(&self) -> usize
+        ensures { result ≡ true_count self.now }
+    {
+        let mut count = 0;
+        for i in 0..self.len() {
+            if self.get(i) {
+                count += 1;
+            }
+        }
+        count
+    }
+}
+
+/// Bit `i` of these words.
+#[tactic(auto, unfolding(crate::specs::Bits::is_set, crate::specs::Bits::bit_of_word))]
+fn bit_of(words: &[u64], i: usize) -> bool
+    requires { i < 64 * length words.now }
+    ensures { result ≡ is_set words.now i }
+{
+    words[i / 64] >> (i % 64) & 1 == 1
+}
+
+/// The word whose lowest bits are the answers of `bit` at `start` to `start + count - 1`.
+fn word_of<F: Fn(usize) -> bool>(start: usize, count: usize, bit: &F) -> u64
+    requires count { count ≤ 64 }
+    requires start { start + count < 2 ^ 64 }
+    requires callable { (j : ℕ) → j < count → F.pre bit.now (start + j) }
+    ensures { (j : ℕ) → j < count → F.post bit.now (start + j) (bit_of_word result j) }
+{
+    let mut word = 0u64;
+    for j in 0..count {
+        word = word.with_bit(j, bit(start + j));
+    }
+    word
+}
+
+/// Adds a bit behind the first `len` of these words.
+fn push_bit(words: &mut Vec<u64>, len: usize, bit: bool) -> Result<(), AllocError>
+    requires { length words.old.items ≡ (len + 63) / 64 }
+    ensures count { OnOk result (length words.new.items ≡ (len + 1 + 63) / 64) }
+    ensures bits { OnOk result (first_bits words.new.items (len + 1) ≡ first_bits words.old.items len ++ bit ∷ []) }
+    ensures err { OnErr result (words.new.items ≡ words.old.items) }
+{
+    match len % 64 {
+        0 => {
+            words.push(0u64.with_bit(0, bit))?;
+            Ok(())
+        }
+        at => {
+            let word = words[len / 64];
+            words[len / 64] = (word % (1 << at)).with_bit(at, bit);
+            Ok(())
+        }
+    }
+}

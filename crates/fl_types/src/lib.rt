@@ -1,0 +1,27 @@
+//! The vocabulary of columns: refusals, types, values, bits, validities, masks, and the words of
+//! questions.
+#![tactic(auto)]
+
+pub mod bits;
+pub mod dtype;
+pub mod error;
+pub mod laws;
+pub mod macros;
+pub mod mask;
+pub mod native;
+pub mod query;
+pub mod scalar;
+pub mod slots;
+#[cfg(test)]
+mod tests;
+pub mod validity;
+
+pub use crate::bits::BitList;
+pub use crate::dtype::{DType, Nullability, PType};
+pub use crate::error::FastLanesError;
+pub use crate::mask::Mask;
+pub use crate::native::NativePType;
+pub use crate::query::{BetweenOptions, CompareOperator, StrictComparison};
+pub use crate::scalar::{PValue, Scalar};
+pub use crate::slots::Slots;
+pub use crate::validity::Validity;

@@ -1,0 +1,540 @@
+//! The eight integer types.
+
+ghost use Rattle.std.specs.Prelude.{◌≡◌, ◌<◌, ◌^◌, ℕ, ℤ, pos, List, [], map, refl, IsSome, IsTrue, ◌↔◌, IfSome};
+ghost use Rattle.num_traits.specs.Laws.{Checks};
+ghost use Rattle.fl_types.specs.declared.dtype.PType.{PType};
+ghost use Rattle.fl_types.specs.declared.dtype.PType.TheVariants as types;
+ghost use Rattle.fl_types.specs.declared.slots.Slots.{Slots};
+ghost use Rattle.fl_types.specs.Slots.{integers_of, ptype_of};
+ghost use Rattle.fl_types.specs.Values.{integer_of, ptype_of_value};
+ghost use Rattle.fl_types.specs.Integers.{bits_of_type, fits, pattern_of, pos_injective, read_as, wrap};
+
+use crate::dtype::PType;
+use crate::scalar::PValue;
+use crate::slots::Slots;
+use fastlanes::FastLanes;
+use num_traits::{PrimInt, WrappingAdd, WrappingSub};
+
+/// An integer type of columns. Contracts see a value as its integer, `T.value x`.
+pub trait NativePType: PrimInt + WrappingAdd + WrappingSub {
+    /// The type's name.
+    const PTYPE: PType;
+
+    ghost PTYPE: { PType };
+
+    /// The unsigned type of the same width, whose values are the bit patterns.
+    type Physical: FastLanes;
+
+    /// The bit pattern of the value.
+    fn to_physical(self) -> Self::Physical
+        ensures { Self.Physical.pattern result ≡ pattern_of PTYPE (Self.value self) };
+
+    /// The value of a bit pattern.
+    fn from_physical(pattern: Self::Physical) -> Self
+        ensures { Self.value result ≡ read_as PTYPE (Self.Physical.pattern pattern) };
+
+    /// The value as an `i128`, which holds every integer of the eight types.
+    fn as_i128(self) -> i128
+        ensures { result ≡ Self.value self };
+
+    /// The value of this type, or `None` where the type doesn't have it.
+    fn from_i128(value: i128) -> Option<Self>
+        ensures { Checks Self.value Self.fits value result };
+
+    /// The value lies in the type's range.
+    fn in_range(self)
+        ensures { IsTrue (fits PTYPE (Self.value self)) };
+
+    /// The slots, which have this type.
+    fn as_slice(slots: &Slots) -> &[Self]
+        requires { ptype_of slots.now ≡ PTYPE }
+        ensures { map Self.value result.now ≡ integers_of slots.now };
+
+    /// Slots of this type.
+    fn into_slots(items: Vec<Self>) -> Slots
+        ensures slots { integers_of result ≡ map Self.value items.items }
+        ensures typed { ptype_of result ≡ PTYPE };
+
+    /// The value with its type.
+    fn into_pvalue(self) -> PValue
+        ensures value { integer_of result ≡ Self.value self }
+        ensures typed { ptype_of_value result ≡ PTYPE };
+
+    /// The value, where it has this type.
+    fn from_pvalue(value: PValue) -> Option<Self>
+        ensures typed { IsSome result ↔ (ptype_of_value value ≡ PTYPE) }
+        ensures value { IfSome result (λ x. Self.value x ≡ integer_of value) };
+
+    // Sums and differences wrap as the type does.
+    ghost wraps_law: { (z : ℤ) → Self.wrap z ≡ wrap PTYPE z };
+
+    // The patterns have the type's bits.
+    ghost width_law: { Self.Physical.T ≡ bits_of_type PTYPE };
+
+    // Values of one integer are equal.
+    ghost one_value: { (x y : Self) → Self.value x ≡ Self.value y → x ≡ y };
+}
+
+#[tactic(auto, using(crate::proofs::Maps::maps, crate::proofs::Patterns::patterns))]
+impl NativePType for u8 {
+    const PTYPE: PType = PType::U8;
+
+    ghost PTYPE = { types.U8 };
+
+    type Physical = u8;
+
+    ghost wraps_law = { λ z. refl };
+
+    ghost width_law = { refl };
+
+    ghost one_value = { pos_injective };
+
+    fn to_physical(self) -> u8 {
+        self
+    }
+
+    fn from_physical(pattern: u8) -> u8 {
+        pattern
+    }
+
+    fn as_i128(self) -> i128 {
+        self as i128
+    }
+
+    fn from_i128(value: i128) -> Option<u8> {
+        num_traits::cast(value)
+    }
+
+    fn in_range(self) {}
+
+    fn as_slice(slots: &Slots) -> &[u8] {
+        match slots {
+            Slots::U8(items) => items.as_slice(),
+            _ => unreachable!(),
+        }
+    }
+
+    fn into_slots(items: Vec<u8>) -> Slots
+        ensures slots { integers_of result ≡ map (λ n. pos n) items.items }
+        ensures typed { ptype_of result ≡ types.U8 }
+    {
+        Slots::U8(items)
+    }
+
+    fn into_pvalue(self) -> PValue {
+        PValue::U8(self)
+    }
+
+    fn from_pvalue(value: PValue) -> Option<u8> {
+        match value {
+            PValue::U8(x) => Some(x),
+            _ => None,
+        }
+    }
+}
+
+#[tactic(auto, using(crate::proofs::Maps::maps, crate::proofs::Patterns::patterns))]
+impl NativePType for u16 {
+    const PTYPE: PType = PType::U16;
+
+    ghost PTYPE = { types.U16 };
+
+    type Physical = u16;
+
+    ghost wraps_law = { λ z. refl };
+
+    ghost width_law = { refl };
+
+    ghost one_value = { pos_injective };
+
+    fn to_physical(self) -> u16 {
+        self
+    }
+
+    fn from_physical(pattern: u16) -> u16 {
+        pattern
+    }
+
+    fn as_i128(self) -> i128 {
+        self as i128
+    }
+
+    fn from_i128(value: i128) -> Option<u16> {
+        num_traits::cast(value)
+    }
+
+    fn in_range(self) {}
+
+    fn as_slice(slots: &Slots) -> &[u16] {
+        match slots {
+            Slots::U16(items) => items.as_slice(),
+            _ => unreachable!(),
+        }
+    }
+
+    fn into_slots(items: Vec<u16>) -> Slots
+        ensures slots { integers_of result ≡ map (λ n. pos n) items.items }
+        ensures typed { ptype_of result ≡ types.U16 }
+    {
+        Slots::U16(items)
+    }
+
+    fn into_pvalue(self) -> PValue {
+        PValue::U16(self)
+    }
+
+    fn from_pvalue(value: PValue) -> Option<u16> {
+        match value {
+            PValue::U16(x) => Some(x),
+            _ => None,
+        }
+    }
+}
+
+#[tactic(auto, using(crate::proofs::Maps::maps, crate::proofs::Patterns::patterns))]
+impl NativePType for u32 {
+    const PTYPE: PType = PType::U32;
+
+    ghost PTYPE = { types.U32 };
+
+    type Physical = u32;
+
+    ghost wraps_law = { λ z. refl };
+
+    ghost width_law = { refl };
+
+    ghost one_value = { pos_injective };
+
+    fn to_physical(self) -> u32 {
+        self
+    }
+
+    fn from_physical(pattern: u32) -> u32 {
+        pattern
+    }
+
+    fn as_i128(self) -> i128 {
+        self as i128
+    }
+
+    fn from_i128(value: i128) -> Option<u32> {
+        num_traits::cast(value)
+    }
+
+    fn in_range(self) {}
+
+    fn as_slice(slots: &Slots) -> &[u32] {
+        match slots {
+            Slots::U32(items) => items.as_slice(),
+            _ => unreachable!(),
+        }
+    }
+
+    fn into_slots(items: Vec<u32>) -> Slots
+        ensures slots { integers_of result ≡ map (λ n. pos n) items.items }
+        ensures typed { ptype_of result ≡ types.U32 }
+    {
+        Slots::U32(items)
+    }
+
+    fn into_pvalue(self) -> PValue {
+        PValue::U32(self)
+    }
+
+    fn from_pvalue(value: PValue) -> Option<u32> {
+        match value {
+            PValue::U32(x) => Some(x),
+            _ => None,
+        }
+    }
+}
+
+#[tactic(auto, using(crate::proofs::Maps::maps, crate::proofs::Patterns::patterns))]
+impl NativePType for u64 {
+    const PTYPE: PType = PType::U64;
+
+    ghost PTYPE = { types.U64 };
+
+    type Physical = u64;
+
+    ghost wraps_law = { λ z. refl };
+
+    ghost width_law = { refl };
+
+    ghost one_value = { pos_injective };
+
+    fn to_physical(self) -> u64 {
+        self
+    }
+
+    fn from_physical(pattern: u64) -> u64 {
+        pattern
+    }
+
+    fn as_i128(self) -> i128 {
+        self as i128
+    }
+
+    fn from_i128(value: i128) -> Option<u64> {
+        num_traits::cast(value)
+    }
+
+    fn in_range(self) {}
+
+    fn as_slice(slots: &Slots) -> &[u64] {
+        match slots {
+            Slots::U64(items) => items.as_slice(),
+            _ => unreachable!(),
+        }
+    }
+
+    fn into_slots(items: Vec<u64>) -> Slots
+        ensures slots { integers_of result ≡ map (λ n. pos n) items.items }
+        ensures typed { ptype_of result ≡ types.U64 }
+    {
+        Slots::U64(items)
+    }
+
+    fn into_pvalue(self) -> PValue {
+        PValue::U64(self)
+    }
+
+    fn from_pvalue(value: PValue) -> Option<u64> {
+        match value {
+            PValue::U64(x) => Some(x),
+            _ => None,
+        }
+    }
+}
+
+#[tactic(auto, using(crate::proofs::Maps::maps, crate::proofs::Patterns::patterns))]
+impl NativePType for i8 {
+    const PTYPE: PType = PType::I8;
+
+    ghost PTYPE = { types.I8 };
+
+    type Physical = u8;
+
+    ghost wraps_law = { λ z. refl };
+
+    ghost width_law = { refl };
+
+    ghost one_value = { λ x y e. e };
+
+    fn to_physical(self) -> u8 {
+        self.cast_unsigned()
+    }
+
+    fn from_physical(pattern: u8) -> i8 {
+        pattern.cast_signed()
+    }
+
+    fn as_i128(self) -> i128 {
+        self as i128
+    }
+
+    fn from_i128(value: i128) -> Option<i8> {
+        num_traits::cast(value)
+    }
+
+    fn in_range(self) {}
+
+    fn as_slice(slots: &Slots) -> &[i8] {
+        match slots {
+            Slots::I8(items) => items.as_slice(),
+            _ => unreachable!(),
+        }
+    }
+
+    fn into_slots(items: Vec<i8>) -> Slots
+        ensures slots { integers_of result ≡ map (λ z. z) items.items }
+        ensures typed { ptype_of result ≡ types.I8 }
+    {
+        Slots::I8(items)
+    }
+
+    fn into_pvalue(self) -> PValue {
+        PValue::I8(self)
+    }
+
+    fn from_pvalue(value: PValue) -> Option<i8> {
+        match value {
+            PValue::I8(x) => Some(x),
+            _ => None,
+        }
+    }
+}
+
+#[tactic(auto, using(crate::proofs::Maps::maps, crate::proofs::Patterns::patterns))]
+impl NativePType for i16 {
+    const PTYPE: PType = PType::I16;
+
+    ghost PTYPE = { types.I16 };
+
+    type Physical = u16;
+
+    ghost wraps_law = { λ z. refl };
+
+    ghost width_law = { refl };
+
+    ghost one_value = { λ x y e. e };
+
+    fn to_physical(self) -> u16 {
+        self.cast_unsigned()
+    }
+
+    fn from_physical(pattern: u16) -> i16 {
+        pattern.cast_signed()
+    }
+
+    fn as_i128(self) -> i128 {
+        self as i128
+    }
+
+    fn from_i128(value: i128) -> Option<i16> {
+        num_traits::cast(value)
+    }
+
+    fn in_range(self) {}
+
+    fn as_slice(slots: &Slots) -> &[i16] {
+        match slots {
+            Slots::I16(items) => items.as_slice(),
+            _ => unreachable!(),
+        }
+    }
+
+    fn into_slots(items: Vec<i16>) -> Slots
+        ensures slots { integers_of result ≡ map (λ z. z) items.items }
+        ensures typed { ptype_of result ≡ types.I16 }
+    {
+        Slots::I16(items)
+    }
+
+    fn into_pvalue(self) -> PValue {
+        PValue::I16(self)
+    }
+
+    fn from_pvalue(value: PValue) -> Option<i16> {
+        match value {
+            PValue::I16(x) => Some(x),
+            _ => None,
+        }
+    }
+}
+
+#[tactic(auto, using(crate::proofs::Maps::maps, crate::proofs::Patterns::patterns))]
+impl NativePType for i32 {
+    const PTYPE: PType = PType::I32;
+
+    ghost PTYPE = { types.I32 };
+
+    type Physical = u32;
+
+    ghost wraps_law = { λ z. refl };
+
+    ghost width_law = { refl };
+
+    ghost one_value = { λ x y e. e };
+
+    fn to_physical(self) -> u32 {
+        self.cast_unsigned()
+    }
+
+    fn from_physical(pattern: u32) -> i32 {
+        pattern.cast_signed()
+    }
+
+    fn as_i128(self) -> i128 {
+        self as i128
+    }
+
+    fn from_i128(value: i128) -> Option<i32> {
+        num_traits::cast(value)
+    }
+
+    fn in_range(self) {}
+
+    fn as_slice(slots: &Slots) -> &[i32] {
+        match slots {
+            Slots::I32(items) => items.as_slice(),
+            _ => unreachable!(),
+        }
+    }
+
+    fn into_slots(items: Vec<i32>) -> Slots
+        ensures slots { integers_of result ≡ map (λ z. z) items.items }
+        ensures typed { ptype_of result ≡ types.I32 }
+    {
+        Slots::I32(items)
+    }
+
+    fn into_pvalue(self) -> PValue {
+        PValue::I32(self)
+    }
+
+    fn from_pvalue(value: PValue) -> Option<i32> {
+        match value {
+            PValue::I32(x) => Some(x),
+            _ => None,
+        }
+    }
+}
+
+#[tactic(auto, using(crate::proofs::Maps::maps, crate::proofs::Patterns::patterns))]
+impl NativePType for i64 {
+    const PTYPE: PType = PType::I64;
+
+    ghost PTYPE = { types.I64 };
+
+    type Physical = u64;
+
+    ghost wraps_law = { λ z. refl };
+
+    ghost width_law = { refl };
+
+    ghost one_value = { λ x y e. e };
+
+    fn to_physical(self) -> u64 {
+        self.cast_unsigned()
+    }
+
+    fn from_physical(pattern: u64) -> i64 {
+        pattern.cast_signed()
+    }
+
+    fn as_i128(self) -> i128 {
+        self as i128
+    }
+
+    fn from_i128(value: i128) -> Option<i64> {
+        num_traits::cast(value)
+    }
+
+    fn in_range(self) {}
+
+    fn as_slice(slots: &Slots) -> &[i64] {
+        match slots {
+            Slots::I64(items) => items.as_slice(),
+            _ => unreachable!(),
+        }
+    }
+
+    fn into_slots(items: Vec<i64>) -> Slots
+        ensures slots { integers_of result ≡ map (λ z. z) items.items }
+        ensures typed { ptype_of result ≡ types.I64 }
+    {
+        Slots::I64(items)
+    }
+
+    fn into_pvalue(self) -> PValue {
+        PValue::I64(self)
+    }
+
+    fn from_pvalue(value: PValue) -> Option<i64> {
+        match value {
+            PValue::I64(x) => Some(x),
+            _ => None,
+        }
+    }
+}

@@ -1,0 +1,129 @@
+//! Single values.
+
+ghost use Rattle.std.specs.Prelude.{◌≡◌, ◌↔◌, IsTrue, IsSome, None, Some, option_map, IfSome, is_none};
+ghost use Rattle.fl_types.specs.declared.dtype.DType.TheVariants.{Primitive, Bool};
+ghost use Rattle.fl_types.specs.declared.dtype.Nullability.TheVariants.{Nullable};
+ghost use Rattle.fl_types.specs.Types.{integer_type, with_nullability};
+ghost use Rattle.fl_types.specs.Values.{cell_of, integer_of, ptype_of_value, truth_number};
+
+use crate::dtype::{DType, Nullability, PType};
+
+/// An integer of one of the types.
+#[derive(Clone, Copy, Debug, PartialEq, Eq, Hash)]
+pub enum PValue {
+    /// Of 8 bits, unsigned.
+    U8(u8),
+    /// Of 16 bits, unsigned.
+    U16(u16),
+    /// Of 32 bits, unsigned.
+    U32(u32),
+    /// Of 64 bits, unsigned.
+    U64(u64),
+    /// Of 8 bits, signed.
+    I8(i8),
+    /// Of 16 bits, signed.
+    I16(i16),
+    /// Of 32 bits, signed.
+    I32(i32),
+    /// Of 64 bits, signed.
+    I64(i64),
+}
+
+impl PValue {
+    /// The type of the value.
+    pub fn ptype(self) -> PType
+        ensures { result ≡ ptype_of_value self }
+    {
+        match self {
+            PValue::U8(_) => PType::U8,
+            PValue::U16(_) => PType::U16,
+            PValue::U32(_) => PType::U32,
+            PValue::U64(_) => PType::U64,
+            PValue::I8(_) => PType::I8,
+            PValue::I16(_) => PType::I16,
+            PValue::I32(_) => PType::I32,
+            PValue::I64(_) => PType::I64,
+        }
+    }
+}
+
+/// A value of a type, or a null. A null's type is nullable.
+#[derive(Clone, Copy, Debug, PartialEq, Eq, Hash)]
+pub enum Scalar {
+    /// An integer, and whether a null may stand in its place.
+    Integer(PValue, Nullability),
+    /// A truth value, and whether a null may stand in its place.
+    Truth(bool, Nullability),
+    /// A null in place of an integer of this type.
+    NullInteger(PType),
+    /// A null in place of a truth value.
+    NullTruth,
+}
+
+impl Scalar {
+    /// An integer.
+    pub fn primitive(value: PValue, nullability: Nullability) -> Scalar
+        ensures { cell_of result ≡ record { dtype = Primitive (ptype_of_value value) nullability; value = Some (integer_of value) } }
+    {
+        Scalar::Integer(value, nullability)
+    }
+
+    /// A truth value.
+    pub fn bool(value: bool, nullability: Nullability) -> Scalar
+        ensures { cell_of result ≡ record { dtype = Bool nullability; value = Some (truth_number value) } }
+    {
+        Scalar::Truth(value, nullability)
+    }
+
+    /// A null, whose type is this one made nullable.
+    pub fn null(dtype: DType) -> Scalar
+        ensures { cell_of result ≡ record { dtype = with_nullability Nullable dtype; value = None } }
+    {
+        match dtype {
+            DType::Primitive(ptype, _) => Scalar::NullInteger(ptype),
+            DType::Bool(_) => Scalar::NullTruth,
+        }
+    }
+
+    /// The type.
+    pub fn dtype(self) -> DType
+        ensures { result ≡ (cell_of self).dtype }
+    {
+        match self {
+            Scalar::Integer(value, nullability) => DType::Primitive(value.ptype(), nullability),
+            Scalar::Truth(_, nullability) => DType::Bool(nullability),
+            Scalar::NullInteger(ptype) => DType::Primitive(ptype, Nullability::Nullable),
+            Scalar::NullTruth => DType::Bool(Nullability::Nullable),
+        }
+    }
+
+    /// Whether it is a null.
+    pub fn is_null(self) -> bool
+        ensures { result ≡ is_none (cell_of self).value }
+    {
+        matches!(self, Scalar::NullInteger(_) | Scalar::NullTruth)
+    }
+
+    /// The integer, or `None` of a null or a truth value.
+    pub fn as_pvalue(self) -> Option<PValue>
+        ensures value { IfSome result (λ v. (cell_of self).value ≡ Some (integer_of v)) }
+        ensures typed { IfSome result (λ v. integer_type (cell_of self).dtype ≡ Some (ptype_of_value v)) }
+        ensures found { IsSome result ↔ (IsSome (integer_type (cell_of self).dtype) × IsSome (cell_of self).value) }
+    {
+        match self {
+            Scalar::Integer(value, _) => Some(value),
+            _ => None,
+        }
+    }
+
+    /// The truth value, or `None` of a null or an integer.
+    pub fn as_bool(self) -> Option<bool>
+        ensures value { IfSome result (λ b. (cell_of self).value ≡ Some (truth_number b)) }
+        ensures found { IsSome result ↔ ((integer_type (cell_of self).dtype ≡ None) × IsSome (cell_of self).value) }
+    {
+        match self {
+            Scalar::Truth(value, _) => Some(value),
+            _ => None,
+        }
+    }
+}
