@@ -2,6 +2,8 @@
 #![tactic(auto)]
 
 pub mod bools;
+#[cfg(test)]
+mod call_tests;
 mod casting;
 pub mod constant;
 mod constants;

@@ -1,0 +1,13 @@
+pub use Rattle.fl_types.specs.Bits
+pub use Rattle.fl_types.specs.Integers
+pub use Rattle.fl_types.specs.Masks
+pub use Rattle.fl_types.specs.Refusals
+pub use Rattle.fl_types.specs.Slots
+pub use Rattle.fl_types.specs.Types
+pub use Rattle.fl_types.specs.Validities
+pub use Rattle.fl_types.specs.Values
+pub use Rattle.fl_plain.specs.Columns
+pub use Rattle.fl_plain.specs.Operations
+pub use Rattle.fl_plain.specs.Questions
+pub use Rattle.fl_plain.specs.Selections
+pub use Rattle.fl_patches.specs.PatchMaps

@@ -1,0 +1,12 @@
+//! Patches: a finite map from positions of an array to values that stand there in place of others.
+#![tactic(auto)]
+
+mod checks;
+mod found;
+mod indices;
+pub mod patches;
+mod selection;
+#[cfg(test)]
+mod tests;
+
+pub use crate::patches::Patches;

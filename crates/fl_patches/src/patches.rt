@@ -1,0 +1,231 @@
+//! Patches: a finite map from positions of an array to values.
+
+ghost use Rattle.std.specs.Prelude.{◌≡◌, ◌≤◌, ◌<◌, ◌-◌, ◌+◌, false, pos, is_none, IfOk, IfSome, Ok, Some, None, length, option_map, option_and_then, map, slice_index_or};
+ghost use Rattle.std.specs.List.{list_any};
+ghost use Rattle.std.specs.Option.{option_copied};
+ghost use Rattle.fl_types.specs.Masks.{mask_len};
+ghost use Rattle.fl_types.specs.Refusals.{Answers};
+ghost use Rattle.fl_types.specs.Values.{integer_of, ptype_of_value};
+ghost use Rattle.fl_plain.specs.Columns.{column_of_plain, slice_plain};
+ghost use Rattle.fl_patches.specs.PatchMaps.{ArePatches, new_patches, patched, refusal_of, slice_patches};
+
+use crate::checks::first_refusal;
+use crate::indices::{count_in, index_fits, rank_in};
+use fl_plain::PrimitiveArray;
+use fl_types::{DType, FastLanesError, PValue};
+use std::alloc::Global;
+use std::marker::Model;
+
+/// Patches of an array: values at some of its positions. The patch at position `i` has the index
+/// `offset + i`, so that a slice can keep the indices of the array that it was cut from. Contracts
+/// see the parts, and the map from positions to values as `patched`.
+#[derive(Drop)]
+pub struct Patches {
+    array_len: usize,
+    offset: usize,
+    indices: PrimitiveArray,
+    values: PrimitiveArray,
+    chunk_offsets: Option<PrimitiveArray>,
+}
+
+impl Model for Patches {
+    ghost use Rattle.std.specs.Prelude.{◌≡◌, None};
+    ghost use Rattle.fl_patches.specs.PatchMaps.{PatchMap, refusal_of};
+
+    ghost Value = { PatchMap };
+
+    ghost view = { λ p. record { array_len = p.array_len; offset = p.offset; indices = p.indices; values = p.values; chunk_offsets = p.chunk_offsets } };
+
+    ghost invariant = { λ p. refusal_of (record { array_len = p.array_len; offset = p.offset; indices = p.indices; values = p.values; chunk_offsets = p.chunk_offsets }) ≡ None };
+}
+
+/// The value at a place of an array without nulls.
+fn value_in(values: &PrimitiveArray, i: usize) -> Option<PValue>
+    requires range { i < length values.now.slots }
+    requires valued { list_any is_none (column_of_plain values.now).items ≡ false }
+    ensures value { option_map integer_of result ≡ Some (slice_index_or values.now.slots i (pos 0)) }
+    ensures typed { IfSome result (λ v. ptype_of_value v ≡ values.now.ptype) }
+{
+    let _validity = values.validity();
+    values.get(i)
+}
+
+/// The items from `start` to below `end`.
+fn slice_of(
+    array: &PrimitiveArray,
+    alloc: Global,
+    start: usize,
+    end: usize,
+) -> Result<PrimitiveArray, FastLanesError>
+    requires order { start ≤ end }
+    requires range { end ≤ length array.now.slots }
+    ensures { Answers (λ a. a) result (Ok (slice_plain start end array.now)) }
+{
+    let _len = array.len();
+    array.slice(alloc, start, end)
+}
+
+impl Patches {
+    /// Patches of these parts: the value of the position `indices[k] - offset` among `array_len`
+    /// items is `values[k]`. Chunk offset `k`, where there are chunk offsets, is the number of
+    /// indices below `1024 * k`.
+    ///
+    /// # Errors
+    /// `PatchType` where the type of the indices or chunk offsets is signed or nullable. Then
+    /// `PatchLength` where there is no patch, not one value for each index, or not one chunk offset
+    /// for each 1024 items, rounded up. Then `PatchContent` where the indices don't rise, an index is
+    /// not in `offset .. offset + array_len`, a value is null, or there are chunk offsets and the
+    /// offset is not 0 or one of them miscounts.
+    pub fn new(
+        array_len: usize,
+        offset: usize,
+        indices: PrimitiveArray,
+        values: PrimitiveArray,
+        chunk_offsets: Option<PrimitiveArray>,
+    ) -> Result<Patches, FastLanesError>
+        ensures { result ≡ new_patches array_len offset indices values chunk_offsets }
+    {
+        match first_refusal(array_len, offset, &indices, &values, &chunk_offsets) {
+            Some(refusal) => Err(refusal),
+            None => Ok(Patches {
+                array_len,
+                offset,
+                indices,
+                values,
+                chunk_offsets,
+            }),
+        }
+    }
+
+    /// Patches of these parts, which nothing speaks against.
+    pub(crate) fn from_parts(
+        array_len: usize,
+        offset: usize,
+        indices: PrimitiveArray,
+        values: PrimitiveArray,
+    ) -> Patches
+        requires { refusal_of (record { array_len = array_len; offset = offset; indices = indices; values = values; chunk_offsets = None }) ≡ None }
+        ensures { result ≡ record { array_len = array_len; offset = offset; indices = indices; values = values; chunk_offsets = None } }
+    {
+        Patches {
+            array_len,
+            offset,
+            indices,
+            values,
+            chunk_offsets: None,
+        }
+    }
+
+    /// Nothing speaks against the parts.
+    pub fn well_formed(&self)
+        ensures { refusal_of self.now ≡ None }
+    {
+        let _ = &self.offset;
+    }
+
+    /// How many items the patched array has.
+    pub fn array_len(&self) -> usize
+        ensures { result ≡ self.now.array_len }
+    {
+        self.array_len
+    }
+
+    /// The index of the array's first item.
+    pub fn offset(&self) -> usize
+        ensures { result ≡ self.now.offset }
+    {
+        self.offset
+    }
+
+    /// How many patches there are, at least 1.
+    pub fn num_patches(&self) -> usize
+        ensures { result ≡ length self.now.indices.slots }
+    {
+        self.indices.len()
+    }
+
+    /// The type of the values.
+    pub fn dtype(&self) -> DType
+        ensures { result ≡ (column_of_plain self.now.values).dtype }
+    {
+        self.values.dtype()
+    }
+
+    /// The indices, rising.
+    pub fn indices(&self) -> &PrimitiveArray
+        ensures { result.now ≡ self.now.indices }
+    {
+        &self.indices
+    }
+
+    /// The value beside each index.
+    pub fn values(&self) -> &PrimitiveArray
+        ensures { result.now ≡ self.now.values }
+    {
+        &self.values
+    }
+
+    /// For each 1024 items, the last ones cut, how many patches stand before them.
+    pub fn chunk_offsets(&self) -> Option<&PrimitiveArray>
+        ensures { option_copied result ≡ self.now.chunk_offsets }
+    {
+        self.chunk_offsets.as_ref()
+    }
+
+    /// The value at a position, if it is patched.
+    pub fn get_patched(&self, i: usize) -> Option<PValue>
+        ensures value { option_map integer_of result ≡ patched self.now i }
+        ensures typed { IfSome result (λ v. ptype_of_value v ≡ self.now.values.ptype) }
+    {
+        let rank = rank_in(&self.indices, self.offset as u128 + i as u128)?;
+        value_in(&self.values, rank)
+    }
+
+    /// The patches of the items from `start` to below `end`, or `None` where there are none. The
+    /// indices stay, `start` is added to the offset, and there are no chunk offsets.
+    pub fn slice(
+        &self,
+        alloc: Global,
+        start: usize,
+        end: usize,
+    ) -> Result<Option<Patches>, FastLanesError>
+        requires order { start ≤ end }
+        requires range { end ≤ self.now.array_len }
+        ensures parts { Answers (λ o. o) result (Ok (slice_patches start end self.now)) }
+        ensures map { IfOk result (λ o. ArePatches o (end - start) (λ i. patched self.now (start + i))) }
+    {
+        let first = count_in(&self.indices, self.offset as u128 + start as u128);
+        let last = count_in(&self.indices, self.offset as u128 + end as u128);
+        if first == last {
+            return Ok(None);
+        }
+        index_fits(&self.indices, first);
+        let slice_offset = self.offset + start;
+        Ok(Some(Patches {
+            array_len: end - start,
+            offset: slice_offset,
+            indices: slice_of(&self.indices, alloc, first, last)?,
+            values: slice_of(&self.values, alloc, first, last)?,
+            chunk_offsets: None,
+        }))
+    }
+
+    /// A copy.
+    pub fn try_clone(&self, alloc: Global) -> Result<Patches, FastLanesError>
+        ensures { Answers (λ p. p) result (Ok self.now) }
+    {
+        let indices = self.indices.try_clone(alloc)?;
+        let values = self.values.try_clone(alloc)?;
+        let chunk_offsets = match &self.chunk_offsets {
+            Some(offsets) => Some(offsets.try_clone(alloc)?),
+            None => None,
+        };
+        Ok(Patches {
+            array_len: self.array_len,
+            offset: self.offset,
+            indices,
+            values,
+            chunk_offsets,
+        })
+    }
+}
