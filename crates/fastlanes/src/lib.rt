@@ -30,8 +30,3 @@ pub use transposing::{transpose, untranspose};
 pub use turning::transpose_bits;
 pub use unpacking::{unfor_pack, unpack};
 pub use words::FastLanes;
-
-#[cfg(test)]
-mod kernel_tests;
-#[cfg(test)]
-mod tests;

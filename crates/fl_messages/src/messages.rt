@@ -26,6 +26,3 @@ pub use self::patches::PatchesMetadata;
 pub use self::rle::RLEMetadata;
 pub use self::scalar::{decode_scalar, encode_scalar};
 pub use self::types::{type_number, type_of_number};
-
-#[cfg(test)]
-mod tests;

@@ -71,7 +71,7 @@ are_chunk_offsets indices offsets = list_all (λ o. o.1 == count_below (1024 * o
 abbrev pub patch_types_fit : PatchMap → Bool
 patch_types_fit p = is_index_type (column_of_plain p.indices).dtype && option_all (λ c. is_index_type (column_of_plain c).dtype) p.chunk_offsets
 
--- there is a patch, a value for each index, and a chunk offset for each chunk
+-- there is a patch, a value for each index, and a chunk offset for each chunk where there are chunk offsets
 abbrev pub patch_lengths_fit : PatchMap → Bool
 patch_lengths_fit p =
     (length p.indices.slots == length p.values.slots)
@@ -82,7 +82,7 @@ patch_lengths_fit p =
 abbrev pub is_index_within : ℕ → ℕ → ℕ → Bool
 is_index_within offset array_len index = nat_le offset index && nat_lt index (offset + array_len)
 
--- indices rise and lie within the array, no value is null, and chunk offsets count the indices from 0
+-- indices rise and lie within the array, no value is null, and chunk offsets count the indices before each chunk and go with the offset 0 alone
 abbrev pub patch_contents_fit : PatchMap → Bool
 patch_contents_fit p =
     is_rising (numbers p.indices)
@@ -155,7 +155,7 @@ patches_at len ptype nullability (place ∷ places) values = Some (record {
 abbrev pub patches_of_items : PType → Nullability → List (Option ℤ) → Option PatchMap
 patches_of_items ptype nullability items = patches_at (length items) ptype nullability (places_from 0 items) (values_in items)
 
--- item j of a selection is the one at the j-th of the positions; no position has no patch
+-- the patches of a selection, whose item j is the one at the j-th of the positions and is not patched where that is none
 abbrev pub select_patches : List (Option ℕ) → PatchMap → Option PatchMap
 select_patches positions p = patches_of_items p.values.ptype (nullability_of p.values.validity) (map (option_and_then (patched p)) positions)
 

@@ -6,7 +6,5 @@ mod found;
 mod indices;
 pub mod patches;
 mod selection;
-#[cfg(test)]
-mod tests;
 
 pub use crate::patches::Patches;

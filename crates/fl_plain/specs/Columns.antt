@@ -59,7 +59,7 @@ ptype_of_column c = unwrap_or (integer_type c.dtype) U8
 abbrev pub integers_in : Column → List ℤ
 integers_in c = map (λ item. unwrap_or item (pos 0)) c.items
 
--- the items of a column without negative ones as natural numbers, 0 in place of a null
+-- the items as natural numbers, of a column that has no negative one; 0 in place of a null
 abbrev pub numbers_of : Column → List ℕ
 numbers_of c = map unsigned_abs (integers_in c)
 

@@ -32,7 +32,7 @@ is_in_range len index = option_all (λ z. int_le (pos 0) z && int_lt z (pos len)
 abbrev pub item_named : List (Option ℤ) → Option ℤ → Option ℤ
 item_named items index = option_and_then (λ z. slice_index_or items (unsigned_abs z) None) index
 
--- the items that the indices name
+-- the items that the indices name; nulls may stand in the result where they may in the column or in the indices
 abbrev pub take_of : Column → Column → Column
 take_of indices c = record { dtype = with_nullability (either_nullable (nullability_in c.dtype) (nullability_in indices.dtype)) c.dtype; items = map (item_named c.items) indices.items }
 

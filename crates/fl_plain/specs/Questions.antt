@@ -60,7 +60,7 @@ is_below None (Some y) = true
 is_below (Some x) None = false
 is_below (Some x) (Some y) = int_lt x y
 
--- any two items are equal
+-- all items are equal
 abbrev pub are_constant : List (Option ℤ) → Bool
 are_constant items = list_all (λ x. list_all (same_item x) items) items
 
@@ -70,7 +70,7 @@ each_next test [] = true
 each_next test (x ∷ []) = true
 each_next test (x ∷ y ∷ rest) = test x y && each_next test (y ∷ rest)
 
--- an item may stand before the next one
+-- an item may stand before the next one: it is not above it or, where the order is strict, below it
 abbrev pub in_order : Bool → Option ℤ → Option ℤ → Bool
 in_order true x y = is_below x y
 in_order false x y = not (is_below y x)
@@ -83,7 +83,7 @@ are_sorted items = each_next (λ x y. not (is_below y x)) items
 abbrev pub are_strictly_sorted : List (Option ℤ) → Bool
 are_strictly_sorted items = each_next is_below items
 
--- whether any two items are equal, or why there is no answer
+-- whether all items are equal, or why there is no answer
 abbrev pub is_constant_column : Column → Result Bool FastLanesError
 is_constant_column c = if is_integer c.dtype then Ok (are_constant c.items) else Err NotInteger
 

@@ -222,7 +222,7 @@ impl ConstantArray {
         self.decode(alloc)?.between(alloc, lower, upper, options)
     }
 
-    /// Whether any two items are equal, as they always are.
+    /// Whether all items are equal, as they always are.
     #[tactic(auto, using(crate::proofs::ConstantLaws::copies_constant))]
     pub fn is_constant(&self) -> bool
         ensures { result ≡ are_constant (column_of_copies self.now).items }

@@ -2,8 +2,6 @@
 #![tactic(auto)]
 
 pub mod bools;
-#[cfg(test)]
-mod call_tests;
 mod casting;
 pub mod constant;
 mod constants;
@@ -13,10 +11,6 @@ pub mod primitive;
 mod questions;
 mod rereading;
 mod selection;
-#[cfg(test)]
-mod tests;
-#[cfg(test)]
-mod type_tests;
 
 pub use crate::bools::BoolArray;
 pub use crate::constant::ConstantArray;

@@ -143,7 +143,7 @@ fn is_item_below<T: NativePType>(x: Option<T>, y: Option<T>) -> bool
     }
 }
 
-/// Whether any two items are equal.
+/// Whether all items are equal.
 fn is_constant_typed<T: NativePType>(slots: &Slots, validity: &Validity) -> bool
     requires same { ptype_of slots.now ≡ T.PTYPE }
     requires covers { IsTrue (covers validity.now (length (integers_of slots.now))) }
@@ -270,7 +270,7 @@ impl PrimitiveArray {
         BoolArray::new(bits, validity)
     }
 
-    /// Whether any two items are equal; a null equals a null. An empty array is constant.
+    /// Whether all items are equal; a null equals a null. An empty array is constant.
     pub fn is_constant(&self) -> bool
         ensures { result ≡ are_constant (column_of_plain self.now).items }
     {

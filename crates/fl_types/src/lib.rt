@@ -12,8 +12,6 @@ pub mod native;
 pub mod query;
 pub mod scalar;
 pub mod slots;
-#[cfg(test)]
-mod tests;
 pub mod validity;
 
 pub use crate::bits::BitList;

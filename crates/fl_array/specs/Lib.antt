@@ -1,0 +1,5 @@
+pub mod Trees
+pub mod Codes
+pub mod Shown
+pub mod Kinds
+pub mod Reads

@@ -1,0 +1,72 @@
+-- Blocks of differences, summed.
+use Rattle.std.proofs.Common.{◌≡◌, ℕ, ℤ, pos, zero, suc, ◌+◌, ◌*◌, ◌/◌, ◌%◌, ◌^◌, ◌<◌, ◌≤◌, ◌+ℤ◌, List, length, map, get_or, refl, ap, sym, ◌∙◌, arith, add-one}
+use Rattle.std.proofs.Common.{take, drop, length-take, length-drop}
+use Rattle.std.proofs.lemmas.List.{take-map, drop-map, get_or-take, get_or-drop}
+use Rattle.fastlanes.specs.Layout.{place, segment, segment_lane, segment_row, IsWordWidth}
+use Rattle.fastlanes.specs.Delta.{delta_sum, summed_item}
+use Rattle.fastlanes.proofs.Bijection.{place_read, segment_placed}
+use Rattle.fl_types.specs.declared.dtype.PType.{PType}
+use Rattle.fl_types.specs.Integers.{bits_of_type, lanes_of_type, pattern_of, read_as, wrap}
+use Rattle.std.proofs.Common.{IsTrue, Ok, Result}
+use Rattle.fl_types.specs.declared.error.FastLanesError.{FastLanesError}
+use Rattle.fl_types.specs.Refusals.{Answers}
+use Rattle.fl_types.proofs.RefusalLaws.{Answers_view}
+use Rattle.fl_types.specs.declared.validity.Validity.{Validity}
+use Rattle.fl_types.specs.Bits.{table}
+use Rattle.fl_types.specs.Validities.{covers}
+use Rattle.fl_plain.specs.Columns.{Plain, column_of_plain}
+use Rattle.fl_codec.specs.Deltas.{block_integer, delta_column, delta_integer, lane_sum}
+use Rattle.fl_codec.proofs.FrameColumns.{items_of-table}
+use Rattle.fl_codec.proofs.Congruence.{IsPattern, IsPattern-add, IsPattern-mod, pattern_is, read_as-IsPattern, itself}
+use Rattle.fl_codec.proofs.DeltaLaws.{lanes_is}
+
+-- the patterns' sum is a pattern of the integers' sum
+sum_is_pattern : (ptype : PType) (T lanes j l n : ℕ) (delta : ℕ → ℤ) (word : ℕ → ℕ) → IsWordWidth T lanes → l < lanes → n ≤ T → ((q : ℕ) → q < 1024 → word q ≡ pattern_of ptype (delta (1024 * j + q)))
+    → IsPattern (2 ^ bits_of_type ptype) (lane_sum delta j l n) (delta_sum word l n)
+unfolding lane_sum delta_sum
+sum_is_pattern ptype T lanes j l zero delta word shape q h here = itself (2 ^ bits_of_type ptype) 0
+sum_is_pattern ptype T lanes j l (suc n) delta word shape q h here =
+    let inside = (place_read T lanes n l shape (omega arith) q).2 in
+    rw (here (place n l) inside) (IsPattern-add (2 ^ bits_of_type ptype) (lane_sum delta j l n) (delta (1024 * j + place n l)) (delta_sum word l n) (pattern_of ptype (delta (1024 * j + place n l)))
+    (sum_is_pattern ptype T lanes j l n delta word shape q (omega arith) here) (pattern_is ptype (delta (1024 * j + place n l))))
+
+pub block_of_sums : (ptype : PType) (T lanes j : ℕ) (base delta : ℕ → ℤ) (row word item : ℕ → ℕ) → IsWordWidth T lanes → T ≡ bits_of_type ptype
+    → ((l : ℕ) → l < lanes → row l ≡ pattern_of ptype (base (j * lanes + l))) → ((q : ℕ) → q < 1024 → word q ≡ pattern_of ptype (delta (1024 * j + q)))
+    → ((r l : ℕ) → r < T → l < lanes → item (segment l + r) ≡ summed_item T row word r l)
+    → (q : ℕ) → q < 1024 → read_as ptype (item q) ≡ block_integer ptype base delta j q
+unfolding block_integer summed_item
+block_of_sums ptype T lanes j base delta row word item shape bits bases deltas items q h =
+    let N : ℕ = 2 ^ bits_of_type ptype in
+    let placed = segment_placed T lanes q shape h in
+    let l = segment_lane T q in
+    let r = segment_row T q in
+    let same : lanes_of_type ptype ≡ lanes = sym (lanes_is ptype T lanes shape bits) in
+    let z = base (j * lanes + l) +ℤ lane_sum delta j l (r + 1) in
+    let here : item q ≡ (row l + delta_sum word l (r + 1)) % 2 ^ T = rw placed.0 at (items r l placed.1 placed.2) in
+    let first : IsPattern N (base (j * lanes + l)) (row l) = rw (bases l placed.2) (pattern_is ptype (base (j * lanes + l))) in
+    let rest = sum_is_pattern ptype T lanes j l (r + 1) delta word shape placed.2 (omega arith) deltas in
+    let all = IsPattern-mod N z (row l + delta_sum word l (r + 1)) (IsPattern-add N (base (j * lanes + l)) (lane_sum delta j l (r + 1)) (row l) (delta_sum word l (r + 1)) first rest) in
+    let sum = row l + delta_sum word l (r + 1) in
+    ap (read_as ptype) here ∙ (ap (λ n. read_as ptype (sum % 2 ^ n)) bits ∙ (read_as-IsPattern ptype z (sum % N) all
+    ∙ (ap (λ n. wrap ptype (base (j * lanes + segment_lane n q) +ℤ lane_sum delta j (segment_lane n q) (segment_row n q + 1))) bits
+    ∙ ap (λ m. wrap ptype (base (j * m + segment_lane (bits_of_type ptype) q) +ℤ lane_sum delta j (segment_lane (bits_of_type ptype) q) (segment_row (bits_of_type ptype) q + 1))) (sym same))))
+
+-- the patterns of a part of a list
+pub patterns_of_part : {A : Type 0} (value : A → ℤ) (ptype : PType) (word : ℕ → ℕ) (xs : List A) (m n size : ℕ) → size ≡ n → m + n ≤ length xs
+    → ((i : ℕ) → i < length (take size (drop m xs)) → word i ≡ pattern_of ptype (get_or (map value (take size (drop m xs))) i (pos 0)))
+    → (i : ℕ) → i < n → word i ≡ pattern_of ptype (get_or (map value xs) (m + i) (pos 0))
+patterns_of_part value ptype word xs m n size e room each i h =
+    let taken = length-take size (drop m xs) in
+    let rest = length-drop m xs in
+    let inside : i < length (take size (drop m xs)) = omega arith in
+    let part : get_or (map value (take size (drop m xs))) i (pos 0) ≡ get_or (map value xs) (m + i) (pos 0) =
+    ap (λ ys. get_or ys i (pos 0)) (sym (take-map value size (drop m xs)) ∙ ap (take size) (sym (drop-map value m xs)))
+    ∙ (get_or-take size (drop m (map value xs)) i (pos 0) (omega arith) ∙ get_or-drop m (map value xs) i (pos 0)) in
+    each i inside ∙ ap (pattern_of ptype) part
+
+-- the column of the blocks
+pub column_of_blocks : (ptype : PType) (bases deltas values : List ℤ) (v : Validity) (offset len : ℕ) (result : Result Plain FastLanesError) → IsTrue (covers v len) → values ≡ table (λ i. delta_integer ptype bases deltas (offset + i)) len
+    → Answers (λ a. a) result (Ok (record { ptype = ptype; slots = values; validity = v })) → Answers column_of_plain result (Ok (delta_column ptype bases deltas v offset len))
+column_of_blocks ptype bases deltas values v offset len result covered is made =
+    Answers_view column_of_plain result (record { ptype = ptype; slots = values; validity = v }) (delta_column ptype bases deltas v offset len)
+    (rw (is, items_of-table (λ i. delta_integer ptype bases deltas (offset + i)) v len covered) refl) made

@@ -1,0 +1,18 @@
+use Rattle.std.proofs.Common.{Ok, Some, None, map, refl, ap, sym, subst}
+use Rattle.fl_types.specs.Refusals.{Answers}
+use Rattle.fl_codec.specs.Parts.{Whole, frame_parts, FrameParts}
+use Rattle.fl_codec.proofs.FrameColumns.{whole_ok}
+use Rattle.fl_codec.proofs.ReferenceLaws.{references_of_plain}
+use Rattle.fl_codec.proofs.frame_of_reference.encode_chunks.Goals as goal
+
+pub returns-in_ok-less_reference-in-Some : goal.returns-in_ok-less_reference-in-Some
+returns-in_ok-less_reference-in-Some g c =
+    let value = g.T.Number.value in
+    let same = references_of_plain value c.args.array.now c.validity.result.now c.as_slice.result.now (map value c.in_ok-references.references.items) (Some (value c.in-Some.reference)) c.validity.ensures.value c.as_slice.ensures c.in_ok-references.ensures.references (rw c.deref.ensures.value at c.in-Some.ensures) in
+    whole_ok _ _ _ _ refl c.in_ok-less_reference-in-Some.ensures (ap Ok (sym same))
+
+pub returns-in-None : goal.returns-in-None
+returns-in-None g c =
+    let value = g.T.Number.value in
+    let same = references_of_plain value c.args.array.now c.validity.result.now c.as_slice.result.now (map value c.in_ok-references.references.items) None c.validity.ensures.value c.as_slice.ensures c.in_ok-references.ensures.references (rw c.deref.ensures.value at c.in-None.ensures) in
+    subst (λ (m : FrameParts). Answers frame_parts c.less_references.result (Ok m)) same c.less_references.ensures

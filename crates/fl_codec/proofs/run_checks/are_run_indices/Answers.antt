@@ -1,0 +1,27 @@
+use Rattle.std.proofs.Common.{◌≡◌, ◌<◌, ◌≤◌, ◌∙◌, false, length, arith, ap, sym}
+use Rattle.std.specs.List.{list_all}
+use Rattle.fl_plain.specs.Columns.{column_of_plain, numbers_of}
+use Rattle.fl_codec.specs.Chunks.{chunk}
+use Rattle.fl_codec.specs.Parts.{items_of_plain}
+use Rattle.fl_codec.specs.RunColumns.{is_run_index}
+use Rattle.fl_codec.proofs.RunChecks.{indices_fail, indices_pass, numbers_long}
+use Rattle.fl_codec.proofs.run_checks.are_run_indices.Goals as goal
+
+pub returns-then-not-are_named : goal.returns-then-not-are_named
+returns-then-not-are_named c =
+    let offsets = numbers_of (column_of_plain c.args.offsets.now) in
+    let items = items_of_plain c.args.indices.now in
+    let long = numbers_long c.args.offsets.now c.validity-validity.ensures.covers in
+    let all = c.len-k-end.ensures.slots in
+    let more = c.loop-k-test.true in
+    let within : c.loop-k.k < length offsets = omega arith in
+    sym (indices_fail items offsets c.args.count c.loop-k.k within (ap (λ n. list_all (is_run_index n) (chunk c.loop-k.k items)) (sym c.count_in_chunk.ensures) ∙ sym c.if-not-are_named.ensures))
+
+pub returns : goal.returns
+returns c =
+    let offsets = numbers_of (column_of_plain c.args.offsets.now) in
+    let items = items_of_plain c.args.indices.now in
+    let long = numbers_long c.args.offsets.now c.validity-validity.ensures.covers in
+    let all = c.len-k-end.ensures.slots in
+    let last = c.loop-k-test.false in
+    sym (indices_pass items offsets c.args.count (λ j h. c.loop-k.invariant j (omega arith)))

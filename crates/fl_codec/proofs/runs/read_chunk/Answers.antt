@@ -1,0 +1,42 @@
+use Rattle.std.proofs.Common.{◌≡◌, ◌+◌, ◌-◌, ◌*◌, ◌/◌, ◌<◌, ◌≤◌, ℕ, ℤ, pos, None, get_or, length, map, take, drop, unsigned_abs, unwrap_or, arith, ap, sym, ◌∙◌}
+use Rattle.std.proofs.Common.{length-take, length-drop}
+use Rattle.std.proofs.lemmas.List.{length-map}
+use Rattle.fastlanes.specs.Layout.{pattern_at}
+use Rattle.fastlanes.proofs.Patterns.{pattern_at_take}
+use Rattle.fl_types.specs.Integers.{fits, pattern_of, read_as}
+use Rattle.fl_plain.specs.Columns.{column_of_plain, numbers_of}
+use Rattle.fl_plain.proofs.ListLaws.{all_at}
+use Rattle.fl_codec.specs.Parts.{items_of_plain}
+use Rattle.fl_codec.specs.RunColumns.{chunk_end, chunk_start, run_count, run_integer}
+use Rattle.fl_codec.proofs.Congruence.{read_as-pattern_of}
+use Rattle.fl_codec.proofs.DeltaSums.{patterns_of_part}
+use Rattle.fl_codec.proofs.RunDecoding.{index_below}
+use Rattle.fl_codec.proofs.runs.read_chunk.Goals as goal
+
+pub returns-clause-items : goal.returns-clause-items
+returns-clause-items g c q h =
+    let value = g.T.Number.value in
+    let ptype = g.T.NativePType.PTYPE in
+    let pattern = g.T.Physical.FastLanes.pattern in
+    let k = c.args.k in
+    let values = c.args.values.now in
+    let offsets = numbers_of (column_of_plain c.args.offsets.now) in
+    let index = get_or (items_of_plain c.args.indices.now) (1024 * k + q) None in
+    let n = unsigned_abs (unwrap_or index (pos 0)) in
+    let start = c.start_of_chunk-start.result in
+    let end = c.end_of_chunk-end.result in
+    let start_is : start ≡ chunk_start offsets k = c.start_of_chunk-start.ensures in
+    let end_is : end ≡ chunk_end offsets (length values) k = c.end_of_chunk-end.ensures in
+    let some = c.requires.sound.some in
+    let within = c.requires.sound.within in
+    let below = index_below (run_count offsets (length values) k) index (omega arith) (c.requires.sound.named q h) in
+    let few : n < end - start = omega arith in
+    let size : end - start ≡ end - start = omega arith in
+    let room : start + (end - start) ≤ length values = omega arith in
+    let word = patterns_of_part value ptype (pattern_at pattern c.put_patterns.new.block) values start (end - start) (end - start) size room c.put_patterns.ensures.block n few in
+    let inside : start + n < length (map value values) = let long = length-map values value in omega arith in
+    let fit = all_at (fits ptype) (map value values) (start + n) (pos 0) c.requires.fits inside in
+    let block_no : (1024 * k + q) / 1024 ≡ k = omega arith in
+    ap (read_as ptype) (c.rle_decode.ensures.items q h ∙ (ap (pattern_at pattern (take (end - start) c.put_patterns.new.block)) (c.put_numbers.ensures q h) ∙ (pattern_at_take pattern c.put_patterns.new.block (end - start) n few ∙ word)))
+    ∙ (read_as-pattern_of ptype (get_or (map value values) (start + n) (pos 0)) fit
+    ∙ (ap (λ m. get_or (map value values) (m + n) (pos 0)) start_is ∙ ap (λ m. get_or (map value values) (chunk_start offsets m + n) (pos 0)) (sym block_no)))

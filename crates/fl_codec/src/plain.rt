@@ -1,0 +1,51 @@
+//! Plain arrays that encoders make.
+
+ghost use Rattle.std.specs.Prelude.{◌≡◌, IsTrue, Ok, length, map};
+ghost use Rattle.fl_types.specs.Refusals.{Answers};
+ghost use Rattle.fl_types.specs.Validities.{covers};
+ghost use Rattle.fl_codec.specs.Parts.{solid, under_validity_of};
+
+use fl_plain::PrimitiveArray;
+use fl_types::{FastLanesError, NativePType, Validity};
+use std::alloc::Global;
+
+/// These slots under the validity of an array of as many.
+pub(crate) fn under_validity_of<T: NativePType>(
+    alloc: Global,
+    array: &PrimitiveArray,
+    slots: Vec<T>,
+) -> Result<PrimitiveArray, FastLanesError>
+    requires { length slots.items ≡ length array.now.slots }
+    ensures { Answers (λ a. a) result (Ok (under_validity_of array.now T.PTYPE (map T.value slots.items))) }
+{
+    let validity = array.validity().try_clone(alloc)?;
+    Ok(PrimitiveArray::new(slots, validity).unwrap())
+}
+
+/// These slots, none of which may be null.
+pub(crate) fn solid<T: NativePType>(slots: Vec<T>) -> PrimitiveArray
+    ensures { result ≡ solid T.PTYPE (map T.value slots.items) }
+{
+    PrimitiveArray::new(slots, Validity::NonNullable).unwrap()
+}
+
+/// These slots under a validity that has a bit for each.
+pub(crate) fn under_validity<T: NativePType>(
+    alloc: Global,
+    validity: &Validity,
+    slots: Vec<T>,
+) -> Result<PrimitiveArray, FastLanesError>
+    requires { IsTrue (covers validity.now (length slots.items)) }
+    ensures { Answers (λ a. a) result (Ok (record { ptype = T.PTYPE; slots = map T.value slots.items; validity = validity.now })) }
+{
+    let validity = validity.try_clone(alloc)?;
+    Ok(PrimitiveArray::new(slots, validity).unwrap())
+}
+
+/// These slots under a validity of their own, which has a bit for each.
+pub(crate) fn with_validity<T: NativePType>(slots: Vec<T>, validity: Validity) -> PrimitiveArray
+    requires { IsTrue (covers validity (length slots.items)) }
+    ensures { result ≡ record { ptype = T.PTYPE; slots = map T.value slots.items; validity = validity } }
+{
+    PrimitiveArray::new(slots, validity).unwrap()
+}

@@ -1,0 +1,148 @@
+//! Frames, deltas and runs at every integer type, with ample memory.
+
+use crate::columns::{TYPES, is_at};
+use crate::decoders::{deltas_make, frame_makes, runs_show};
+use crate::frames::is_framed;
+use fl_codec::delta::delta_compress;
+use fl_codec::runs::Runs;
+use fl_codec::{frame_of_reference, runs};
+use fl_plain::PrimitiveArray;
+use fl_types::*;
+use std::alloc::Global;
+use std::test::Fail;
+
+/// An integer, a null and another integer.
+fn around_a_null<T: NativePType>(
+    alloc: Global,
+    first: T,
+    last: T,
+) -> Result<PrimitiveArray, FastLanesError> {
+    let mut items = Vec::new(alloc);
+    for i in 0..3usize {
+        items.push(if i == 1 {
+            None
+        } else {
+            Some(if i == 0 { first } else { last })
+        })?;
+    }
+    PrimitiveArray::from_options(alloc, &items)
+}
+
+/// The greatest value of a type, a null and its least value.
+fn column(alloc: Global, ptype: PType) -> Result<PrimitiveArray, FastLanesError> {
+    match ptype {
+        PType::U8 => around_a_null(alloc, u8::MAX, u8::MIN),
+        PType::U16 => around_a_null(alloc, u16::MAX, u16::MIN),
+        PType::U32 => around_a_null(alloc, u32::MAX, u32::MIN),
+        PType::U64 => around_a_null(alloc, u64::MAX, u64::MIN),
+        PType::I8 => around_a_null(alloc, i8::MAX, i8::MIN),
+        PType::I16 => around_a_null(alloc, i16::MAX, i16::MIN),
+        PType::I32 => around_a_null(alloc, i32::MAX, i32::MIN),
+        PType::I64 => around_a_null(alloc, i64::MAX, i64::MIN),
+    }
+}
+
+/// The least value of a type.
+fn least(ptype: PType) -> PValue {
+    match ptype {
+        PType::U8 => PValue::U8(0),
+        PType::U16 => PValue::U16(0),
+        PType::U32 => PValue::U32(0),
+        PType::U64 => PValue::U64(0),
+        PType::I8 => PValue::I8(i8::MIN),
+        PType::I16 => PValue::I16(i16::MIN),
+        PType::I32 => PValue::I32(i32::MIN),
+        PType::I64 => PValue::I64(i64::MIN),
+    }
+}
+
+/// Whether the frame of a type's column has its least value for the reference.
+fn frames(alloc: Global, ptype: PType) -> Result<bool, FastLanesError> {
+    let array = column(alloc, ptype)?;
+    is_framed(alloc, &array, least(ptype))
+}
+
+/// Whether the frame of a column's chunks makes it again.
+fn chunks_make(alloc: Global, array: &PrimitiveArray) -> Result<bool, FastLanesError> {
+    let frame = frame_of_reference::encode_chunked(alloc, array)?;
+    frame_makes(alloc, &frame, array)
+}
+
+fn chunked_frames(alloc: Global, ptype: PType) -> Result<bool, FastLanesError> {
+    let array = column(alloc, ptype)?;
+    chunks_make(alloc, &array)
+}
+
+/// Whether bases and deltas of one block are of a type, and base 1 is its least value.
+fn are_deltas(bases: &PrimitiveArray, deltas: &PrimitiveArray, ptype: PType) -> bool {
+    bases.ptype() == ptype
+        && deltas.ptype() == ptype
+        && deltas.len() == 1024
+        && is_at(bases, 1, least(ptype))
+}
+
+fn has_deltas(alloc: Global, array: &PrimitiveArray) -> Result<bool, FastLanesError> {
+    let parts = delta_compress(alloc, array)?;
+    Ok(are_deltas(&parts.0, &parts.1, array.ptype()))
+}
+
+fn keeps_deltas(alloc: Global, array: &PrimitiveArray) -> Result<bool, FastLanesError> {
+    if !has_deltas(alloc, array)? {
+        return Ok(false);
+    }
+    deltas_make(alloc, array)
+}
+
+/// Whether a type's column comes back from its deltas.
+fn deltas(alloc: Global, ptype: PType) -> Result<bool, FastLanesError> {
+    let array = column(alloc, ptype)?;
+    keeps_deltas(alloc, &array)
+}
+
+/// Whether there are two run values of a type, the second of them its least value.
+fn are_two_runs(runs: &Runs, ptype: PType) -> bool {
+    runs.values.len() == 2 && runs.values.ptype() == ptype && is_at(&runs.values, 1, least(ptype))
+}
+
+fn has_two_runs(alloc: Global, array: &PrimitiveArray) -> Result<bool, FastLanesError> {
+    let runs = runs::encode(alloc, array)?;
+    Ok(are_two_runs(&runs, array.ptype()))
+}
+
+fn keeps_runs(alloc: Global, array: &PrimitiveArray) -> Result<bool, FastLanesError> {
+    if !has_two_runs(alloc, array)? {
+        return Ok(false);
+    }
+    runs_show(alloc, array)
+}
+
+/// Whether a type's column comes back from its runs.
+fn runs_of(alloc: Global, ptype: PType) -> Result<bool, FastLanesError> {
+    let array = column(alloc, ptype)?;
+    keeps_runs(alloc, &array)
+}
+
+#[test]
+fn frames_at_each_type(rt: HostRuntime) -> Result<(), Fail> {
+    for ptype in TYPES {
+        assert!(rt; frames(rt.alloc(), ptype)?);
+        assert!(rt; chunked_frames(rt.alloc(), ptype)?);
+    }
+    Ok(())
+}
+
+#[test]
+fn deltas_at_each_type(rt: HostRuntime) -> Result<(), Fail> {
+    for ptype in TYPES {
+        assert!(rt; deltas(rt.alloc(), ptype)?);
+    }
+    Ok(())
+}
+
+#[test]
+fn runs_at_each_type(rt: HostRuntime) -> Result<(), Fail> {
+    for ptype in TYPES {
+        assert!(rt; runs_of(rt.alloc(), ptype)?);
+    }
+    Ok(())
+}

@@ -1,0 +1,5 @@
+//! Tests of the metadata messages, by their public calls.
+#![tactic(auto)]
+
+#[cfg(test)]
+mod texts;

@@ -1,0 +1,3 @@
+mod Filters
+mod Runs
+mod Truths

@@ -1,0 +1,197 @@
+//! Operations and questions on arrays.
+
+ghost use Rattle.std.specs.Prelude.{◌≡◌, ℕ, IfOk, IsTrue, Ok, length};
+ghost use Rattle.fl_types.specs.declared.mask.Mask.TheVariants.{AllTrue};
+ghost use Rattle.fl_types.specs.Masks.{mask_len};
+ghost use Rattle.fl_types.specs.Refusals.{Answers};
+ghost use Rattle.fl_types.specs.Types.{has_ptype, is_integer};
+ghost use Rattle.fl_types.specs.Values.{cell_of, integer_of, ptype_of_value};
+ghost use Rattle.fl_plain.specs.Columns.{column_of_bools};
+ghost use Rattle.fl_plain.specs.Operations.{cast_column, filter_column, ranges_column, take_column};
+ghost use Rattle.fl_plain.specs.Questions.{between_column, compare_column, is_constant_column, is_sorted_column};
+ghost use Rattle.fl_array.specs.Kinds.{IsPrimitive, kind};
+ghost use Rattle.fl_array.specs.Trees.{Tree, column};
+ghost use Rattle.fl_ops.specs.Operations.{filter_kind};
+ghost use Rattle.fl_ops.specs.Questions.{integer_in, is_comparable};
+
+use crate::plain_ops;
+use fl_array::{ArrayRef, IntoArray};
+use fl_column::{
+    BetweenOptions, BoolArray, CompareOperator, DType, FastLanesError, Mask, PValue, Scalar,
+};
+use std::alloc::Global;
+
+/// Operations and questions on arrays of integers. An array of truth values is refused with
+/// `NotInteger` by each. Where no other result is stated, it is a plain array.
+pub trait ArrayOps {
+    /// The tree of the array.
+    ghost tree: { Self → Tree };
+
+    /// The items that the indices name, null where an index is null. The integer under a null index
+    /// is never looked at.
+    ///
+    /// # Errors
+    /// `NotInteger` where one of the arrays is not of integers, then `IndexOutOfBounds` where an
+    /// index is negative or not below the length.
+    fn take(&self, alloc: Global, indices: &ArrayRef) -> Result<ArrayRef, FastLanesError>
+        ensures column { Answers column result (take_column (column indices.now) (column (tree self.now))) }
+        ensures kind { IfOk result (λ a. kind a ≡ IsPrimitive) };
+
+    /// The items of the ranges, each a start and a length, one range after another. A range without
+    /// items is skipped, wherever it starts.
+    ///
+    /// # Errors
+    /// `NotInteger`, then `RangeOutOfBounds` where a range with items reaches beyond the length,
+    /// then `LengthOverflow` where the lengths' sum is above `usize::MAX`.
+    fn take_ranges(
+        &self,
+        alloc: Global,
+        ranges: &[(usize, usize)],
+    ) -> Result<ArrayRef, FastLanesError>
+        ensures column { Answers column result (ranges_column ranges.now (column (tree self.now))) }
+        ensures kind { IfOk result (λ a. kind a ≡ IsPrimitive) };
+
+    /// The items at the mask's true places, in order. The mask has the array's length; one that
+    /// keeps all items by its form gives a copy.
+    ///
+    /// # Errors
+    /// `NotInteger`.
+    fn filter(&self, alloc: Global, mask: &Mask) -> Result<ArrayRef, FastLanesError>
+        requires { mask_len mask.now ≡ length (column (tree self.now)).items }
+        ensures column { Answers column result (filter_column mask.now (column (tree self.now))) }
+        ensures kind { IfOk result (λ a. kind a ≡ filter_kind mask.now (kind (tree self.now))) }
+        ensures copy { (len : ℕ) → mask.now ≡ AllTrue len → IsTrue (is_integer (column (tree self.now)).dtype) → Answers (λ a. a) result (Ok (tree self.now)) };
+
+    /// The same integers in another type.
+    ///
+    /// # Errors
+    /// `NotInteger` where the array or the target is not of integers, then `CastNull` where an item
+    /// is null and the target isn't nullable, then `CastOutOfRange` where the target doesn't have an
+    /// item.
+    fn cast(&self, alloc: Global, target: DType) -> Result<ArrayRef, FastLanesError>
+        ensures column { Answers column result (cast_column target (column (tree self.now))) }
+        ensures kind { IfOk result (λ a. kind a ≡ IsPrimitive) };
+
+    /// How each item compares with a constant of the array's type that is no null; a null stays a
+    /// null.
+    ///
+    /// # Errors
+    /// `NotInteger`.
+    fn compare(
+        &self,
+        alloc: Global,
+        operator: CompareOperator,
+        constant: &Scalar,
+    ) -> Result<BoolArray, FastLanesError>
+        requires { IsTrue (is_comparable (column (tree self.now)) (cell_of constant.now)) }
+        ensures { Answers column_of_bools result (compare_column operator (integer_in (cell_of constant.now)) (column (tree self.now))) };
+
+    /// Whether each item lies between two bounds of the array's type that are no nulls; a null stays
+    /// a null. Nothing lies between bounds of which the lower is above the upper.
+    ///
+    /// # Errors
+    /// `NotInteger`.
+    fn between(
+        &self,
+        alloc: Global,
+        lower: &Scalar,
+        upper: &Scalar,
+        options: &BetweenOptions,
+    ) -> Result<BoolArray, FastLanesError>
+        requires lower { IsTrue (is_comparable (column (tree self.now)) (cell_of lower.now)) }
+        requires upper { IsTrue (is_comparable (column (tree self.now)) (cell_of upper.now)) }
+        ensures { Answers column_of_bools result (between_column (integer_in (cell_of lower.now)) (integer_in (cell_of upper.now)) options.now (column (tree self.now))) };
+
+    /// Whether all items are equal; a null equals a null. An empty array is constant.
+    ///
+    /// # Errors
+    /// `NotInteger`.
+    fn is_constant(&self, alloc: Global) -> Result<bool, FastLanesError>
+        ensures { Answers (λ b. b) result (is_constant_column (column (tree self.now))) };
+
+    /// Whether no item is above the next or, where `strict`, each item is below the next; a null is
+    /// below every integer. An empty array is sorted.
+    ///
+    /// # Errors
+    /// `NotInteger`.
+    fn is_sorted(&self, alloc: Global, strict: bool) -> Result<bool, FastLanesError>
+        ensures { Answers (λ b. b) result (is_sorted_column strict (column (tree self.now))) };
+}
+
+/// The integer of a constant of the array's type.
+fn integer_for(array: &ArrayRef, constant: &Scalar) -> PValue
+    requires integers { IsTrue (is_integer (column array.now).dtype) }
+    requires comparable { IsTrue (is_comparable (column array.now) (cell_of constant.now)) }
+    ensures value { integer_of result ≡ integer_in (cell_of constant.now) }
+    ensures typed { IsTrue (has_ptype (ptype_of_value result) (column array.now).dtype) }
+{
+    match constant.as_pvalue() {
+        Some(value) => value,
+        None => unreachable!(),
+    }
+}
+
+impl ArrayOps for ArrayRef {
+    ghost tree = { λ a. a };
+
+    fn take(&self, alloc: Global, indices: &ArrayRef) -> Result<ArrayRef, FastLanesError> {
+        Ok(plain_ops::take(alloc, self, indices)?.into_array())
+    }
+
+    fn take_ranges(
+        &self,
+        alloc: Global,
+        ranges: &[(usize, usize)],
+    ) -> Result<ArrayRef, FastLanesError> {
+        Ok(plain_ops::take_ranges(alloc, self, ranges)?.into_array())
+    }
+
+    #[tactic(auto, using(crate::proofs::Filters::all_kept))]
+    fn filter(&self, alloc: Global, mask: &Mask) -> Result<ArrayRef, FastLanesError> {
+        let DType::Primitive(_, _) = self.dtype() else {
+            return Err(FastLanesError::NotInteger);
+        };
+        match mask {
+            Mask::AllTrue(_) => self.try_clone(alloc),
+            _ => Ok(plain_ops::filter(alloc, self, mask)?.into_array()),
+        }
+    }
+
+    fn cast(&self, alloc: Global, target: DType) -> Result<ArrayRef, FastLanesError> {
+        Ok(plain_ops::cast(alloc, self, target)?.into_array())
+    }
+
+    fn compare(
+        &self,
+        alloc: Global,
+        operator: CompareOperator,
+        constant: &Scalar,
+    ) -> Result<BoolArray, FastLanesError> {
+        let DType::Primitive(_, _) = self.dtype() else {
+            return Err(FastLanesError::NotInteger);
+        };
+        plain_ops::compare(alloc, self, operator, integer_for(self, constant))
+    }
+
+    fn between(
+        &self,
+        alloc: Global,
+        lower: &Scalar,
+        upper: &Scalar,
+        options: &BetweenOptions,
+    ) -> Result<BoolArray, FastLanesError> {
+        let DType::Primitive(_, _) = self.dtype() else {
+            return Err(FastLanesError::NotInteger);
+        };
+        let (lower, upper) = (integer_for(self, lower), integer_for(self, upper));
+        plain_ops::between(alloc, self, lower, upper, *options)
+    }
+
+    fn is_constant(&self, alloc: Global) -> Result<bool, FastLanesError> {
+        plain_ops::is_constant(alloc, self)
+    }
+
+    fn is_sorted(&self, alloc: Global, strict: bool) -> Result<bool, FastLanesError> {
+        plain_ops::is_sorted(alloc, self, strict)
+    }
+}

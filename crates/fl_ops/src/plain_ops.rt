@@ -1,0 +1,188 @@
+//! Operations and questions on arrays, answered by the plain array of the same column.
+
+ghost use Rattle.std.specs.Prelude.{◌≡◌, IsTrue, length};
+ghost use Rattle.fl_types.specs.Masks.{mask_len};
+ghost use Rattle.fl_types.specs.Refusals.{Answers};
+ghost use Rattle.fl_types.specs.Types.{has_ptype, is_integer};
+ghost use Rattle.fl_types.specs.Values.{integer_of, ptype_of_value};
+ghost use Rattle.fl_plain.specs.Columns.{column_of_bools, column_of_plain};
+ghost use Rattle.fl_plain.specs.Operations.{cast_column, filter_column, ranges_column, take_column};
+ghost use Rattle.fl_plain.specs.Questions.{between_column, compare_column, is_constant_column, is_sorted_column};
+ghost use Rattle.fl_array.specs.Trees.{column};
+
+use fl_array::ArrayRef;
+use fl_column::{
+    BetweenOptions, BoolArray, CompareOperator, DType, FastLanesError, Mask, PValue, PrimitiveArray,
+};
+use std::alloc::Global;
+
+/// The items that plain indices name.
+fn take_plain(
+    alloc: Global,
+    array: &ArrayRef,
+    indices: &PrimitiveArray,
+) -> Result<PrimitiveArray, FastLanesError>
+    ensures { Answers column_of_plain result (take_column (column_of_plain indices.now) (column array.now)) }
+{
+    if let Some(plain) = array.as_primitive() {
+        return plain.take(alloc, indices);
+    }
+    if let Some(copies) = array.as_constant() {
+        return copies.take(alloc, indices);
+    }
+    array.to_primitive(alloc)?.take(alloc, indices)
+}
+
+/// The items that indices name.
+pub(crate) fn take(
+    alloc: Global,
+    array: &ArrayRef,
+    indices: &ArrayRef,
+) -> Result<PrimitiveArray, FastLanesError>
+    ensures { Answers column_of_plain result (take_column (column indices.now) (column array.now)) }
+{
+    if let Some(indices) = indices.as_primitive() {
+        return take_plain(alloc, array, indices);
+    }
+    let DType::Primitive(_, _) = indices.dtype() else {
+        return Err(FastLanesError::NotInteger);
+    };
+    let indices = indices.to_primitive(alloc)?;
+    take_plain(alloc, array, &indices)
+}
+
+/// The items of the ranges.
+pub(crate) fn take_ranges(
+    alloc: Global,
+    array: &ArrayRef,
+    ranges: &[(usize, usize)],
+) -> Result<PrimitiveArray, FastLanesError>
+    ensures { Answers column_of_plain result (ranges_column ranges.now (column array.now)) }
+{
+    if let Some(plain) = array.as_primitive() {
+        return plain.take_ranges(alloc, ranges);
+    }
+    if let Some(copies) = array.as_constant() {
+        return copies.take_ranges(alloc, ranges);
+    }
+    let DType::Primitive(_, _) = array.dtype() else {
+        return Err(FastLanesError::NotInteger);
+    };
+    array.to_primitive(alloc)?.take_ranges(alloc, ranges)
+}
+
+/// The items at the mask's true places.
+pub(crate) fn filter(
+    alloc: Global,
+    array: &ArrayRef,
+    mask: &Mask,
+) -> Result<PrimitiveArray, FastLanesError>
+    requires { mask_len mask.now ≡ length (column array.now).items }
+    ensures { Answers column_of_plain result (filter_column mask.now (column array.now)) }
+{
+    if let Some(plain) = array.as_primitive() {
+        return plain.filter(alloc, mask);
+    }
+    if let Some(copies) = array.as_constant() {
+        return copies.filter(alloc, mask);
+    }
+    array.to_primitive(alloc)?.filter(alloc, mask)
+}
+
+/// The same integers in another type.
+pub(crate) fn cast(
+    alloc: Global,
+    array: &ArrayRef,
+    target: DType,
+) -> Result<PrimitiveArray, FastLanesError>
+    ensures { Answers column_of_plain result (cast_column target (column array.now)) }
+{
+    if let DType::Bool(_) = target {
+        return Err(FastLanesError::NotInteger);
+    }
+    if let Some(plain) = array.as_primitive() {
+        return plain.cast(alloc, target);
+    }
+    if let Some(copies) = array.as_constant() {
+        return copies.cast(alloc, target);
+    }
+    array.to_primitive(alloc)?.cast(alloc, target)
+}
+
+/// How each item compares with a constant.
+pub(crate) fn compare(
+    alloc: Global,
+    array: &ArrayRef,
+    operator: CompareOperator,
+    constant: PValue,
+) -> Result<BoolArray, FastLanesError>
+    requires integers { IsTrue (is_integer (column array.now).dtype) }
+    requires typed { IsTrue (has_ptype (ptype_of_value constant) (column array.now).dtype) }
+    ensures { Answers column_of_bools result (compare_column operator (integer_of constant) (column array.now)) }
+{
+    if let Some(plain) = array.as_primitive() {
+        return plain.compare(alloc, operator, constant);
+    }
+    if let Some(copies) = array.as_constant() {
+        return copies.compare(alloc, operator, constant);
+    }
+    array
+        .to_primitive(alloc)?
+        .compare(alloc, operator, constant)
+}
+
+/// Whether each item lies between two bounds.
+pub(crate) fn between(
+    alloc: Global,
+    array: &ArrayRef,
+    lower: PValue,
+    upper: PValue,
+    options: BetweenOptions,
+) -> Result<BoolArray, FastLanesError>
+    requires integers { IsTrue (is_integer (column array.now).dtype) }
+    requires lower { IsTrue (has_ptype (ptype_of_value lower) (column array.now).dtype) }
+    requires upper { IsTrue (has_ptype (ptype_of_value upper) (column array.now).dtype) }
+    ensures { Answers column_of_bools result (between_column (integer_of lower) (integer_of upper) options (column array.now)) }
+{
+    if let Some(plain) = array.as_primitive() {
+        return plain.between(alloc, lower, upper, options);
+    }
+    if let Some(copies) = array.as_constant() {
+        return copies.between(alloc, lower, upper, options);
+    }
+    array
+        .to_primitive(alloc)?
+        .between(alloc, lower, upper, options)
+}
+
+/// Whether all items are equal.
+pub(crate) fn is_constant(alloc: Global, array: &ArrayRef) -> Result<bool, FastLanesError>
+    ensures { Answers (λ b. b) result (is_constant_column (column array.now)) }
+{
+    if let Some(plain) = array.as_primitive() {
+        return Ok(plain.is_constant());
+    }
+    if let Some(copies) = array.as_constant() {
+        let _ptype = copies.ptype();
+        return Ok(copies.is_constant());
+    }
+    Ok(array.to_primitive(alloc)?.is_constant())
+}
+
+/// Whether no item is above the next or, where `strict`, each is below the next.
+pub(crate) fn is_sorted(
+    alloc: Global,
+    array: &ArrayRef,
+    strict: bool,
+) -> Result<bool, FastLanesError>
+    ensures { Answers (λ b. b) result (is_sorted_column strict (column array.now)) }
+{
+    if let Some(plain) = array.as_primitive() {
+        return Ok(plain.is_sorted(strict));
+    }
+    if let Some(copies) = array.as_constant() {
+        let _ptype = copies.ptype();
+        return Ok(copies.is_sorted(strict));
+    }
+    Ok(array.to_primitive(alloc)?.is_sorted(strict))
+}

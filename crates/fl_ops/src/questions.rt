@@ -1,0 +1,74 @@
+//! Questions to arrays.
+
+ghost use Rattle.std.specs.Prelude.{◌≡◌, IsTrue};
+ghost use Rattle.fl_types.specs.Refusals.{Answers};
+ghost use Rattle.fl_types.specs.Values.{cell_of};
+ghost use Rattle.fl_plain.specs.Questions.{scalar_of_column};
+ghost use Rattle.fl_array.specs.Trees.{column};
+ghost use Rattle.fl_ops.specs.Questions.{ask_column, may_ask, reply_of};
+
+use crate::array_ops::ArrayOps;
+use fl_array::ArrayRef;
+use fl_column::{BetweenOptions, BoolArray, CompareOperator, FastLanesError, Scalar};
+use std::alloc::Global;
+
+/// A question to an array.
+#[derive(Drop)]
+pub enum Query {
+    /// The item at an index.
+    ScalarAt(usize),
+    /// How each item compares with a constant.
+    Compare(CompareOperator, Scalar),
+    /// Whether each item lies between a lower and an upper bound.
+    Between(Scalar, Scalar, BetweenOptions),
+    /// Whether all items are equal.
+    IsConstant,
+    /// Whether no item is above the next or, where set, each is below the next.
+    IsSorted(bool),
+}
+
+/// An answer to a question.
+#[derive(Drop)]
+pub enum Answer {
+    /// An item.
+    Scalar(Scalar),
+    /// A truth value for each item, or a null.
+    Bools(BoolArray),
+    /// One truth value.
+    Bool(bool),
+}
+
+/// The item at an index, where there is one.
+fn scalar_within(alloc: Global, array: &ArrayRef, i: usize) -> Result<Scalar, FastLanesError>
+    ensures { Answers cell_of result (scalar_of_column i (column array.now)) }
+{
+    if i < array.len() {
+        array.scalar_at(alloc, i)
+    } else {
+        Err(FastLanesError::IndexOutOfBounds)
+    }
+}
+
+/// What an array answers to a question. The constants that a question compares with are of the
+/// array's type and no nulls.
+///
+/// # Errors
+/// `IndexOutOfBounds` for the item at an index that is not below the length; `NotInteger` for every
+/// other question to an array of truth values.
+#[tactic(auto, using(crate::proofs::Truths::first_true, crate::proofs::Truths::second_true))]
+pub fn ask(alloc: Global, array: &ArrayRef, query: &Query) -> Result<Answer, FastLanesError>
+    requires { IsTrue (may_ask (column array.now) query.now) }
+    ensures { Answers reply_of result (ask_column (column array.now) query.now) }
+{
+    match query {
+        Query::ScalarAt(i) => Ok(Answer::Scalar(scalar_within(alloc, array, *i)?)),
+        Query::Compare(operator, constant) => {
+            Ok(Answer::Bools(array.compare(alloc, *operator, constant)?))
+        }
+        Query::Between(lower, upper, options) => {
+            Ok(Answer::Bools(array.between(alloc, lower, upper, options)?))
+        }
+        Query::IsConstant => Ok(Answer::Bool(array.is_constant(alloc)?)),
+        Query::IsSorted(strict) => Ok(Answer::Bool(array.is_sorted(alloc, *strict)?)),
+    }
+}

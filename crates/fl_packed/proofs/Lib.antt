@@ -1,0 +1,9 @@
+pub mod Bounds
+pub mod ColumnLaws
+pub mod FoundBelow
+pub mod Joined
+pub mod Natives
+pub mod Order
+pub mod Lent
+pub mod Restores
+pub mod Slices

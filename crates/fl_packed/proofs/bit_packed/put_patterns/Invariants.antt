@@ -1,0 +1,18 @@
+use Rattle.std.proofs.Common.{◌≡◌, ℕ, ◌<◌, length, map}
+use Rattle.fastlanes.specs.Layout.{pattern_at}
+use Rattle.fl_packed.specs.Blocks.{pattern_in}
+use Rattle.fl_packed.proofs.bit_packed.put_patterns.Given as goal
+
+-- the patterns so far
+abbrev pub invariant-loop-i : goal.invariant-loop-i
+invariant-loop-i g l = record {
+  done : (k : ℕ) → k < l.i → pattern_at g.T.Physical.FastLanes.pattern l.patterns k ≡ pattern_in g.T.NativePType.PTYPE (map g.T.Number.value l.items) k;
+  whole : length l.patterns ≡ 1024;
+}
+
+-- the same, behind the integers
+abbrev pub invariant-loop-j : goal.invariant-loop-j
+invariant-loop-j g l = record {
+  done : (k : ℕ) → k < l.j → pattern_at g.T.Physical.FastLanes.pattern l.patterns k ≡ pattern_in g.T.NativePType.PTYPE (map g.T.Number.value l.items) k;
+  whole : length l.patterns ≡ 1024;
+}

@@ -1,0 +1,78 @@
+//! The boundaries of blocks that each have a width.
+
+ghost use Rattle.std.specs.Prelude.{◌≡◌, ◌*◌, ◌<◌, ◌^◌, ◌++◌, ◌∷◌, [], IfOk, Ok, OnOk, SomeIff, sum};
+ghost use Rattle.fl_types.specs.Integers.{smallest_type};
+ghost use Rattle.fl_types.specs.Refusals.{Answers};
+ghost use Rattle.fl_packed.specs.Blocks.{boundaries_of, boundary_array};
+
+use fastlanes::FL_CHUNK_SIZE;
+use fl_plain::PrimitiveArray;
+use fl_types::{DType, FastLanesError, Nullability, PType, Validity};
+use std::alloc::{AllocError, Global};
+
+/// How many bytes blocks of these widths have, unless they are more than `usize::MAX`.
+pub(crate) fn packed_size(widths: &[u8]) -> Option<usize>
+    ensures { SomeIff result (128 * sum widths.now < 2 ^ 64) (128 * sum widths.now) }
+{
+    let mut size = 0usize;
+    for width in widths {
+        match size.checked_add(FL_CHUNK_SIZE / 8 * usize::from(*width)) {
+            Some(more) => size = more,
+            None => return None,
+        }
+    }
+    Some(size)
+}
+
+/// The sums of `128 * width`, from 0 on.
+fn boundary_numbers(alloc: Global, widths: &[u8]) -> Result<Vec<u64>, AllocError>
+    requires { 128 * sum widths.now < 2 ^ 64 }
+    ensures { IfOk result (λ v. v.items ≡ boundaries_of widths.now) }
+{
+    let mut boundaries = Vec::with_capacity(alloc, widths.len().saturating_add(1))?;
+    let mut start = 0u64;
+    for width in widths {
+        push_number(&mut boundaries, start)?;
+        start += 128 * *width as u64;
+    }
+    push_number(&mut boundaries, start)?;
+    Ok(boundaries)
+}
+
+/// Adds a number.
+fn push_number(numbers: &mut Vec<u64>, number: u64) -> Result<(), AllocError>
+    ensures { OnOk result (numbers.new.items ≡ numbers.old.items ++ number ∷ []) }
+{
+    numbers.push(number)?;
+    Ok(())
+}
+
+/// The smallest unsigned type that holds a number.
+fn smallest_type(number: usize) -> PType
+    ensures { result ≡ smallest_type number }
+{
+    if number < 1 << 8 {
+        PType::U8
+    } else if number < 1 << 16 {
+        PType::U16
+    } else if number < 1 << 32 {
+        PType::U32
+    } else {
+        PType::U64
+    }
+}
+
+/// The boundaries of blocks of these widths, which have so many bytes, as an array of the smallest
+/// type that holds the last of them.
+pub(crate) fn boundary_array(
+    alloc: Global,
+    widths: &[u8],
+    size: usize,
+) -> Result<PrimitiveArray, FastLanesError>
+    requires { size ≡ 128 * sum widths.now }
+    ensures { Answers (λ a. a) result (Ok (boundary_array widths.now)) }
+{
+    let boundaries = boundary_numbers(alloc, widths)?;
+    let target = DType::Primitive(smallest_type(size), Nullability::NonNullable);
+    PrimitiveArray::new(boundaries, Validity::NonNullable)?.cast(alloc, target)
+}

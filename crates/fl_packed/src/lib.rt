@@ -1,0 +1,17 @@
+//! Columns of integers in packed blocks of 1024 items: packing them into bytes, and reading them
+//! back.
+#![tactic(auto)]
+
+mod bit_packed;
+mod bit_unpack_iterator;
+mod blocks;
+mod boundaries;
+pub mod decoding;
+pub mod laws;
+pub mod packing;
+mod patching;
+pub mod unpack_iter;
+mod unpacked_items;
+mod words;
+
+pub use crate::blocks::Widths;

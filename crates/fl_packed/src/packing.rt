@@ -1,0 +1,199 @@
+//! Packing columns into bytes.
+
+ghost use Rattle.std.specs.Prelude.{◌≡◌, ◌+◌, ◌-◌, ◌*◌, ◌<◌, ◌≤◌, ◌^◌, ℕ, ℤ, IfErr, IfOk, drop, length, map, slice_index, sum, take};
+ghost use Rattle.fastlanes.specs.Layout.{Packed, word_at};
+ghost use Rattle.fl_types.specs.Bits.{between};
+ghost use Rattle.fl_types.specs.Integers.{bits_of_type};
+ghost use Rattle.fl_types.specs.declared.error.FastLanesError.TheVariants.{OutOfMemory};
+ghost use Rattle.fl_patches.specs.PatchMaps.{chunk_count};
+ghost use Rattle.fl_packed.specs.Blocks.{AreJoined, AreWithin, ArePacked, boundary_array, bounded_blocks, boundaries_of, bytes_of_block, even_blocks, pattern_in};
+ghost use Rattle.fl_packed.specs.Widths.{blocks_of, NamesAll};
+
+use crate::bit_packed::BitPacked;
+use crate::blocks::{Widths, chunk_count};
+use crate::boundaries::{boundary_array, packed_size};
+use crate::words::put_words;
+use bytes::Bytes;
+use fastlanes::{FL_CHUNK_SIZE, FastLanes};
+use fl_plain::PrimitiveArray;
+use fl_types::{FastLanesError, NativePType, match_each_integer_ptype};
+use std::alloc::{AllocError, Global};
+
+/// Packs at most 1024 integers, behind which stands 0, into the bytes of a block. The block's words
+/// are lent as room.
+fn pack_bytes<T: BitPacked>(width: usize, items: &[T], words: &mut [T::Physical], bytes: &mut [u8])
+    requires width { width ≤ T.Physical.T }
+    requires few { length items.now ≤ 1024 }
+    requires room { length words.old ≡ width * T.Physical.LANES }
+    requires block { length bytes.old ≡ 128 * width }
+    ensures { Packed T.Physical.T T.Physical.LANES width (pattern_in T.PTYPE (map T.value items.now)) (word_at T.Physical.T bytes.new) }
+{
+    T::pack_block(width, items, words);
+    put_words(words, bytes);
+}
+
+/// Packs at most 1024 integers, behind which stands 0, into the bytes of the block that starts there.
+/// Words are lent as room.
+fn pack_at<T: BitPacked>(
+    width: usize,
+    items: &[T],
+    words: &mut [T::Physical],
+    start: usize,
+    bytes: &mut [u8],
+)
+    requires width { width ≤ T.Physical.T }
+    requires few { length items.now ≤ 1024 }
+    requires room { length words.old ≡ 1024 }
+    requires within { start + 128 * width ≤ length bytes.old }
+    ensures packed { Packed T.Physical.T T.Physical.LANES width (pattern_in T.PTYPE (map T.value items.now)) (word_at T.Physical.T (between start (start + 128 * width) bytes.new)) }
+    ensures before { (a b : ℕ) → b ≤ start → between a b bytes.new ≡ between a b bytes.old }
+{
+    let lanes = T::Physical::LANES;
+    let size = FL_CHUNK_SIZE / 8 * width;
+    pack_bytes(
+        width,
+        items,
+        &mut words[..width * lanes],
+        &mut bytes[start..start + size],
+    );
+}
+
+/// The items of chunk `j`, of which the last one may be short.
+fn chunk_of<T>(items: &[T], j: usize) -> &[T]
+    requires { 1024 * j < length items.now }
+    ensures chunk { result.now ≡ take 1024 (drop (1024 * j) items.now) }
+    ensures few { length result.now ≤ 1024 }
+{
+    let start = FL_CHUNK_SIZE * j;
+    let end = start + (items.len() - start).min(FL_CHUNK_SIZE);
+    &items[start..end]
+}
+
+/// Packs each block of these integers into its bytes.
+fn pack_blocks<T: BitPacked>(widths: Widths, items: &[T], bytes: &mut [u8])
+    requires names { NamesAll widths (chunk_count (length items.now)) }
+    requires within { AreWithin T.Physical.T (chunk_count (length items.now)) (length bytes.old) (blocks_of widths) }
+    requires joined { AreJoined (chunk_count (length items.now)) (length bytes.old) (blocks_of widths) }
+    ensures { (j : ℕ) → j < chunk_count (length items.now) → Packed T.Physical.T T.Physical.LANES ((blocks_of widths.entry).width j) (λ q. pattern_in T.PTYPE (map T.value items.now) (1024 * j + q)) (word_at T.Physical.T (bytes_of_block (blocks_of widths.entry) bytes.new j)) }
+{
+    T::Physical::in_memory();
+    let mut words = [T::Physical::zero(); FL_CHUNK_SIZE];
+    for j in 0..chunk_count(items.len()) {
+        let (start, width) = widths.block(j);
+        pack_at(width, chunk_of(items, j), &mut words, start, bytes);
+    }
+}
+
+/// So many bytes of 0.
+fn zero_bytes(alloc: Global, len: usize) -> Result<Vec<u8>, AllocError>
+    ensures { IfOk result (λ v. length v.items ≡ len) }
+{
+    vec![in alloc; 0u8; len]
+}
+
+/// These bytes, which have the room, with the packed blocks of these integers in them.
+fn with_blocks<T: BitPacked>(widths: Widths, items: &[T], mut bytes: Vec<u8>) -> Vec<u8>
+    requires names { NamesAll widths (chunk_count (length items.now)) }
+    requires within { AreWithin T.Physical.T (chunk_count (length items.now)) (length bytes.items) (blocks_of widths) }
+    requires joined { AreJoined (chunk_count (length items.now)) (length bytes.items) (blocks_of widths) }
+    ensures long { length result.items ≡ length bytes.items }
+    ensures each { (j : ℕ) → j < chunk_count (length items.now) → Packed T.Physical.T T.Physical.LANES ((blocks_of widths.entry).width j) (λ q. pattern_in T.PTYPE (map T.value items.now) (1024 * j + q)) (word_at T.Physical.T (bytes_of_block (blocks_of widths.entry) result.items j)) }
+{
+    pack_blocks(widths, items, &mut bytes);
+    bytes
+}
+
+fn pack_typed<T: BitPacked>(
+    alloc: Global,
+    array: &PrimitiveArray,
+    widths: Widths,
+    size: usize,
+) -> Result<Vec<u8>, AllocError>
+    requires typed { array.now.ptype ≡ T.PTYPE }
+    requires names { NamesAll widths (chunk_count (length array.now.slots)) }
+    requires within { AreWithin (bits_of_type array.now.ptype) (chunk_count (length array.now.slots)) size (blocks_of widths) }
+    requires joined { AreJoined (chunk_count (length array.now.slots)) size (blocks_of widths) }
+    ensures { IfOk result (λ v. ArePacked array.now.ptype array.now.slots (blocks_of widths.entry) v.items) }
+{
+    let zeros = zero_bytes(alloc, size)?;
+    let items = array.as_slice::<T>();
+    Ok(with_blocks(widths, items, zeros))
+}
+
+/// The packed low bits of an array's integers, as bytes of their own.
+fn pack_slots(
+    alloc: Global,
+    array: &PrimitiveArray,
+    widths: Widths,
+    size: usize,
+) -> Result<Vec<u8>, AllocError>
+    requires names { NamesAll widths (chunk_count (length array.now.slots)) }
+    requires within { AreWithin (bits_of_type array.now.ptype) (chunk_count (length array.now.slots)) size (blocks_of widths) }
+    requires joined { AreJoined (chunk_count (length array.now.slots)) size (blocks_of widths) }
+    ensures { IfOk result (λ v. ArePacked array.now.ptype array.now.slots (blocks_of widths.entry) v.items) }
+{
+    match_each_integer_ptype!(array.ptype(), pack_typed(alloc, array, widths, size))
+}
+
+/// The packed low bits of an array's integers, also of those under a null.
+fn pack_array(
+    alloc: Global,
+    array: &PrimitiveArray,
+    widths: Widths,
+    size: usize,
+) -> Result<Bytes, FastLanesError>
+    requires names { NamesAll widths (chunk_count (length array.now.slots)) }
+    requires within { AreWithin (bits_of_type array.now.ptype) (chunk_count (length array.now.slots)) size (blocks_of widths) }
+    requires joined { AreJoined (chunk_count (length array.now.slots)) size (blocks_of widths) }
+    ensures packed { IfOk result (λ b. ArePacked array.now.ptype array.now.slots (blocks_of widths.entry) b) }
+    ensures memory { IfErr result (λ e. e ≡ OutOfMemory) }
+{
+    let bytes = pack_slots(alloc, array, widths, size)?;
+    let packed = Bytes::from_vec(bytes)?;
+    Ok(packed)
+}
+
+/// The packed low `width` bits of an array's integers, also of those under a null, with 0 behind the
+/// last of them. The width is at most the type's bits.
+pub fn bitpack_unchecked(
+    alloc: Global,
+    array: &PrimitiveArray,
+    width: u8,
+) -> Result<Bytes, FastLanesError>
+    requires { width ≤ bits_of_type array.now.ptype }
+    ensures packed { IfOk result (λ b. ArePacked array.now.ptype array.now.slots (even_blocks width) b) }
+    ensures memory { IfErr result (λ e. e ≡ OutOfMemory) }
+{
+    let width = usize::from(width);
+    let size = FL_CHUNK_SIZE / 8 * width;
+    match size.checked_mul(chunk_count(array.len())) {
+        Some(size) => pack_array(alloc, array, Widths::Even(width), size),
+        None => Err(FastLanesError::OutOfMemory),
+    }
+}
+
+/// The packed low bits of an array's integers, also of those under a null, with 0 behind the last of
+/// them, at a width for each block of 1024; and the boundaries of the blocks.
+///
+/// There is a width for each block, and it is at most the type's bits. The boundaries are the sums of
+/// `128 * width` from 0 on, of the smallest type that holds the last one.
+pub fn bitpack_blocked_unchecked(
+    alloc: Global,
+    array: &PrimitiveArray,
+    widths: &[u8],
+) -> Result<(Bytes, PrimitiveArray), FastLanesError>
+    requires count { length widths.now ≡ chunk_count (length array.now.slots) }
+    requires narrow { (j : ℕ) → j < length widths.now → slice_index widths.now j ≤ bits_of_type array.now.ptype }
+    ensures packed { IfOk result (λ p. ArePacked array.now.ptype array.now.slots (bounded_blocks (boundaries_of widths.now)) p.0) }
+    ensures boundaries { IfOk result (λ p. p.1 ≡ boundary_array widths.now) }
+    ensures memory { IfErr result (λ e. e ≡ OutOfMemory) }
+{
+    match packed_size(widths) {
+        Some(size) => {
+            let boundaries = boundary_array(alloc, widths, size)?;
+            let packed = pack_array(alloc, array, Widths::Bounded(&boundaries), size)?;
+            Ok((packed, boundaries))
+        }
+        None => Err(FastLanesError::OutOfMemory),
+    }
+}

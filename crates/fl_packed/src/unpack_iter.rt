@@ -1,0 +1,352 @@
+//! Reading packed columns block by block.
+
+ghost use Rattle.std.specs.Prelude.{◌≡◌, ◌+◌, ◌-◌, ◌*◌, ◌<◌, ◌≤◌, ◌^◌, ℕ, None, Some, SomeIff, length, map, min};
+ghost use Rattle.fl_types.specs.Bits.{between};
+ghost use Rattle.fl_types.specs.Integers.{bits_of_type};
+ghost use Rattle.fl_patches.specs.PatchMaps.{chunk_count};
+ghost use Rattle.fl_packed.specs.Blocks.{AreWithin, block_item, even_blocks, item_of_blocks, value_at};
+ghost use Rattle.fl_packed.specs.Widths.{blocks_of, NamesAll};
+
+pub use crate::bit_packed::{BitCount, BitPacked};
+pub use crate::bit_unpack_iterator::BitUnpackIterator;
+use crate::blocks::{Widths, chunk_count};
+use crate::unpacked_items::Span;
+pub use crate::unpacked_items::UnpackedItems;
+use fastlanes::{FL_CHUNK_SIZE, Work};
+use fl_types::{FastLanesError, NativePType};
+use std::marker::Model;
+
+/// A way to unpack a block of integers of a type. The layout is the one way, and so the contract; a
+/// strategy may do more, as keep what it saw.
+pub trait UnpackStrategy<T: NativePType> {
+    /// Unpacks a block of `128 * bit_width` bytes. The bits of an item from `bit_width` on are 0, and
+    /// its pattern is read as the type.
+    fn unpack_chunk(
+        &self,
+        bit_width: usize,
+        chunk: &[u8],
+        dst: &mut [T; FL_CHUNK_SIZE],
+        work: &mut Work,
+    )
+        requires width { bit_width ≤ bits_of_type T.PTYPE }
+        requires block { length chunk.now ≡ 128 * bit_width }
+        ensures items { (i : ℕ) → i < 1024 → value_at T.value dst.new i ≡ block_item T.PTYPE bit_width chunk.now i }
+        ensures whole { length dst.new ≡ 1024 }
+        ensures blocks { work.new.blocks ≡ min (work.old.blocks + 1) u64.MAX }
+        ensures words { work.new.words ≡ work.old.words };
+}
+
+/// Unpacks by the kernels of the layout.
+#[derive(Clone, Copy)]
+pub struct BitPackingStrategy;
+
+impl<T: BitPacked> UnpackStrategy<T> for BitPackingStrategy {
+    fn unpack_chunk(
+        &self,
+        bit_width: usize,
+        chunk: &[u8],
+        dst: &mut [T; FL_CHUNK_SIZE],
+        work: &mut Work,
+    ) {
+        T::unpack_block(bit_width, chunk, dst, work);
+    }
+}
+
+/// The bytes of the block that starts there.
+pub(crate) fn block_at(packed: &[u8], start: usize, width: usize) -> &[u8]
+    requires { start + 128 * width ≤ length packed.now }
+    ensures bytes { result.now ≡ between start (start + 128 * width) packed.now }
+    ensures long { length result.now ≡ 128 * width }
+{
+    let size = FL_CHUNK_SIZE / 8 * width;
+    &packed[start..start + size]
+}
+
+/// Writes the items of a block from position `low` on. A whole block is unpacked straight into its
+/// place, another one by way of the scratch block.
+fn unpack_part<T: NativePType, S: UnpackStrategy<T>>(
+    strategy: &S,
+    width: usize,
+    block: &[u8],
+    low: usize,
+    items: &mut [T],
+    scratch: &mut [T; FL_CHUNK_SIZE],
+    work: &mut Work,
+)
+    requires width { width ≤ bits_of_type T.PTYPE }
+    requires block { length block.now ≡ 128 * width }
+    requires within { low + length items.old ≤ 1024 }
+    ensures items { (i : ℕ) → i < length items.old → value_at T.value items.new i ≡ block_item T.PTYPE width block.now (low + i) }
+    ensures blocks { work.new.blocks ≡ min (work.old.blocks + 1) u64.MAX }
+    ensures words { work.new.words ≡ work.old.words }
+{
+    match items.as_mut_array::<FL_CHUNK_SIZE>() {
+        Some(whole) => strategy.unpack_chunk(width, block, whole, work),
+        None => {
+            strategy.unpack_chunk(width, block, scratch, work);
+            let unpacked = &scratch[..];
+            items.copy_from_slice(&unpacked[low..low + items.len()]);
+        }
+    }
+}
+
+/// Where the items of block `j` stand: the position of the first of them in the block, and where they
+/// begin and end among all items.
+fn part_of(offset: usize, len: usize, j: usize) -> (usize, usize, usize)
+    requires offset { offset < 1024 }
+    requires some { 1024 * j < offset + len }
+    requires few { offset + len < 2 ^ 64 }
+    ensures low { result.0 ≡ offset - 1024 * j }
+    ensures from { result.1 ≡ 1024 * j - offset }
+    ensures to { result.2 ≡ min (1024 * (j + 1)) (offset + len) - offset }
+    ensures order { result.1 ≤ result.2 }
+    ensures room { result.2 ≤ len }
+    ensures part { result.0 + (result.2 - result.1) ≤ 1024 }
+{
+    let start = FL_CHUNK_SIZE * j;
+    let low = offset.saturating_sub(start);
+    let from = start.saturating_sub(offset);
+    (low, from, from + (len - from).min(FL_CHUNK_SIZE - low))
+}
+
+/// A count of blocks fits its type.
+fn count_fits(work: &Work)
+    ensures { work.now.blocks ≤ u64.MAX }
+{
+    let _blocks = work.blocks();
+}
+
+/// Writes the items of packed blocks from the offset on, each block unpacked once.
+pub(crate) fn unpack_blocks<T: NativePType, S: UnpackStrategy<T>>(
+    strategy: &S,
+    widths: Widths,
+    packed: &[u8],
+    offset: usize,
+    items: &mut [T],
+    scratch: &mut [T; FL_CHUNK_SIZE],
+    work: &mut Work,
+)
+    requires offset { offset < 1024 }
+    requires few { offset + length items.old < 2 ^ 64 }
+    requires names { NamesAll widths (chunk_count (offset + length items.old)) }
+    requires within { AreWithin (bits_of_type T.PTYPE) (chunk_count (offset + length items.old)) (length packed.now) (blocks_of widths) }
+    ensures items { (i : ℕ) → i < length items.old → value_at T.value items.new i ≡ item_of_blocks T.PTYPE (blocks_of widths.entry) packed.now (offset + i) }
+    ensures blocks { work.new.blocks ≡ min (work.old.blocks + chunk_count (offset + length items.old)) u64.MAX }
+    ensures words { work.new.words ≡ work.old.words }
+{
+    count_fits(work);
+    let len = items.len();
+    for j in 0..chunk_count(offset + len) {
+        let (start, width) = widths.block(j);
+        let (low, from, to) = part_of(offset, len, j);
+        let block = block_at(packed, start, width);
+        unpack_part(
+            strategy,
+            width,
+            block,
+            low,
+            &mut items[from..to],
+            scratch,
+            work,
+        );
+    }
+}
+
+/// A packed column that is read block by block: the items of a first block that is cut, or alone, the
+/// items of a last one that is cut, and all of them at once. It keeps no state but its `Work`.
+#[derive(Drop)]
+pub struct UnpackedChunks<'a, T: BitCount, S> {
+    strategy: S,
+    packed: &'a [u8],
+    bit_width: usize,
+    offset: usize,
+    len: usize,
+    scratch: &'a mut [T; FL_CHUNK_SIZE],
+    work: Work,
+}
+
+impl<'a, T: BitCount, S> Model for UnpackedChunks<'a, T, S> {
+    ghost use Rattle.fl_packed.specs.Readers.{Reader, IsReader};
+
+    ghost Value = { Reader };
+
+    ghost view = { λ c. record { packed = c.packed.now; bit_width = c.bit_width; offset = c.offset; len = c.len; work = c.work } };
+
+    ghost invariant = { λ c. IsReader T.TYPE_BITS c.packed.now c.bit_width c.offset c.len };
+}
+
+impl<'a, T: BitPacked, S: UnpackStrategy<T> + Drop> UnpackedChunks<'a, T, S> {
+    ghost use Rattle.std.specs.Prelude.{◌≡◌, ◌+◌, ◌-◌, ◌*◌, ◌<◌, ◌≤◌, ℕ, None, Some, length, min};
+    ghost use Rattle.std.specs.Borrow.{sem};
+    ghost use Rattle.fl_types.specs.Integers.{bits_of_type};
+    ghost use Rattle.fl_packed.specs.Blocks.{even_blocks, item_of_blocks, value_at};
+    ghost use Rattle.fl_packed.specs.Readers.{Reader, after_initial, after_trailer, blocks_read, initial_items, new_reader, trailer_items, unpacked_one};
+    ghost use Rattle.fl_packed.specs.WholeBlocks.{items_at};
+    ghost use Rattle.fl_packed.specs.Lending.{lends_items};
+    ghost use Rattle.fl_packed.specs.Lent.{integers_lent};
+
+    /// Unpacks a block, and lends its items at these positions.
+    fn lend_block(&mut self, j: usize, span: Span) -> UnpackedItems<'_, T>
+        requires block { j < blocks_read self.old }
+        requires order { span.from ≤ span.to }
+        requires within { span.to ≤ 1024 }
+        ensures* after { sem 𝓛 (lends_items T.row S.row T.BitCount self.entry (unpacked_one self.old) result) }
+        ensures items { integers_lent T.value result ≡ Some (items_at T.PTYPE self.old.bit_width self.old.packed (1024 * j + span.from) (span.to - span.from)) }
+    {
+        T::fits_in_memory();
+        let block = block_at(
+            self.packed,
+            FL_CHUNK_SIZE / 8 * self.bit_width * j,
+            self.bit_width,
+        );
+        self.strategy
+            .unpack_chunk(self.bit_width, block, self.scratch, &mut self.work);
+        UnpackedItems {
+            block: &mut *self.scratch,
+            span: Some(span),
+        }
+    }
+
+    /// Lends no items.
+    fn lend_none(&mut self) -> UnpackedItems<'_, T>
+        ensures* after { sem 𝓛 (lends_items T.row S.row T.BitCount self.entry self.old result) }
+        ensures items { integers_lent T.value result ≡ None }
+    {
+        UnpackedItems {
+            block: &mut *self.scratch,
+            span: None,
+        }
+    }
+
+    /// The items of the first block, where it is cut in front or the only one, and else none. They are
+    /// lent until the reader is used again, and are the same at every call.
+    pub fn initial(&mut self) -> UnpackedItems<'_, T>
+        ensures* after { sem 𝓛 (lends_items T.row S.row T.BitCount self.entry (after_initial self.old) result) }
+        ensures items { integers_lent T.value result ≡ initial_items T.PTYPE self.old }
+    {
+        let end = self.offset + self.len;
+        if self.offset == 0 && chunk_count(end) != 1 {
+            return self.lend_none();
+        }
+        let span = Span::new(self.offset, end.min(FL_CHUNK_SIZE));
+        self.lend_block(0, span)
+    }
+
+    /// The items of the last block, where it is cut behind and not the only one, and else none. They
+    /// are lent until the reader is used again, and are the same at every call.
+    pub fn trailer(&mut self) -> UnpackedItems<'_, T>
+        ensures* after { sem 𝓛 (lends_items T.row S.row T.BitCount self.entry (after_trailer self.old) result) }
+        ensures items { integers_lent T.value result ≡ trailer_items T.PTYPE self.old }
+    {
+        let end = self.offset + self.len;
+        let cut = end % FL_CHUNK_SIZE;
+        if cut == 0 || end < FL_CHUNK_SIZE {
+            return self.lend_none();
+        }
+        let span = Span::new(0, cut);
+        self.lend_block(end / FL_CHUNK_SIZE, span)
+    }
+
+    /// A reader of a column of so many items from the offset on, whose blocks have one width, at most
+    /// the type's bits. The strategy unpacks the blocks; the scratch block is lent as room.
+    ///
+    /// # Errors
+    /// `OffsetTooLarge` where the offset is 1024 or more. Then `LengthOverflow` where offset and length
+    /// together, rounded up to whole blocks, are above `usize::MAX`. Then `PackedLength` where the bytes
+    /// are not those of the blocks.
+    pub fn try_new_with_strategy(
+        strategy: S,
+        packed: &'a [u8],
+        bit_width: usize,
+        offset: usize,
+        len: usize,
+        scratch: &'a mut [T; FL_CHUNK_SIZE],
+    ) -> Result<Self, FastLanesError>
+        requires { bit_width ≤ bits_of_type T.PTYPE }
+        ensures { result ≡ new_reader packed.now bit_width offset len }
+    {
+        if offset >= FL_CHUNK_SIZE {
+            return Err(FastLanesError::OffsetTooLarge);
+        }
+        let Some(blocks) = whole_blocks(offset, len) else {
+            return Err(FastLanesError::LengthOverflow);
+        };
+        if packed.len() as u128 != (FL_CHUNK_SIZE / 8 * bit_width) as u128 * blocks as u128 {
+            return Err(FastLanesError::PackedLength);
+        }
+        Ok(UnpackedChunks {
+            strategy,
+            packed,
+            bit_width,
+            offset,
+            len,
+            scratch,
+            work: Work::new(),
+        })
+    }
+
+    /// The blocks that were unpacked so far.
+    pub fn work(&self) -> &Work
+        ensures { result.now ≡ self.now.work }
+    {
+        &self.work
+    }
+
+    /// Writes all items, each block unpacked once, a whole one straight into its place.
+    pub fn decode_into(&mut self, output: &mut [T])
+        requires { length output.old ≡ self.old.len }
+        ensures items { (i : ℕ) → i < length output.old → value_at T.value output.new i ≡ item_of_blocks T.PTYPE (even_blocks self.old.bit_width) self.old.packed (self.old.offset + i) }
+        ensures blocks { self.new.work.blocks ≡ min (self.old.work.blocks + blocks_read self.old) u64.MAX }
+        ensures words { self.new.work.words ≡ self.old.work.words }
+        ensures same { self.new ≡ record self.old { work = self.new.work } }
+    {
+        T::fits_in_memory();
+        unpack_blocks(
+            &self.strategy,
+            Widths::Even(self.bit_width),
+            self.packed,
+            self.offset,
+            output,
+            self.scratch,
+            &mut self.work,
+        );
+    }
+}
+
+impl<'a, T: BitPacked> UnpackedChunks<'a, T, BitPackingStrategy> {
+    ghost use Rattle.std.specs.Prelude.{◌≡◌};
+    ghost use Rattle.fl_packed.specs.Readers.{whole_blocks};
+
+    /// The blocks that neither `initial` nor `trailer` lends, with a `Work` of their own. They are the
+    /// same at every call.
+    pub fn full_chunks(&self) -> BitUnpackIterator<'_, T>
+        ensures { result ≡ whole_blocks self.now }
+    {
+        let end = self.offset + self.len;
+        let blocks = chunk_count(end);
+        let starts_cut = self.offset != 0 || blocks == 1;
+        let ends_cut = end % FL_CHUNK_SIZE != 0 && blocks > 1;
+        BitUnpackIterator::new(
+            self.packed,
+            [T::zero(); FL_CHUNK_SIZE],
+            self.bit_width,
+            FL_CHUNK_SIZE * self.bit_width / T::TYPE_BITS,
+            blocks - usize::from(ends_cut),
+            starts_cut,
+            Work::new(),
+        )
+    }
+}
+
+/// How many whole blocks hold so many items from the offset on, unless their positions are more than
+/// `usize::MAX`.
+fn whole_blocks(offset: usize, len: usize) -> Option<usize>
+    ensures { SomeIff result (1024 * chunk_count (offset + len) < 2 ^ 64) (chunk_count (offset + len)) }
+{
+    let end = offset.checked_add(len)?;
+    let blocks = chunk_count(end);
+    if blocks > usize::MAX / FL_CHUNK_SIZE {
+        return None;
+    }
+    Some(blocks)
+}

@@ -1,0 +1,201 @@
+-- Exceptions that are found one by one.
+use Rattle.std.proofs.Common.{◌≡◌, ℕ, ℤ, pos, suc, ◌+◌, ◌-◌, ◌*◌, ◌<◌, ◌≤◌, ◌^◌, Bool, true, false, cond, List, [], ◌∷◌, ◌++◌, length, map, take, drop, get_or, Option, Some, None, min, refl, ap, sym, subst, ◌∙◌, arith, nat_lt, le_trans, inl, inr, ◌⊎◌, zero-add}
+use Rattle.std.proofs.lemmas.Bool.{cases_Bool, le-ltb, lt-ltb}
+use Rattle.std.proofs.lemmas.List.{append-nil, append_assoc, get_or-map, length-append, length-map, length-take, length-drop, map-append, get_or-drop, get_or-take, get_or_default, take-map, drop-map}
+use Rattle.fl_types.specs.declared.dtype.PType.{PType}
+use Rattle.fl_types.specs.declared.validity.Validity.{Validity}
+use Rattle.fl_types.specs.Bits.{between}
+use Rattle.fl_types.specs.Integers.{pattern_of}
+use Rattle.fl_types.specs.Validities.{covers, is_valid_at, items_of}
+use Rattle.fl_patches.specs.PatchMaps.{places_from, values_in}
+use Rattle.std.proofs.lemmas.List.{take_all}
+use Rattle.std.proofs.lemmas.List.FromFn.{map-range_with_len_more}
+use Rattle.fl_patches.proofs.Sparse.{places-append, places_even, values-append}
+use Rattle.fl_widths.proofs.Blocks.{exceptions_between, length-exceptions, take_between, take_to_block}
+use Rattle.fl_plain.proofs.ItemLaws.{length-items_of, null_item_read, valid_item_read}
+use Rattle.fl_widths.proofs.Histograms.{between_empty, between_next}
+use Rattle.fl_widths.specs.Exceptions.{bit_count, bits_of_item, exception, exceptions_of}
+use Rattle.fl_widths.specs.PatchParts.{AreGathered, HasBlocks, counts_before}
+use Rattle.fl_widths.proofs.BitCounts.{bit_count-le}
+use Rattle.std.proofs.Common.{IsTrue, ◌/◌}
+
+pub gathered_none : (places : List ℕ) (values : List ℤ) → places ≡ [] → values ≡ [] → AreGathered places values []
+gathered_none places values e f = record { placed = e; valued = f }
+
+-- nothing at a place
+pub gathered_skip : (places : List ℕ) (values : List ℤ) (before : List (Option ℤ)) → AreGathered places values before → AreGathered places values (before ++ None ∷ [])
+gathered_skip places values before so = record {
+  placed = so.placed ∙ sym (places-append 0 before (None ∷ []) ∙ append-nil (places_from 0 before));
+  valued = so.valued ∙ sym (values-append before (None ∷ []) ∙ append-nil (values_in before));
+}
+
+-- an exception at a place
+pub gathered_push : (places : List ℕ) (values : List ℤ) (before : List (Option ℤ)) (place : ℕ) (z : ℤ) → length before ≡ place → AreGathered places values before → AreGathered (places ++ place ∷ []) (values ++ z ∷ []) (before ++ Some z ∷ [])
+gathered_push places values before place z len so =
+    let at : 0 + length before ≡ place = omega arith in
+    record {
+      placed = rw (so.placed, ← at) (sym (places-append 0 before (Some z ∷ [])));
+      valued = rw so.valued (sym (values-append before (Some z ∷ [])));
+    }
+
+-- the same, of the lists that were pushed to
+pub gathered_pushed : {X : Type 0} (value : X → ℤ) (places places' : List ℕ) (values values' : List X) (before : List (Option ℤ)) (place : ℕ) (x : X) → places' ≡ places ++ place ∷ [] → values' ≡ values ++ x ∷ [] → length before ≡ place
+    → AreGathered places (map value values) before → AreGathered places' (map value values') (before ++ Some (value x) ∷ [])
+gathered_pushed value places places' values values' before place x e f len so =
+    rw (e, f, map-append value values (x ∷ [])) (gathered_push places (map value values) before place (value x) len so)
+
+-- ---- whether an item is an exception
+cond_same : {A : Type 0} (b : Bool) (x : A) → cond b x x ≡ x
+cond_same true x = refl
+cond_same false x = refl
+
+pub exception_null : (t : PType) (w : ℕ) (item : Option ℤ) → item ≡ None → exception t w item ≡ None
+exception_null t w item e = rw e (cond_same (nat_lt w 0) None)
+
+pub exception_few : (t : PType) (w : ℕ) (item : Option ℤ) → bits_of_item t item ≤ w → exception t w item ≡ None
+exception_few t w item few = rw (le-ltb w (bits_of_item t item) few) refl
+
+pub exception_many : (t : PType) (w : ℕ) (item : Option ℤ) → w < bits_of_item t item → exception t w item ≡ item
+exception_many t w item many = rw (lt-ltb w (bits_of_item t item) many) refl
+
+-- an item is its value, or null
+pub item_cases : {X : Type 0} (value : X → ℤ) (v : Validity) (xs : List X) (i : ℕ) (x : X) → IsTrue (covers v (length xs)) → i < length xs → x ≡ get_or xs i x
+    → (get_or (items_of v (map value xs)) i None ≡ Some (value x)) ⊎ (get_or (items_of v (map value xs)) i None ≡ None)
+item_cases value v xs i x covered h read = elim (cases_Bool (is_valid_at v i)) [
+  | inl here ↦ inl (valid_item_read value v xs i x covered h here read)
+  | inr gone ↦ inr (null_item_read value v xs i covered h gone)
+]
+
+-- an item with more bits than the width, or a null above them
+pub exception_hit : {X : Type 0} (t : PType) (value : X → ℤ) (v : Validity) (xs : List X) (i w : ℕ) (x : X) → IsTrue (covers v (length xs)) → i < length xs → x ≡ get_or xs i x → w < bit_count (pattern_of t (value x))
+    → get_or (items_of v (map value xs)) i None ≡ exception t w (get_or (items_of v (map value xs)) i None)
+exception_hit t value v xs i w x covered h read many = elim (item_cases value v xs i x covered h read) [
+  | inl some ↦ rw some (sym (exception_many t w (Some (value x)) many))
+  | inr none ↦ rw none (sym (exception_null t w None refl))
+]
+
+-- an item with no more bits than the width
+pub exception_miss : {X : Type 0} (t : PType) (value : X → ℤ) (v : Validity) (xs : List X) (i w : ℕ) (x : X) → IsTrue (covers v (length xs)) → i < length xs → x ≡ get_or xs i x → bit_count (pattern_of t (value x)) ≤ w
+    → exception t w (get_or (items_of v (map value xs)) i None) ≡ None
+exception_miss t value v xs i w x covered h read few = elim (item_cases value v xs i x covered h read) [
+  | inl some ↦ rw some (exception_few t w (Some (value x)) few)
+  | inr none ↦ exception_null t w _ none
+]
+
+-- ---- a part of the items
+no_places : {A : Type 0} (n : ℕ) (xs : List (Option A)) → ((i : ℕ) → i < length xs → get_or xs i None ≡ None) → (places_from n xs ≡ []) × (values_in xs ≡ [])
+no_places n [] nothing = (refl, refl)
+no_places n (None ∷ xs) nothing = no_places (n + 1) xs (λ i h. nothing (suc i) (omega arith))
+no_places n (Some x ∷ xs) nothing = let first : Some x ≡ None = nothing 0 (omega arith) in absurd (cc)
+
+-- a part without exceptions
+pub gathered_nothing : (places : List ℕ) (values : List ℤ) (before part : List (Option ℤ)) → ((i : ℕ) → i < length part → get_or part i None ≡ None) → AreGathered places values before → AreGathered places values (before ++ part)
+gathered_nothing places values before part nothing so = record {
+  placed = so.placed ∙ sym (places-append 0 before part ∙ (ap (λ ys. places_from 0 before ++ ys) (no_places (0 + length before) part nothing).0 ∙ append-nil (places_from 0 before)));
+  valued = so.valued ∙ sym (values-append before part ∙ (ap (λ ys. values_in before ++ ys) (no_places 0 part nothing).1 ∙ append-nil (values_in before)));
+}
+
+-- the items so far, and one more
+pub part_more : (t : PType) (w : ℕ) (xs : List (Option ℤ)) (start i : ℕ) (before : List (Option ℤ)) (e : Option ℤ) → start ≤ i → i < length xs → e ≡ exception t w (get_or xs i None)
+    → (before ++ map (exception t w) (between start i xs)) ++ e ∷ [] ≡ before ++ map (exception t w) (between start (i + 1) xs)
+part_more t w xs start i before e order h is =
+    rw (is, between_next xs start i None order h, map-append) (append_assoc before (map (exception t w) (between start i xs)) (exception t w (get_or xs i None) ∷ []))
+
+pub part_length : (t : PType) (w : ℕ) (xs : List (Option ℤ)) (start i : ℕ) (before : List (Option ℤ)) → length before ≡ start → start ≤ i → i ≤ length xs → length (before ++ map (exception t w) (between start i xs)) ≡ i
+part_length t w xs start i before len order h =
+    omega (arith, length-append before (map (exception t w) (between start i xs)), length-map (between start i xs) (exception t w), length-take (i - start) (drop start xs), length-drop start xs)
+
+pub part_none : (t : PType) (w : ℕ) (xs : List (Option ℤ)) (start : ℕ) (before : List (Option ℤ)) → before ≡ before ++ map (exception t w) (between start start xs)
+part_none t w xs start before = rw (between_empty xs start) (sym (append-nil before))
+
+pub gathered_as : (places : List ℕ) (values : List ℤ) (xs ys : List (Option ℤ)) → xs ≡ ys → AreGathered places values xs → AreGathered places values ys
+gathered_as places values xs ys e so = subst (λ zs. AreGathered places values zs) e so
+
+-- an item of a part, seen through its value
+read_part : {X : Type 0} (value : X → ℤ) (xs : List X) (start n i : ℕ) → i < n → get_or (map value (take n (drop start xs))) i (pos 0) ≡ get_or (map value xs) (start + i) (pos 0)
+read_part value xs start n i h =
+    rw (← take-map, ← drop-map) (get_or-take n (drop start (map value xs)) i (pos 0) h ∙ get_or-drop start (map value xs) i (pos 0))
+
+exception_part : {X : Type 0} (t : PType) (value : X → ℤ) (v : Validity) (xs : List X) (i w : ℕ) → IsTrue (covers v (length xs)) → i < length xs → bit_count (pattern_of t (get_or (map value xs) i (pos 0))) ≤ w
+    → exception t w (get_or (items_of v (map value xs)) i None) ≡ None
+exception_part t value v [] i w covered h few = absurd (omega arith)
+exception_part t value v (x ∷ xs) i w covered h few =
+    let read : get_or (x ∷ xs) i x ≡ get_or (x ∷ xs) i (get_or (x ∷ xs) i x) = get_or_default (x ∷ xs) i x (get_or (x ∷ xs) i x) h in
+    let same : get_or (map value (x ∷ xs)) i (pos 0) ≡ value (get_or (x ∷ xs) i x) = get_or-map value (x ∷ xs) i x (pos 0) h in
+    exception_miss t value v (x ∷ xs) i w (get_or (x ∷ xs) i x) covered h read (rw same at few)
+
+-- a part whose patterns have together no more bits than the width
+pub gathered_few : {X : Type 0} (t : PType) (value : X → ℤ) (v : Validity) (xs : List X) (start end w union : ℕ) (places : List ℕ) (values : List ℤ) (before : List (Option ℤ)) → IsTrue (covers v (length xs)) → start ≤ end → end ≤ length xs → union < 2 ^ 64
+    → ((i : ℕ) → i < length (take (end - start) (drop start xs)) → pattern_of t (get_or (map value (take (end - start) (drop start xs))) i (pos 0)) ≤ union) → bit_count union ≤ w
+    → AreGathered places values before → AreGathered places values (before ++ map (exception t w) (between start end (items_of v (map value xs))))
+gathered_few {X} t value v xs start end w union places values before covered order room fits under few so =
+    let items : List (Option ℤ) = items_of v (map value xs) in
+    let count : length items ≡ length xs = length-items_of v (map value xs) (rw length-map covered) ∙ length-map xs value in
+    gathered_nothing places values before (map (exception t w) (between start end items)) (λ i h.
+    let within : i < end - start = omega (arith, length-map (between start end items) (exception t w), length-take (end - start) (drop start items)) in
+    let at : start + i < length xs = omega arith in
+    let item : get_or (between start end items) i None ≡ get_or items (start + i) None = get_or-take (end - start) (drop start items) i None within ∙ get_or-drop start items i None in
+    let there : get_or (map (exception t w) (between start end items)) i None ≡ exception t w (get_or (between start end items) i None) = get_or-map (exception t w) (between start end items) i None None (omega (arith, length-take (end - start) (drop start items), length-drop start items)) in
+    let small : bit_count (pattern_of t (get_or (map value xs) (start + i) (pos 0))) ≤ w =
+    (let part : length (take (end - start) (drop start xs)) ≡ end - start = omega (arith, length-take (end - start) (drop start xs), length-drop start xs) in
+    let below : pattern_of t (get_or (map value (take (end - start) (drop start xs))) i (pos 0)) ≤ union = under i (omega arith) in
+    let same : get_or (map value (take (end - start) (drop start xs))) i (pos 0) ≡ get_or (map value xs) (start + i) (pos 0) = read_part value xs start (end - start) i within in
+    le_trans (bit_count-le _ union (rw (← same) below) fits) few) in
+    there ∙ (ap (exception t w) item ∙ exception_part t value v xs (start + i) w covered at small)) so
+
+-- there is an item for each value
+pub covered_values : {X : Type 0} (value : X → ℤ) (v : Validity) (xs : List X) → IsTrue (covers v (length xs)) → length (items_of v (map value xs)) ≡ length xs
+covered_values value v xs covered = length-items_of v (map value xs) (rw length-map covered) ∙ length-map xs value
+
+-- ---- blocks
+-- a block more
+blocks_more : (t : PType) (width_at : ℕ → ℕ) (w : ℕ) (items : List (Option ℤ)) (block end : ℕ) (places places' : List ℕ) (values values' : List ℤ) → 1024 * block < length items → end ≡ 1024 * block + min (length items - 1024 * block) 1024
+    → ((i : ℕ) → 1024 * block ≤ i → i < 1024 * (block + 1) → width_at i ≡ w)
+    → ((before : List (Option ℤ)) → length before ≡ 1024 * block → AreGathered places values before → AreGathered places' values' (before ++ map (exception t w) (between (1024 * block) end items)))
+    → AreGathered places values (take (1024 * block) (exceptions_of t width_at items)) → AreGathered places' values' (take (1024 * (block + 1)) (exceptions_of t width_at items))
+blocks_more t width_at w items block end places places' values values' begun ends same step so =
+    let all : List (Option ℤ) = exceptions_of t width_at items in
+    let start = 1024 * block in
+    let count : length all ≡ length items = length-exceptions t width_at items in
+    let before : length (take start all) ≡ start = omega (arith, length-take start all) in
+    let part : map (exception t w) (between start end items) ≡ between start end all = sym (exceptions_between t width_at w items start end (λ i h l. same i h (omega arith))) in
+    let joined : take start all ++ map (exception t w) (between start end items) ≡ take end all = ap (λ ys. take start all ++ ys) part ∙ sym (take_between all start end (omega arith)) in
+    let whole : take end all ≡ take (1024 * (block + 1)) all = take_to_block all block end (omega arith) (ends ∙ ap (λ n. start + min (n - start) 1024) (sym count)) in
+    gathered_as places' values' _ _ (joined ∙ whole) (step (take start all) before so)
+
+-- an offset more
+counts_more : (items : List (Option ℤ)) (block had : ℕ) (offsets offsets' : List ℕ) → had ≡ length (values_in (take (1024 * block) items)) → offsets' ≡ offsets ++ had ∷ [] → offsets ≡ counts_before items block → offsets' ≡ counts_before items (block + 1)
+unfolding counts_before
+counts_more items block had offsets offsets' is added so =
+    rw (added, so, is) (sym (map-range_with_len_more (λ k. length (values_in (take (1024 * k) items))) 0 block block (zero-add block)))
+
+-- before the first block
+pub blocks_none : (places : List ℕ) (values : List ℤ) (offsets : List ℕ) (items : List (Option ℤ)) → AreGathered places values [] → offsets ≡ [] → HasBlocks places values offsets items 0
+unfolding counts_before
+blocks_none places values offsets items so none = record { gathered = so; counted = none }
+
+-- a block and its offset more
+pub blocks_pushed : {X : Type 0} (t : PType) (value : X → ℤ) (v : Validity) (xs : List X) (width_at : ℕ → ℕ) (w block size had : ℕ) (places places' : List ℕ) (values values' : List ℤ) (offsets offsets' : List ℕ) → IsTrue (covers v (length xs)) → 1024 * block < length xs → size ≡ min (length xs - 1024 * block) 1024
+    → had ≡ length places → offsets' ≡ offsets ++ had ∷ []
+    → ((i : ℕ) → 1024 * block ≤ i → i < 1024 * (block + 1) → width_at i ≡ w)
+    → ((before : List (Option ℤ)) → length before ≡ 1024 * block → AreGathered places values before → AreGathered places' values' (before ++ map (exception t w) (between (1024 * block) (1024 * block + size) (items_of v (map value xs)))))
+    → HasBlocks places values offsets (exceptions_of t width_at (items_of v (map value xs))) block → HasBlocks places' values' offsets' (exceptions_of t width_at (items_of v (map value xs))) (block + 1)
+blocks_pushed t value v xs width_at w block size had places places' values values' offsets offsets' covered begun sized is added same step so =
+    let items : List (Option ℤ) = items_of v (map value xs) in
+    let all : List (Option ℤ) = exceptions_of t width_at items in
+    let count : length items ≡ length xs = covered_values value v xs covered in
+    record {
+      gathered = blocks_more t width_at w items block (1024 * block + size) places places' values values' (omega arith) (ap (λ n. 1024 * block + n) (sized ∙ ap (λ n. min (n - 1024 * block) 1024) (sym count))) same step so.gathered;
+      counted = counts_more all block had offsets offsets' (is ∙ (ap length so.gathered.placed ∙ sym (places_even 0 (take (1024 * block) all)))) added so.counted;
+    }
+
+-- the width of a place in a block
+pub block_of_place : (widths : List ℕ) (block w i : ℕ) → w ≡ get_or widths block 0 → 1024 * block ≤ i → i < 1024 * (block + 1) → get_or widths (i / 1024) 0 ≡ w
+block_of_place widths block w i is low high = let same : i / 1024 ≡ block = omega arith in rw same (sym is)
+
+-- all exceptions are found
+pub all_found : {X : Type 0} (t : PType) (value : X → ℤ) (v : Validity) (xs : List X) (width_at : ℕ → ℕ) (block : ℕ) (places : List ℕ) (values : List ℤ) (offsets : List ℕ) → IsTrue (covers v (length xs)) → length xs ≤ 1024 * block
+    → HasBlocks places values offsets (exceptions_of t width_at (items_of v (map value xs))) block → AreGathered places values (exceptions_of t width_at (items_of v (map value xs)))
+all_found t value v xs width_at block places values offsets covered room so =
+    let all : List (Option ℤ) = exceptions_of t width_at (items_of v (map value xs)) in
+    gathered_as places values _ all (take_all (1024 * block) all (omega (arith, length-exceptions t width_at (items_of v (map value xs)), covered_values value v xs covered))) so.gathered

@@ -1,0 +1,11 @@
+use Rattle.std.proofs.Common.{◌≡◌, length, map, arith}
+use Rattle.std.proofs.lemmas.Result.{on_ok_weaker}
+use Rattle.fl_widths.proofs.Gathers.{blocks_pushed}
+use Rattle.fl_widths.proofs.gathering.Found.push_block.Goals as goal
+
+pub returns : goal.returns
+returns g c = on_ok_weaker c.push_part.result
+    (λ step width_at same so.
+    blocks_pushed g.T.NativePType.PTYPE g.T.Number.value c.args.validity.now c.args.items.now width_at c.args.width c.args.block c.min-size.result c.len.result c.args.self.now.places.items c.push_part.new.self.places.items (map g.T.Number.value c.args.self.now.values.items) (map g.T.Number.value c.push_part.new.self.values.items) c.args.offsets.now.items c.push.new.self.items
+    c.requires.covers c.requires.begun c.min-size.ensures (let had : c.len.result ≡ length c.args.self.now.places.items = omega (arith, c.len.ensures, c.args.self.now.places.ok) in had) c.in_ok-push.ensures.items same step so)
+    c.push_part.ensures

@@ -1,0 +1,267 @@
+//! The patches of the items that a width leaves out.
+
+ghost use Rattle.std.specs.Prelude.{◌≡◌, ◌+◌, ◌*◌, ◌/◌, ◌<◌, ◌≤◌, ◌^◌, ◌++◌, ◌∷◌, [], ℕ, ℤ, pos, List, Option, IfOk, IsTrue, OnOk, None, Ok, length, map, min, option_map, slice_index, slice_index_or};
+ghost use Rattle.fl_types.specs.Bits.{between, table};
+ghost use Rattle.fl_types.specs.Integers.{pattern_of, smallest_type};
+ghost use Rattle.fl_types.specs.Refusals.{Answers};
+ghost use Rattle.fl_types.specs.Validities.{covers, items_of, nullability_of};
+ghost use Rattle.fl_types.specs.declared.validity.Validity.TheVariants as valid;
+ghost use Rattle.fl_patches.specs.PatchMaps.{ArePatches, chunk_count, full_validity, places_from};
+ghost use Rattle.fl_widths.specs.Exceptions.{bit_count, exception, exceptions_of, one_width, width_of_block};
+ghost use Rattle.fl_widths.specs.PatchParts.{AreChunked, AreGathered, HasBlocks, blocked_patches, counts_before, exception_at, exception_patches, global_patches, patches_with};
+
+use crate::index_types::{index_array, number_array};
+use crate::patterns::{Pattern, bit_count, bits_of};
+use fastlanes::FL_CHUNK_SIZE;
+use fl_patches::Patches;
+use fl_plain::{PrimitiveArray, item_at};
+use fl_types::{FastLanesError, Nullability, Validity, match_each_integer_ptype};
+use std::alloc::{AllocError, Global};
+
+/// Exceptions that are found one by one: their places, rising, and beside each its value.
+#[derive(Drop)]
+struct Found<T> {
+    places: Vec<u64>,
+    values: Vec<T>,
+}
+
+impl<T: Pattern> Found<T> {
+    /// None yet, with room for so many.
+    fn with_capacity(alloc: Global, count: usize) -> Result<Found<T>, AllocError>
+        ensures { IfOk result (λ f. AreGathered f.places.items (map T.value f.values.items) []) }
+    {
+        Ok(Found {
+            places: Vec::with_capacity(alloc, count)?,
+            values: Vec::with_capacity(alloc, count)?,
+        })
+    }
+
+    /// Adds what stands at a place, an exception or nothing.
+    fn push(&mut self, place: usize, value: Option<T>) -> Result<(), AllocError>
+        ensures { OnOk result ((before : List (Option ℤ)) → length before ≡ place → AreGathered self.old.places.items (map T.value self.old.values.items) before → AreGathered self.new.places.items (map T.value self.new.values.items) (before ++ option_map T.value value ∷ [])) }
+    {
+        if let Some(value) = value {
+            self.places.push(place as u64)?;
+            self.values.push(value)?;
+        }
+        Ok(())
+    }
+
+    /// Adds the exceptions at a width among the items from `start` to below `end`.
+    fn push_part(
+        &mut self,
+        items: &[T],
+        validity: &Validity,
+        width: usize,
+        start: usize,
+        end: usize,
+    ) -> Result<(), AllocError>
+        requires covers { IsTrue (covers validity.now (length items.now)) }
+        requires order { start ≤ end }
+        requires range { end ≤ length items.now }
+        ensures { OnOk result ((before : List (Option ℤ)) → length before ≡ start → AreGathered self.old.places.items (map T.value self.old.values.items) before → AreGathered self.new.places.items (map T.value self.new.values.items) (before ++ map (exception T.PTYPE width) (between start end (items_of validity.now (map T.value items.now))))) }
+    {
+        if bit_count(union_of(&items[start..end])) <= width {
+            return Ok(());
+        }
+        for i in start..end {
+            self.push(i, exception_in(items, validity, width, i))?;
+        }
+        Ok(())
+    }
+
+    /// Adds the exceptions at a width among the items of a block, and to the offsets how many stand
+    /// before the block.
+    fn push_block(
+        &mut self,
+        offsets: &mut Vec<u64>,
+        items: &[T],
+        validity: &Validity,
+        width: usize,
+        block: usize,
+    ) -> Result<(), AllocError>
+        requires covers { IsTrue (covers validity.now (length items.now)) }
+        requires begun { 1024 * block < length items.now }
+        ensures { OnOk result ((width_at : ℕ → ℕ) → ((i : ℕ) → 1024 * block ≤ i → i < 1024 * (block + 1) → width_at i ≡ width) → HasBlocks self.old.places.items (map T.value self.old.values.items) offsets.old.items (exceptions_of T.PTYPE width_at (items_of validity.now (map T.value items.now))) block → HasBlocks self.new.places.items (map T.value self.new.values.items) offsets.new.items (exceptions_of T.PTYPE width_at (items_of validity.now (map T.value items.now))) (block + 1)) }
+    {
+        offsets.push(self.places.len() as u64)?;
+        let start = FL_CHUNK_SIZE * block;
+        let size = (items.len() - start).min(FL_CHUNK_SIZE);
+        self.push_part(items, validity, width, start, start + size)
+    }
+}
+
+/// A pattern with every bit that a pattern of the items has.
+fn union_of<T: Pattern>(items: &[T]) -> u64
+    ensures { (i : ℕ) → i < length items.now → pattern_of T.PTYPE (slice_index_or (map T.value items.now) i (pos 0)) ≤ result }
+{
+    let mut union = 0;
+    for item in items {
+        union |= item.pattern();
+    }
+    union
+}
+
+/// The item at a place where it is an exception at a width.
+fn exception_in<T: Pattern>(items: &[T], validity: &Validity, width: usize, i: usize) -> Option<T>
+    requires covers { IsTrue (covers validity.now (length items.now)) }
+    requires range { i < length items.now }
+    ensures { option_map T.value result ≡ exception T.PTYPE width (slice_index_or (items_of validity.now (map T.value items.now)) i None) }
+{
+    if bits_of(items[i]) > width {
+        item_at(items, validity, i)
+    } else {
+        None
+    }
+}
+
+/// The exceptions at one width, and how many of them stand before each block.
+fn find_global<T: Pattern>(
+    alloc: Global,
+    items: &[T],
+    validity: &Validity,
+    width: usize,
+    hint: usize,
+) -> Result<(Found<T>, Vec<u64>), AllocError>
+    requires { IsTrue (covers validity.now (length items.now)) }
+    ensures found { IfOk result (λ r. AreGathered r.0.places.items (map T.value r.0.values.items) (exceptions_of T.PTYPE (one_width width) (items_of validity.now (map T.value items.now)))) }
+    ensures offsets { IfOk result (λ r. r.1.items ≡ counts_before (exceptions_of T.PTYPE (one_width width) (items_of validity.now (map T.value items.now))) (chunk_count (length items.now))) }
+{
+    let blocks = items.len().div_ceil(FL_CHUNK_SIZE);
+    let mut found = Found::with_capacity(alloc, hint.min(items.len()))?;
+    let mut offsets = Vec::with_capacity(alloc, blocks)?;
+    for block in 0..blocks {
+        found.push_block(&mut offsets, items, validity, width, block)?;
+    }
+    Ok((found, offsets))
+}
+
+/// The exceptions at a width for each block, and how many of them stand before each block.
+fn find_blocked<T: Pattern>(
+    alloc: Global,
+    items: &[T],
+    validity: &Validity,
+    widths: &[u8],
+    hint: usize,
+) -> Result<(Found<T>, Vec<u64>), AllocError>
+    requires covers { IsTrue (covers validity.now (length items.now)) }
+    requires widths { length widths.now ≡ chunk_count (length items.now) }
+    ensures found { IfOk result (λ r. AreGathered r.0.places.items (map T.value r.0.values.items) (exceptions_of T.PTYPE (width_of_block widths.now) (items_of validity.now (map T.value items.now)))) }
+    ensures offsets { IfOk result (λ r. r.1.items ≡ counts_before (exceptions_of T.PTYPE (width_of_block widths.now) (items_of validity.now (map T.value items.now))) (chunk_count (length items.now))) }
+{
+    let mut found = Found::with_capacity(alloc, hint.min(items.len()))?;
+    let mut offsets = Vec::with_capacity(alloc, widths.len())?;
+    for block in 0..widths.len() {
+        found.push_block(&mut offsets, items, validity, widths[block] as usize, block)?;
+    }
+    Ok((found, offsets))
+}
+
+/// The validity of an array without a null.
+fn full_validity(nullability: Nullability) -> Validity
+    ensures { result ≡ full_validity nullability }
+{
+    match nullability {
+        Nullability::NonNullable => Validity::NonNullable,
+        Nullability::Nullable => Validity::AllValid,
+    }
+}
+
+/// Values without a null.
+#[tactic(auto, using(crate::proofs::Patches::covers_full))]
+fn value_array<T: Pattern>(values: Vec<T>, nullability: Nullability) -> PrimitiveArray
+    ensures { result ≡ record { ptype = T.PTYPE; slots = map T.value values.items; validity = full_validity nullability } }
+{
+    PrimitiveArray::new(values, full_validity(nullability)).unwrap()
+}
+
+/// The patches of an array's exceptions, which were found with how many stand before each block, or
+/// `None` where there is none. The indices are of the smallest type that holds a number.
+fn patches_of<T: Pattern>(
+    alloc: Global,
+    array: &PrimitiveArray,
+    found: Found<T>,
+    offsets: Vec<u64>,
+    holds: usize,
+) -> Result<Option<Patches>, FastLanesError>
+    requires same { array.now.ptype ≡ T.PTYPE }
+    requires chunked { AreChunked found.places.items (map T.value found.values.items) offsets.items (length array.now.slots) }
+    requires holds { length array.now.slots ≤ holds }
+    ensures { Answers (λ o. o) result (Ok (patches_with (smallest_type holds) (length array.now.slots) array.now.ptype (nullability_of array.now.validity) found.places.items (map T.value found.values.items))) }
+{
+    let Found { places, values } = found;
+    if places.len() == 0 {
+        return Ok(None);
+    }
+    let indices = index_array(alloc, places, holds)?;
+    let values = value_array(values, array.nullability());
+    let offsets = number_array(offsets);
+    let patches = Patches::new(array.len(), 0, indices, values, Some(offsets)).unwrap();
+    Ok(Some(patches))
+}
+
+fn gather_global<T: Pattern>(
+    alloc: Global,
+    array: &PrimitiveArray,
+    width: usize,
+    hint: usize,
+) -> Result<Option<Patches>, FastLanesError>
+    requires { array.now.ptype ≡ T.PTYPE }
+    ensures parts { Answers (λ o. o) result (Ok (global_patches width array.now)) }
+    ensures map { IfOk result (λ o. ArePatches o (length array.now.slots) (exception_at (one_width width) array.now)) }
+{
+    let items = array.as_slice::<T>();
+    let (found, offsets) = find_global(alloc, items, array.validity(), width, hint)?;
+    patches_of(alloc, array, found, offsets, items.len().saturating_add(1))
+}
+
+fn gather_blocked<T: Pattern>(
+    alloc: Global,
+    array: &PrimitiveArray,
+    widths: &[u8],
+    hint: usize,
+) -> Result<Option<Patches>, FastLanesError>
+    requires same { array.now.ptype ≡ T.PTYPE }
+    requires widths { length widths.now ≡ chunk_count (length array.now.slots) }
+    ensures parts { Answers (λ o. o) result (Ok (blocked_patches widths.now array.now)) }
+    ensures map { IfOk result (λ o. ArePatches o (length array.now.slots) (exception_at (width_of_block widths.now) array.now)) }
+{
+    let items = array.as_slice::<T>();
+    let (found, offsets) = find_blocked(alloc, items, array.validity(), widths, hint)?;
+    patches_of(alloc, array, found, offsets, items.len())
+}
+
+/// The patches of an array's items that are valid and have more bits than a width, or `None` where
+/// there is none. The indices are `U8` for a length below 255, `U16` below 65535, `U32` below
+/// 4294967295, else `U64`. The values may be null where the array's items may, and none is. Each chunk
+/// of 1024 items has a chunk offset, as `U64`. `hint` is about how many patches there are, and changes
+/// no answer.
+pub fn gather_patches(
+    alloc: Global,
+    array: &PrimitiveArray,
+    width: u8,
+    hint: usize,
+) -> Result<Option<Patches>, FastLanesError>
+    ensures parts { Answers (λ o. o) result (Ok (global_patches width array.now)) }
+    ensures map { IfOk result (λ o. ArePatches o (length array.now.slots) (exception_at (one_width width) array.now)) }
+{
+    match_each_integer_ptype!(
+        array.ptype(),
+        gather_global(alloc, array, width as usize, hint)
+    )
+}
+
+/// The same at a width for each block of 1024 items, a short last one too. The indices are of the
+/// smallest type that holds the length.
+pub fn gather_blocked_patches(
+    alloc: Global,
+    array: &PrimitiveArray,
+    widths: &[u8],
+    hint: usize,
+) -> Result<Option<Patches>, FastLanesError>
+    requires { length widths.now ≡ chunk_count (length array.now.slots) }
+    ensures parts { Answers (λ o. o) result (Ok (blocked_patches widths.now array.now)) }
+    ensures map { IfOk result (λ o. ArePatches o (length array.now.slots) (exception_at (width_of_block widths.now) array.now)) }
+{
+    match_each_integer_ptype!(array.ptype(), gather_blocked(alloc, array, widths, hint))
+}

@@ -1,0 +1,94 @@
+//! Bit patterns, and how many bits they have.
+
+ghost use Rattle.std.specs.Prelude.{◌≡◌, ◌≤◌, ◌<◌, ◌^◌};
+ghost use Rattle.fl_types.specs.Integers.{bits_of_type, pattern_of};
+ghost use Rattle.fl_widths.specs.Exceptions.{bit_count};
+
+use fl_types::NativePType;
+
+/// An integer type whose bit patterns are numbers of a `u64`.
+pub(crate) trait Pattern: NativePType {
+    /// The bit pattern of the value.
+    fn pattern(self) -> u64
+        ensures { result ≡ pattern_of Self.PTYPE (Self.value self) };
+}
+
+#[tactic(auto, using(fl_types::proofs::Patterns::patterns))]
+impl Pattern for u8 {
+    fn pattern(self) -> u64 {
+        self as u64
+    }
+}
+
+#[tactic(auto, using(fl_types::proofs::Patterns::patterns))]
+impl Pattern for u16 {
+    fn pattern(self) -> u64 {
+        self as u64
+    }
+}
+
+#[tactic(auto, using(fl_types::proofs::Patterns::patterns))]
+impl Pattern for u32 {
+    fn pattern(self) -> u64 {
+        self as u64
+    }
+}
+
+#[tactic(auto, using(fl_types::proofs::Patterns::patterns))]
+impl Pattern for u64 {
+    fn pattern(self) -> u64 {
+        self
+    }
+}
+
+#[tactic(auto, using(fl_types::proofs::Patterns::patterns))]
+impl Pattern for i8 {
+    fn pattern(self) -> u64 {
+        self.cast_unsigned() as u64
+    }
+}
+
+#[tactic(auto, using(fl_types::proofs::Patterns::patterns))]
+impl Pattern for i16 {
+    fn pattern(self) -> u64 {
+        self.cast_unsigned() as u64
+    }
+}
+
+#[tactic(auto, using(fl_types::proofs::Patterns::patterns))]
+impl Pattern for i32 {
+    fn pattern(self) -> u64 {
+        self.cast_unsigned() as u64
+    }
+}
+
+#[tactic(auto, using(fl_types::proofs::Patterns::patterns))]
+impl Pattern for i64 {
+    fn pattern(self) -> u64 {
+        self.cast_unsigned()
+    }
+}
+
+/// How many bits a pattern has.
+#[tactic(auto, using(crate::proofs::BitCounts::count_by_zeros))]
+pub(crate) fn bit_count(pattern: u64) -> usize
+    ensures { result ≡ bit_count pattern }
+{
+    64 - pattern.leading_zeros() as usize
+}
+
+/// How many bits the pattern of a value has.
+#[tactic(auto, using(crate::proofs::BitCounts::bits_of_pattern))]
+pub(crate) fn bits_of<T: Pattern>(item: T) -> usize
+    ensures count { result ≡ bit_count (pattern_of T.PTYPE (T.value item)) }
+    ensures most { result ≤ bits_of_type T.PTYPE }
+{
+    bit_count(item.pattern())
+}
+
+/// How many bits a value of the type has.
+pub(crate) fn type_bits<T: Pattern>() -> usize
+    ensures { result ≡ bits_of_type T.PTYPE }
+{
+    T::PTYPE.bit_width()
+}

@@ -1,0 +1,27 @@
+//! Single items of arrays.
+
+use std::alloc::Global;
+use vortex_fastlanes::array::*;
+use vortex_fastlanes::*;
+
+/// The item at an index, or `None` of a null and past the end.
+pub(crate) fn item_at(array: &ArrayRef, alloc: Global, i: usize) -> Option<PValue> {
+    if i >= array.len() {
+        return None;
+    }
+    match array.scalar_at(alloc, i) {
+        Ok(item) => item.as_pvalue(),
+        Err(_) => None,
+    }
+}
+
+/// The truth value at an index, or `None` of a null and past the end.
+pub(crate) fn truth_at(array: &ArrayRef, alloc: Global, i: usize) -> Option<bool> {
+    if array.as_bool().is_none() || i >= array.len() {
+        return None;
+    }
+    match array.scalar_at(alloc, i) {
+        Ok(item) => item.as_bool(),
+        Err(_) => None,
+    }
+}
