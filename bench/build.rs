@@ -6,7 +6,7 @@ use std::{env, fs, process::Command};
 
 const TYPES: [&str; 4] = ["u8", "u16", "u32", "u64"];
 // kernel, the arguments (T is the word type), the result
-const KERNELS: [(&str, &str, &str); 12] = [
+const KERNELS: [(&str, &str, &str); 15] = [
     ("pack", "usize, *const T, usize, *mut T, usize", ""),
     ("unpack", "usize, *const T, usize, *mut T, usize", ""),
     ("unfor_pack", "usize, *const T, usize, T, *mut T, usize", ""),
@@ -19,6 +19,9 @@ const KERNELS: [(&str, &str, &str); 12] = [
     ("delta", "*const T, usize, *const T, usize, *mut T, usize", ""),
     ("undelta", "*const T, usize, *const T, usize, *mut T, usize", ""),
     ("rle_decode", "*const T, usize, *const u16, usize, *mut T, usize", ""),
+    ("pack_column", "usize, u8, *const T, usize, *mut u8, usize", "usize"),
+    ("unpack_column", "usize, u8, usize, *const u8, usize, *mut T, usize", "usize"),
+    ("decode_column", "u8, *const u8, usize, *mut T, usize", "usize"),
 ];
 
 fn main() {

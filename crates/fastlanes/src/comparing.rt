@@ -7,6 +7,7 @@ ghost use Rattle.fastlanes.specs.Filled.{item_of};
 ghost use Rattle.fastlanes.specs.Compared.{is_set, has_bit, IsAnswer, Answers};
 
 use crate::counts::Work;
+use crate::storage::AsWords;
 use crate::unpacking::items_of_row;
 use crate::widths::{at_width, bits, lanes};
 use crate::words::FastLanes;
@@ -56,7 +57,7 @@ fn compare_row<W: FastLanes, F: Fn(W, W) -> bool>(
     ensures whole { W.whole result }
     ensures held { Answers W.pattern (F.post cmp.now) rhs (item_of W.T W.LANES width (pattern_at W.pattern words.now)) g (r + 1) (W.lane result) }
 {
-    let row = items_of_row(width, words, r, g);
+    let row = items_of_row::<W, AsWords>(width, words, r, g);
     W::or(held, compare_lanes(row, cmp, rhs, r))
 }
 
@@ -253,7 +254,7 @@ fn compare_to_8<W: FastLanes, F: Fn(W, W) -> bool>(
     ensures set { (r l : ℕ) → r < W.T → l < W.LANES → IsAnswer W.pattern (F.post cmp.now) rhs (item_of W.T W.LANES width (pattern_at W.pattern words.now) r l) (is_set (word_at W.T bytes.new l) r) }
     ensures whole { length bytes.new ≡ 128 }
 {
-    at_width!(width, [0 1 2 3 4 5 6 7], 8, compare_groups, F, (words, cmp, rhs, bytes))
+    at_width!(width, [0 1 2 3 4 5 6 7], 8, compare_groups, [W, F], (words, cmp, rhs, bytes))
 }
 
 /// Compares at a width of 9 to 16 bits.
@@ -272,7 +273,7 @@ fn compare_to_16<W: FastLanes, F: Fn(W, W) -> bool>(
     ensures set { (r l : ℕ) → r < W.T → l < W.LANES → IsAnswer W.pattern (F.post cmp.now) rhs (item_of W.T W.LANES width (pattern_at W.pattern words.now) r l) (is_set (word_at W.T bytes.new l) r) }
     ensures whole { length bytes.new ≡ 128 }
 {
-    at_width!(width, [9 10 11 12 13 14 15], 16, compare_groups, F, (words, cmp, rhs, bytes))
+    at_width!(width, [9 10 11 12 13 14 15], 16, compare_groups, [W, F], (words, cmp, rhs, bytes))
 }
 
 /// Compares at a width of 17 to 32 bits.
@@ -291,7 +292,7 @@ fn compare_to_32<W: FastLanes, F: Fn(W, W) -> bool>(
     ensures set { (r l : ℕ) → r < W.T → l < W.LANES → IsAnswer W.pattern (F.post cmp.now) rhs (item_of W.T W.LANES width (pattern_at W.pattern words.now) r l) (is_set (word_at W.T bytes.new l) r) }
     ensures whole { length bytes.new ≡ 128 }
 {
-    at_width!(width, [17 18 19 20 21 22 23 24 25 26 27 28 29 30 31], 32, compare_groups, F, (words, cmp, rhs, bytes))
+    at_width!(width, [17 18 19 20 21 22 23 24 25 26 27 28 29 30 31], 32, compare_groups, [W, F], (words, cmp, rhs, bytes))
 }
 
 /// Compares at a width of 33 to 64 bits.
@@ -310,7 +311,7 @@ fn compare_to_64<W: FastLanes, F: Fn(W, W) -> bool>(
     ensures set { (r l : ℕ) → r < W.T → l < W.LANES → IsAnswer W.pattern (F.post cmp.now) rhs (item_of W.T W.LANES width (pattern_at W.pattern words.now) r l) (is_set (word_at W.T bytes.new l) r) }
     ensures whole { length bytes.new ≡ 128 }
 {
-    at_width!(width, [33 34 35 36 37 38 39 40 41 42 43 44 45 46 47 48 49 50 51 52 53 54 55 56 57 58 59 60 61 62 63], 64, compare_groups, F, (words, cmp, rhs, bytes))
+    at_width!(width, [33 34 35 36 37 38 39 40 41 42 43 44 45 46 47 48 49 50 51 52 53 54 55 56 57 58 59 60 61 62 63], 64, compare_groups, [W, F], (words, cmp, rhs, bytes))
 }
 
 /// The same at any width.

@@ -2,33 +2,34 @@
 #![tactic(auto)]
 
 ghost use Rattle.std.specs.Prelude.{◌≡◌, ℕ, ◌+◌, ◌-◌, ◌*◌, ◌/◌, ◌%◌, ◌^◌, ◌<◌, ◌≤◌, length};
-ghost use Rattle.fastlanes.specs.Layout.{place, Packed, pattern_at};
+ghost use Rattle.fastlanes.specs.Layout.{place, Packed, pattern_at, word_at};
 ghost use Rattle.fastlanes.specs.Filled.{Filled, word_of, word_place, held};
 
 use crate::layout::{FL_CHUNK_SIZE, pos};
+use crate::storage::{AsBytes, AsWords, Storage};
 use crate::widths::{at_width, begin, bits, group_at, lanes};
 use crate::words::FastLanes;
 
 /// Puts the items at row `r` of the lanes of group `g` into the words that are being made, writes those that are whole, and gives the words that are begun.
 #[inline(always)]
-fn pack_row<W: FastLanes>(
+fn pack_row<W: FastLanes, S: Storage<W>>(
     width: usize,
     items: &[W; FL_CHUNK_SIZE],
     r: usize,
     g: usize,
     begun: W::Vector,
-    packed: &mut [W],
+    packed: &mut [S::Unit],
 ) -> W::Vector
     requires some { 0 < width }
     requires width { width ≤ W.T }
-    requires block { length packed.old ≡ width * W.LANES }
+    requires block { S.count (length packed.old) ≡ width * W.LANES }
     requires row { r < W.T }
     requires group { 16 * g + 16 ≤ W.LANES }
     requires whole { W.whole begun }
     requires begun { (j : ℕ) → j < 16 → W.lane begun j ≡ held W.T width (pattern_at W.pattern items.now) (r * width) (16 * g + j) }
     ensures whole { W.whole result }
     ensures begun { (j : ℕ) → j < 16 → W.lane result j ≡ held W.T width (pattern_at W.pattern items.now) ((r + 1) * width) (16 * g + j) }
-    ensures words { Filled width W.LANES (word_place W.LANES) (word_of W.T width (pattern_at W.pattern items.now)) g (r * width / W.T) ((r + 1) * width / W.T) (pattern_at W.pattern packed.old) (pattern_at W.pattern packed.new) }
+    ensures words { Filled width W.LANES (word_place W.LANES) (word_of W.T width (pattern_at W.pattern items.now)) g (r * width / W.T) ((r + 1) * width / W.T) (S.word packed.old) (S.word packed.new) }
 {
     let (k, shift) = begin::<W>(width, r);
     let t = bits::<W>();
@@ -37,7 +38,7 @@ fn pack_row<W: FastLanes>(
     if shift + width < t {
         return both;
     }
-    W::store(both, packed, group_at::<W>(width, k, g));
+    S::store(both, packed, group_at::<W>(width, k, g));
     if shift + width == t {
         W::splat(W::zero())
     } else {
@@ -47,107 +48,107 @@ fn pack_row<W: FastLanes>(
 
 /// Puts the items at the eight rows from `r` on into the words that are being made.
 #[inline(always)]
-fn pack_8<W: FastLanes>(
+fn pack_8<W: FastLanes, S: Storage<W>>(
     width: usize,
     items: &[W; FL_CHUNK_SIZE],
     r: usize,
     g: usize,
     begun: W::Vector,
-    packed: &mut [W],
+    packed: &mut [S::Unit],
 ) -> W::Vector
     requires some { 0 < width }
     requires width { width ≤ W.T }
-    requires block { length packed.old ≡ width * W.LANES }
+    requires block { S.count (length packed.old) ≡ width * W.LANES }
     requires row { r + 8 ≤ W.T }
     requires group { 16 * g + 16 ≤ W.LANES }
     requires whole { W.whole begun }
     requires begun { (j : ℕ) → j < 16 → W.lane begun j ≡ held W.T width (pattern_at W.pattern items.now) (r * width) (16 * g + j) }
     ensures whole { W.whole result }
     ensures begun { (j : ℕ) → j < 16 → W.lane result j ≡ held W.T width (pattern_at W.pattern items.now) ((r + 8) * width) (16 * g + j) }
-    ensures words { Filled width W.LANES (word_place W.LANES) (word_of W.T width (pattern_at W.pattern items.now)) g (r * width / W.T) ((r + 8) * width / W.T) (pattern_at W.pattern packed.old) (pattern_at W.pattern packed.new) }
+    ensures words { Filled width W.LANES (word_place W.LANES) (word_of W.T width (pattern_at W.pattern items.now)) g (r * width / W.T) ((r + 8) * width / W.T) (S.word packed.old) (S.word packed.new) }
 {
-    let begun = pack_row(width, items, r, g, begun, packed);
-    let begun = pack_row(width, items, r + 1, g, begun, packed);
-    let begun = pack_row(width, items, r + 2, g, begun, packed);
-    let begun = pack_row(width, items, r + 3, g, begun, packed);
-    let begun = pack_row(width, items, r + 4, g, begun, packed);
-    let begun = pack_row(width, items, r + 5, g, begun, packed);
-    let begun = pack_row(width, items, r + 6, g, begun, packed);
-    pack_row(width, items, r + 7, g, begun, packed)
+    let begun = pack_row::<W, S>(width, items, r, g, begun, packed);
+    let begun = pack_row::<W, S>(width, items, r + 1, g, begun, packed);
+    let begun = pack_row::<W, S>(width, items, r + 2, g, begun, packed);
+    let begun = pack_row::<W, S>(width, items, r + 3, g, begun, packed);
+    let begun = pack_row::<W, S>(width, items, r + 4, g, begun, packed);
+    let begun = pack_row::<W, S>(width, items, r + 5, g, begun, packed);
+    let begun = pack_row::<W, S>(width, items, r + 6, g, begun, packed);
+    pack_row::<W, S>(width, items, r + 7, g, begun, packed)
 }
 
 /// Puts the items at the 16 rows into the words that are being made.
-fn pack_16<W: FastLanes, const WIDTH: usize>(
+fn pack_16<W: FastLanes, S: Storage<W>, const WIDTH: usize>(
     items: &[W; FL_CHUNK_SIZE],
     g: usize,
     begun: W::Vector,
-    packed: &mut [W],
+    packed: &mut [S::Unit],
 ) -> W::Vector
     requires some { 0 < WIDTH }
     requires width { WIDTH ≤ W.T }
-    requires block { length packed.old ≡ WIDTH * W.LANES }
+    requires block { S.count (length packed.old) ≡ WIDTH * W.LANES }
     requires row { 16 ≤ W.T }
     requires group { 16 * g + 16 ≤ W.LANES }
     requires whole { W.whole begun }
     requires begun { (j : ℕ) → j < 16 → W.lane begun j ≡ held W.T WIDTH (pattern_at W.pattern items.now) (0 * WIDTH) (16 * g + j) }
     ensures whole { W.whole result }
     ensures begun { (j : ℕ) → j < 16 → W.lane result j ≡ held W.T WIDTH (pattern_at W.pattern items.now) (16 * WIDTH) (16 * g + j) }
-    ensures words { Filled WIDTH W.LANES (word_place W.LANES) (word_of W.T WIDTH (pattern_at W.pattern items.now)) g (0 * WIDTH / W.T) (16 * WIDTH / W.T) (pattern_at W.pattern packed.old) (pattern_at W.pattern packed.new) }
+    ensures words { Filled WIDTH W.LANES (word_place W.LANES) (word_of W.T WIDTH (pattern_at W.pattern items.now)) g (0 * WIDTH / W.T) (16 * WIDTH / W.T) (S.word packed.old) (S.word packed.new) }
 {
-    let begun = pack_8(WIDTH, items, 0, g, begun, packed);
-    pack_8(WIDTH, items, 8, g, begun, packed)
+    let begun = pack_8::<W, S>(WIDTH, items, 0, g, begun, packed);
+    pack_8::<W, S>(WIDTH, items, 8, g, begun, packed)
 }
 
 /// Puts the items at the 32 rows into the words that are being made.
-fn pack_32<W: FastLanes, const WIDTH: usize>(
+fn pack_32<W: FastLanes, S: Storage<W>, const WIDTH: usize>(
     items: &[W; FL_CHUNK_SIZE],
     g: usize,
     begun: W::Vector,
-    packed: &mut [W],
+    packed: &mut [S::Unit],
 ) -> W::Vector
     requires some { 0 < WIDTH }
     requires width { WIDTH ≤ W.T }
-    requires block { length packed.old ≡ WIDTH * W.LANES }
+    requires block { S.count (length packed.old) ≡ WIDTH * W.LANES }
     requires row { 32 ≤ W.T }
     requires group { 16 * g + 16 ≤ W.LANES }
     requires whole { W.whole begun }
     requires begun { (j : ℕ) → j < 16 → W.lane begun j ≡ held W.T WIDTH (pattern_at W.pattern items.now) (0 * WIDTH) (16 * g + j) }
     ensures whole { W.whole result }
     ensures begun { (j : ℕ) → j < 16 → W.lane result j ≡ held W.T WIDTH (pattern_at W.pattern items.now) (32 * WIDTH) (16 * g + j) }
-    ensures words { Filled WIDTH W.LANES (word_place W.LANES) (word_of W.T WIDTH (pattern_at W.pattern items.now)) g (0 * WIDTH / W.T) (32 * WIDTH / W.T) (pattern_at W.pattern packed.old) (pattern_at W.pattern packed.new) }
+    ensures words { Filled WIDTH W.LANES (word_place W.LANES) (word_of W.T WIDTH (pattern_at W.pattern items.now)) g (0 * WIDTH / W.T) (32 * WIDTH / W.T) (S.word packed.old) (S.word packed.new) }
 {
-    let begun = pack_8(WIDTH, items, 0, g, begun, packed);
-    let begun = pack_8(WIDTH, items, 8, g, begun, packed);
-    let begun = pack_8(WIDTH, items, 16, g, begun, packed);
-    pack_8(WIDTH, items, 24, g, begun, packed)
+    let begun = pack_8::<W, S>(WIDTH, items, 0, g, begun, packed);
+    let begun = pack_8::<W, S>(WIDTH, items, 8, g, begun, packed);
+    let begun = pack_8::<W, S>(WIDTH, items, 16, g, begun, packed);
+    pack_8::<W, S>(WIDTH, items, 24, g, begun, packed)
 }
 
 /// Puts the items at the 64 rows into the words that are being made.
-fn pack_64<W: FastLanes, const WIDTH: usize>(
+fn pack_64<W: FastLanes, S: Storage<W>, const WIDTH: usize>(
     items: &[W; FL_CHUNK_SIZE],
     g: usize,
     begun: W::Vector,
-    packed: &mut [W],
+    packed: &mut [S::Unit],
 ) -> W::Vector
     requires some { 0 < WIDTH }
     requires width { WIDTH ≤ W.T }
-    requires block { length packed.old ≡ WIDTH * W.LANES }
+    requires block { S.count (length packed.old) ≡ WIDTH * W.LANES }
     requires row { 64 ≤ W.T }
     requires group { 16 * g + 16 ≤ W.LANES }
     requires whole { W.whole begun }
     requires begun { (j : ℕ) → j < 16 → W.lane begun j ≡ held W.T WIDTH (pattern_at W.pattern items.now) (0 * WIDTH) (16 * g + j) }
     ensures whole { W.whole result }
     ensures begun { (j : ℕ) → j < 16 → W.lane result j ≡ held W.T WIDTH (pattern_at W.pattern items.now) (64 * WIDTH) (16 * g + j) }
-    ensures words { Filled WIDTH W.LANES (word_place W.LANES) (word_of W.T WIDTH (pattern_at W.pattern items.now)) g (0 * WIDTH / W.T) (64 * WIDTH / W.T) (pattern_at W.pattern packed.old) (pattern_at W.pattern packed.new) }
+    ensures words { Filled WIDTH W.LANES (word_place W.LANES) (word_of W.T WIDTH (pattern_at W.pattern items.now)) g (0 * WIDTH / W.T) (64 * WIDTH / W.T) (S.word packed.old) (S.word packed.new) }
 {
-    let begun = pack_8(WIDTH, items, 0, g, begun, packed);
-    let begun = pack_8(WIDTH, items, 8, g, begun, packed);
-    let begun = pack_8(WIDTH, items, 16, g, begun, packed);
-    let begun = pack_8(WIDTH, items, 24, g, begun, packed);
-    let begun = pack_8(WIDTH, items, 32, g, begun, packed);
-    let begun = pack_8(WIDTH, items, 40, g, begun, packed);
-    let begun = pack_8(WIDTH, items, 48, g, begun, packed);
-    pack_8(WIDTH, items, 56, g, begun, packed)
+    let begun = pack_8::<W, S>(WIDTH, items, 0, g, begun, packed);
+    let begun = pack_8::<W, S>(WIDTH, items, 8, g, begun, packed);
+    let begun = pack_8::<W, S>(WIDTH, items, 16, g, begun, packed);
+    let begun = pack_8::<W, S>(WIDTH, items, 24, g, begun, packed);
+    let begun = pack_8::<W, S>(WIDTH, items, 32, g, begun, packed);
+    let begun = pack_8::<W, S>(WIDTH, items, 40, g, begun, packed);
+    let begun = pack_8::<W, S>(WIDTH, items, 48, g, begun, packed);
+    pack_8::<W, S>(WIDTH, items, 56, g, begun, packed)
 }
 
 /// No bits of any word.
@@ -161,85 +162,126 @@ fn nothing_begun<W: FastLanes>(width: usize, items: &[W; FL_CHUNK_SIZE], g: usiz
 
 /// Packs the items of the lanes of group `g`.
 #[inline(always)]
-fn pack_group<W: FastLanes, const WIDTH: usize>(
+fn pack_group<W: FastLanes, S: Storage<W>, const WIDTH: usize>(
     items: &[W; FL_CHUNK_SIZE],
     g: usize,
-    packed: &mut [W],
+    packed: &mut [S::Unit],
 )
     requires some { 0 < WIDTH }
     requires width { WIDTH ≤ W.T }
-    requires block { length packed.old ≡ WIDTH * W.LANES }
+    requires block { S.count (length packed.old) ≡ WIDTH * W.LANES }
     requires group { 16 * g + 16 ≤ W.LANES }
-    ensures words { Filled WIDTH W.LANES (word_place W.LANES) (word_of W.T WIDTH (pattern_at W.pattern items.now)) g 0 WIDTH (pattern_at W.pattern packed.old) (pattern_at W.pattern packed.new) }
+    ensures words { Filled WIDTH W.LANES (word_place W.LANES) (word_of W.T WIDTH (pattern_at W.pattern items.now)) g 0 WIDTH (S.word packed.old) (S.word packed.new) }
 {
     let begun = nothing_begun(WIDTH, items, g);
     let t = bits::<W>();
     if t == 8 {
-        pack_8(WIDTH, items, 0, g, begun, packed);
+        pack_8::<W, S>(WIDTH, items, 0, g, begun, packed);
     } else if t == 16 {
-        pack_16::<W, WIDTH>(items, g, begun, packed);
+        pack_16::<W, S, WIDTH>(items, g, begun, packed);
     } else if t == 32 {
-        pack_32::<W, WIDTH>(items, g, begun, packed);
+        pack_32::<W, S, WIDTH>(items, g, begun, packed);
     } else {
-        pack_64::<W, WIDTH>(items, g, begun, packed);
+        pack_64::<W, S, WIDTH>(items, g, begun, packed);
     }
 }
 
 /// Packs the low `WIDTH` bits of the items of a block.
-fn pack_groups<W: FastLanes, const WIDTH: usize>(items: &[W; FL_CHUNK_SIZE], packed: &mut [W])
+fn pack_groups<W: FastLanes, S: Storage<W>, const WIDTH: usize>(
+    items: &[W; FL_CHUNK_SIZE],
+    packed: &mut [S::Unit],
+)
     requires width { WIDTH ≤ W.T }
-    requires room { length packed.old ≡ WIDTH * W.LANES }
-    ensures { Packed W.T W.LANES WIDTH (pattern_at W.pattern items.now) (pattern_at W.pattern packed.new) }
+    requires room { S.count (length packed.old) ≡ WIDTH * W.LANES }
+    ensures { Packed W.T W.LANES WIDTH (pattern_at W.pattern items.now) (S.word packed.new) }
 {
     if WIDTH == 0 {
         return;
     }
     for g in 0..lanes::<W>() / 16 {
-        pack_group::<W, WIDTH>(items, g, packed);
+        pack_group::<W, S, WIDTH>(items, g, packed);
     }
 }
 
 /// Packs at a width of at most 8 bits.
-fn pack_to_8<W: FastLanes>(width: usize, items: &[W; FL_CHUNK_SIZE], packed: &mut [W])
+fn pack_to_8<W: FastLanes, S: Storage<W>>(
+    width: usize,
+    items: &[W; FL_CHUNK_SIZE],
+    packed: &mut [S::Unit],
+)
     requires most { width ≤ 8 }
     requires width { width ≤ W.T }
-    requires room { length packed.old ≡ width * W.LANES }
-    ensures { Packed W.T W.LANES width (pattern_at W.pattern items.now) (pattern_at W.pattern packed.new) }
+    requires room { S.count (length packed.old) ≡ width * W.LANES }
+    ensures { Packed W.T W.LANES width (pattern_at W.pattern items.now) (S.word packed.new) }
 {
-    at_width!(width, [0 1 2 3 4 5 6 7], 8, pack_groups, (items, packed))
+    at_width!(width, [0 1 2 3 4 5 6 7], 8, pack_groups, [W, S], (items, packed))
 }
 
 /// Packs at a width of 9 to 16 bits.
-fn pack_to_16<W: FastLanes>(width: usize, items: &[W; FL_CHUNK_SIZE], packed: &mut [W])
+fn pack_to_16<W: FastLanes, S: Storage<W>>(
+    width: usize,
+    items: &[W; FL_CHUNK_SIZE],
+    packed: &mut [S::Unit],
+)
     requires above { 8 < width }
     requires most { width ≤ 16 }
     requires width { width ≤ W.T }
-    requires room { length packed.old ≡ width * W.LANES }
-    ensures { Packed W.T W.LANES width (pattern_at W.pattern items.now) (pattern_at W.pattern packed.new) }
+    requires room { S.count (length packed.old) ≡ width * W.LANES }
+    ensures { Packed W.T W.LANES width (pattern_at W.pattern items.now) (S.word packed.new) }
 {
-    at_width!(width, [9 10 11 12 13 14 15], 16, pack_groups, (items, packed))
+    at_width!(width, [9 10 11 12 13 14 15], 16, pack_groups, [W, S], (items, packed))
 }
 
 /// Packs at a width of 17 to 32 bits.
-fn pack_to_32<W: FastLanes>(width: usize, items: &[W; FL_CHUNK_SIZE], packed: &mut [W])
+fn pack_to_32<W: FastLanes, S: Storage<W>>(
+    width: usize,
+    items: &[W; FL_CHUNK_SIZE],
+    packed: &mut [S::Unit],
+)
     requires above { 16 < width }
     requires most { width ≤ 32 }
     requires width { width ≤ W.T }
-    requires room { length packed.old ≡ width * W.LANES }
-    ensures { Packed W.T W.LANES width (pattern_at W.pattern items.now) (pattern_at W.pattern packed.new) }
+    requires room { S.count (length packed.old) ≡ width * W.LANES }
+    ensures { Packed W.T W.LANES width (pattern_at W.pattern items.now) (S.word packed.new) }
 {
-    at_width!(width, [17 18 19 20 21 22 23 24 25 26 27 28 29 30 31], 32, pack_groups, (items, packed))
+    at_width!(width, [17 18 19 20 21 22 23 24 25 26 27 28 29 30 31], 32, pack_groups, [W, S], (items, packed))
 }
 
 /// Packs at a width of 33 to 64 bits.
-fn pack_to_64<W: FastLanes>(width: usize, items: &[W; FL_CHUNK_SIZE], packed: &mut [W])
+fn pack_to_64<W: FastLanes, S: Storage<W>>(
+    width: usize,
+    items: &[W; FL_CHUNK_SIZE],
+    packed: &mut [S::Unit],
+)
     requires above { 32 < width }
     requires most { width ≤ 64 }
     requires width { width ≤ W.T }
-    requires room { length packed.old ≡ width * W.LANES }
-    ensures { Packed W.T W.LANES width (pattern_at W.pattern items.now) (pattern_at W.pattern packed.new) }
+    requires room { S.count (length packed.old) ≡ width * W.LANES }
+    ensures { Packed W.T W.LANES width (pattern_at W.pattern items.now) (S.word packed.new) }
 {
-    at_width!(width, [33 34 35 36 37 38 39 40 41 42 43 44 45 46 47 48 49 50 51 52 53 54 55 56 57 58 59 60 61 62 63], 64, pack_groups, (items, packed))
+    at_width!(width, [33 34 35 36 37 38 39 40 41 42 43 44 45 46 47 48 49 50 51 52 53 54 55 56 57 58 59 60 61 62 63], 64, pack_groups, [W, S], (items, packed))
+}
+
+/// Packs the low `width` bits of the items of a block at any width.
+fn pack_block<W: FastLanes, S: Storage<W>>(
+    width: usize,
+    items: &[W; FL_CHUNK_SIZE],
+    packed: &mut [S::Unit],
+)
+    requires width { width ≤ W.T }
+    requires room { S.count (length packed.old) ≡ width * W.LANES }
+    ensures { Packed W.T W.LANES width (pattern_at W.pattern items.now) (S.word packed.new) }
+{
+    let t = bits::<W>();
+    if t == 8 || width <= 8 {
+        pack_to_8::<W, S>(width, items, packed);
+    } else if t == 16 || width <= 16 {
+        pack_to_16::<W, S>(width, items, packed);
+    } else if t == 32 || width <= 32 {
+        pack_to_32::<W, S>(width, items, packed);
+    } else {
+        pack_to_64::<W, S>(width, items, packed);
+    }
 }
 
 /// Packs the low `width` bits of the items of a block into its `width * LANES` words.
@@ -250,14 +292,16 @@ pub fn pack<W: FastLanes>(width: usize, items: &[W; FL_CHUNK_SIZE], packed: &mut
     requires room { length packed.old ≡ width * W.LANES }
     ensures { Packed W.T W.LANES width (pattern_at W.pattern items.now) (pattern_at W.pattern packed.new) }
 {
-    let t = bits::<W>();
-    if t == 8 || width <= 8 {
-        pack_to_8(width, items, packed);
-    } else if t == 16 || width <= 16 {
-        pack_to_16(width, items, packed);
-    } else if t == 32 || width <= 32 {
-        pack_to_32(width, items, packed);
-    } else {
-        pack_to_64(width, items, packed);
-    }
+    pack_block::<W, AsWords>(width, items, packed);
+}
+
+/// Packs the low `width` bits of the items of a block into its `128 * width` bytes.
+///
+/// The bytes are those of the block's words, the low byte of each first.
+pub fn pack_bytes<W: FastLanes>(width: usize, items: &[W; FL_CHUNK_SIZE], bytes: &mut [u8])
+    requires width { width ≤ W.T }
+    requires room { length bytes.old ≡ 128 * width }
+    ensures { Packed W.T W.LANES width (pattern_at W.pattern items.now) (word_at W.T bytes.new) }
+{
+    pack_block::<W, AsBytes>(width, items, bytes);
 }

@@ -2,34 +2,40 @@
 #![tactic(auto)]
 
 ghost use Rattle.std.specs.Prelude.{◌≡◌, ℕ, ◌+◌, ◌*◌, ◌/◌, ◌%◌, ◌^◌, ◌<◌, ◌≤◌, Bool, true, false, min, length};
-ghost use Rattle.fastlanes.specs.Layout.{place, pattern_at, unpacked_item};
+ghost use Rattle.fastlanes.specs.Layout.{place, pattern_at, unpacked_item, word_at};
 ghost use Rattle.fastlanes.specs.Filled.{Filled, IsReference, item_of, sum_of};
 
 use crate::counts::Work;
 use crate::layout::{FL_CHUNK_SIZE, pos};
+use crate::storage::{AsBytes, AsWords, Storage};
 use crate::widths::{at_width, begin, bits, group_at, lanes};
 use crate::words::FastLanes;
 
 /// The items at row `r` of the lanes of group `g`.
 #[inline(always)]
-pub(crate) fn items_of_row<W: FastLanes>(width: usize, words: &[W], r: usize, g: usize) -> W::Vector
+pub(crate) fn items_of_row<W: FastLanes, S: Storage<W>>(
+    width: usize,
+    words: &[S::Unit],
+    r: usize,
+    g: usize,
+) -> W::Vector
     requires width { width ≤ W.T }
-    requires block { length words.now ≡ width * W.LANES }
+    requires block { S.count (length words.now) ≡ width * W.LANES }
     requires row { r < W.T }
     requires group { 16 * g + 16 ≤ W.LANES }
     ensures whole { W.whole result }
-    ensures items { (j : ℕ) → j < 16 → W.lane result j ≡ item_of W.T W.LANES width (pattern_at W.pattern words.now) r (16 * g + j) }
+    ensures items { (j : ℕ) → j < 16 → W.lane result j ≡ item_of W.T W.LANES width (S.word words.now) r (16 * g + j) }
 {
     if width == 0 {
         return W::splat(W::zero());
     }
     let (k, shift) = begin::<W>(width, r);
-    let begun = W::shift_right(W::load(words, group_at::<W>(width, k, g)), shift);
+    let begun = W::shift_right(S::load(words, group_at::<W>(width, k, g)), shift);
     let t = bits::<W>();
     if shift + width <= t {
         W::and(begun, W::low_mask(width))
     } else {
-        let rest = W::shift_left(W::load(words, group_at::<W>(width, k + 1, g)), t - shift);
+        let rest = W::shift_left(S::load(words, group_at::<W>(width, k + 1, g)), t - shift);
         W::and(W::or(begun, rest), W::low_mask(width))
     }
 }
@@ -49,149 +55,149 @@ fn framed<W: FastLanes, const FRAMED: bool>(row: W::Vector, reference: W::Vector
 
 /// Writes the items at row `r` of the lanes of group `g`, plus the reference.
 #[inline(always)]
-fn unpack_row<W: FastLanes, const FRAMED: bool>(
+fn unpack_row<W: FastLanes, S: Storage<W>, const FRAMED: bool>(
     width: usize,
-    words: &[W],
+    words: &[S::Unit],
     reference: W::Vector,
     r: usize,
     g: usize,
     items: &mut [W; FL_CHUNK_SIZE],
 )
     requires width { width ≤ W.T }
-    requires block { length words.now ≡ width * W.LANES }
+    requires block { S.count (length words.now) ≡ width * W.LANES }
     requires reference { W.whole reference }
     requires frame { IsReference FRAMED (W.lane reference) }
     requires row { r < W.T }
     requires group { 16 * g + 16 ≤ W.LANES }
-    ensures filled { Filled W.T W.LANES place (sum_of W.T W.LANES width (pattern_at W.pattern words.now) (W.lane reference)) g r (r + 1) (pattern_at W.pattern items.old) (pattern_at W.pattern items.new) }
+    ensures filled { Filled W.T W.LANES place (sum_of W.T W.LANES width (S.word words.now) (W.lane reference)) g r (r + 1) (pattern_at W.pattern items.old) (pattern_at W.pattern items.new) }
     ensures whole { length items.new ≡ 1024 }
 {
-    let row = framed::<W, FRAMED>(items_of_row(width, words, r, g), reference);
+    let row = framed::<W, FRAMED>(items_of_row::<W, S>(width, words, r, g), reference);
     W::store(row, items, pos(r, 16 * g));
 }
 
 /// Writes the items at the eight rows from `r` on of the lanes of group `g`, plus the reference.
 #[inline(always)]
-fn unpack_8<W: FastLanes, const FRAMED: bool>(
+fn unpack_8<W: FastLanes, S: Storage<W>, const FRAMED: bool>(
     width: usize,
-    words: &[W],
+    words: &[S::Unit],
     reference: W::Vector,
     r: usize,
     g: usize,
     items: &mut [W; FL_CHUNK_SIZE],
 )
     requires width { width ≤ W.T }
-    requires block { length words.now ≡ width * W.LANES }
+    requires block { S.count (length words.now) ≡ width * W.LANES }
     requires reference { W.whole reference }
     requires frame { IsReference FRAMED (W.lane reference) }
     requires row { r + 8 ≤ W.T }
     requires group { 16 * g + 16 ≤ W.LANES }
-    ensures filled { Filled W.T W.LANES place (sum_of W.T W.LANES width (pattern_at W.pattern words.now) (W.lane reference)) g r (r + 8) (pattern_at W.pattern items.old) (pattern_at W.pattern items.new) }
+    ensures filled { Filled W.T W.LANES place (sum_of W.T W.LANES width (S.word words.now) (W.lane reference)) g r (r + 8) (pattern_at W.pattern items.old) (pattern_at W.pattern items.new) }
     ensures whole { length items.new ≡ 1024 }
 {
-    unpack_row::<W, FRAMED>(width, words, reference, r, g, items);
-    unpack_row::<W, FRAMED>(width, words, reference, r + 1, g, items);
-    unpack_row::<W, FRAMED>(width, words, reference, r + 2, g, items);
-    unpack_row::<W, FRAMED>(width, words, reference, r + 3, g, items);
-    unpack_row::<W, FRAMED>(width, words, reference, r + 4, g, items);
-    unpack_row::<W, FRAMED>(width, words, reference, r + 5, g, items);
-    unpack_row::<W, FRAMED>(width, words, reference, r + 6, g, items);
-    unpack_row::<W, FRAMED>(width, words, reference, r + 7, g, items);
+    unpack_row::<W, S, FRAMED>(width, words, reference, r, g, items);
+    unpack_row::<W, S, FRAMED>(width, words, reference, r + 1, g, items);
+    unpack_row::<W, S, FRAMED>(width, words, reference, r + 2, g, items);
+    unpack_row::<W, S, FRAMED>(width, words, reference, r + 3, g, items);
+    unpack_row::<W, S, FRAMED>(width, words, reference, r + 4, g, items);
+    unpack_row::<W, S, FRAMED>(width, words, reference, r + 5, g, items);
+    unpack_row::<W, S, FRAMED>(width, words, reference, r + 6, g, items);
+    unpack_row::<W, S, FRAMED>(width, words, reference, r + 7, g, items);
 }
 
 /// Writes the items at the 16 rows of the lanes of group `g`, plus the reference.
-fn unpack_16<W: FastLanes, const FRAMED: bool, const WIDTH: usize>(
-    words: &[W],
+fn unpack_16<W: FastLanes, S: Storage<W>, const FRAMED: bool, const WIDTH: usize>(
+    words: &[S::Unit],
     reference: W::Vector,
     g: usize,
     items: &mut [W; FL_CHUNK_SIZE],
 )
     requires width { WIDTH ≤ W.T }
-    requires block { length words.now ≡ WIDTH * W.LANES }
+    requires block { S.count (length words.now) ≡ WIDTH * W.LANES }
     requires reference { W.whole reference }
     requires frame { IsReference FRAMED (W.lane reference) }
     requires row { 16 ≤ W.T }
     requires group { 16 * g + 16 ≤ W.LANES }
-    ensures filled { Filled W.T W.LANES place (sum_of W.T W.LANES WIDTH (pattern_at W.pattern words.now) (W.lane reference)) g 0 16 (pattern_at W.pattern items.old) (pattern_at W.pattern items.new) }
+    ensures filled { Filled W.T W.LANES place (sum_of W.T W.LANES WIDTH (S.word words.now) (W.lane reference)) g 0 16 (pattern_at W.pattern items.old) (pattern_at W.pattern items.new) }
     ensures whole { length items.new ≡ 1024 }
 {
-    unpack_8::<W, FRAMED>(WIDTH, words, reference, 0, g, items);
-    unpack_8::<W, FRAMED>(WIDTH, words, reference, 8, g, items);
+    unpack_8::<W, S, FRAMED>(WIDTH, words, reference, 0, g, items);
+    unpack_8::<W, S, FRAMED>(WIDTH, words, reference, 8, g, items);
 }
 
 /// Writes the items at the 32 rows of the lanes of group `g`, plus the reference.
-fn unpack_32<W: FastLanes, const FRAMED: bool, const WIDTH: usize>(
-    words: &[W],
+fn unpack_32<W: FastLanes, S: Storage<W>, const FRAMED: bool, const WIDTH: usize>(
+    words: &[S::Unit],
     reference: W::Vector,
     g: usize,
     items: &mut [W; FL_CHUNK_SIZE],
 )
     requires width { WIDTH ≤ W.T }
-    requires block { length words.now ≡ WIDTH * W.LANES }
+    requires block { S.count (length words.now) ≡ WIDTH * W.LANES }
     requires reference { W.whole reference }
     requires frame { IsReference FRAMED (W.lane reference) }
     requires row { 32 ≤ W.T }
     requires group { 16 * g + 16 ≤ W.LANES }
-    ensures filled { Filled W.T W.LANES place (sum_of W.T W.LANES WIDTH (pattern_at W.pattern words.now) (W.lane reference)) g 0 32 (pattern_at W.pattern items.old) (pattern_at W.pattern items.new) }
+    ensures filled { Filled W.T W.LANES place (sum_of W.T W.LANES WIDTH (S.word words.now) (W.lane reference)) g 0 32 (pattern_at W.pattern items.old) (pattern_at W.pattern items.new) }
     ensures whole { length items.new ≡ 1024 }
 {
-    unpack_8::<W, FRAMED>(WIDTH, words, reference, 0, g, items);
-    unpack_8::<W, FRAMED>(WIDTH, words, reference, 8, g, items);
-    unpack_8::<W, FRAMED>(WIDTH, words, reference, 16, g, items);
-    unpack_8::<W, FRAMED>(WIDTH, words, reference, 24, g, items);
+    unpack_8::<W, S, FRAMED>(WIDTH, words, reference, 0, g, items);
+    unpack_8::<W, S, FRAMED>(WIDTH, words, reference, 8, g, items);
+    unpack_8::<W, S, FRAMED>(WIDTH, words, reference, 16, g, items);
+    unpack_8::<W, S, FRAMED>(WIDTH, words, reference, 24, g, items);
 }
 
 /// Writes the items at the 64 rows of the lanes of group `g`, plus the reference.
-fn unpack_64<W: FastLanes, const FRAMED: bool, const WIDTH: usize>(
-    words: &[W],
+fn unpack_64<W: FastLanes, S: Storage<W>, const FRAMED: bool, const WIDTH: usize>(
+    words: &[S::Unit],
     reference: W::Vector,
     g: usize,
     items: &mut [W; FL_CHUNK_SIZE],
 )
     requires width { WIDTH ≤ W.T }
-    requires block { length words.now ≡ WIDTH * W.LANES }
+    requires block { S.count (length words.now) ≡ WIDTH * W.LANES }
     requires reference { W.whole reference }
     requires frame { IsReference FRAMED (W.lane reference) }
     requires row { 64 ≤ W.T }
     requires group { 16 * g + 16 ≤ W.LANES }
-    ensures filled { Filled W.T W.LANES place (sum_of W.T W.LANES WIDTH (pattern_at W.pattern words.now) (W.lane reference)) g 0 64 (pattern_at W.pattern items.old) (pattern_at W.pattern items.new) }
+    ensures filled { Filled W.T W.LANES place (sum_of W.T W.LANES WIDTH (S.word words.now) (W.lane reference)) g 0 64 (pattern_at W.pattern items.old) (pattern_at W.pattern items.new) }
     ensures whole { length items.new ≡ 1024 }
 {
-    unpack_8::<W, FRAMED>(WIDTH, words, reference, 0, g, items);
-    unpack_8::<W, FRAMED>(WIDTH, words, reference, 8, g, items);
-    unpack_8::<W, FRAMED>(WIDTH, words, reference, 16, g, items);
-    unpack_8::<W, FRAMED>(WIDTH, words, reference, 24, g, items);
-    unpack_8::<W, FRAMED>(WIDTH, words, reference, 32, g, items);
-    unpack_8::<W, FRAMED>(WIDTH, words, reference, 40, g, items);
-    unpack_8::<W, FRAMED>(WIDTH, words, reference, 48, g, items);
-    unpack_8::<W, FRAMED>(WIDTH, words, reference, 56, g, items);
+    unpack_8::<W, S, FRAMED>(WIDTH, words, reference, 0, g, items);
+    unpack_8::<W, S, FRAMED>(WIDTH, words, reference, 8, g, items);
+    unpack_8::<W, S, FRAMED>(WIDTH, words, reference, 16, g, items);
+    unpack_8::<W, S, FRAMED>(WIDTH, words, reference, 24, g, items);
+    unpack_8::<W, S, FRAMED>(WIDTH, words, reference, 32, g, items);
+    unpack_8::<W, S, FRAMED>(WIDTH, words, reference, 40, g, items);
+    unpack_8::<W, S, FRAMED>(WIDTH, words, reference, 48, g, items);
+    unpack_8::<W, S, FRAMED>(WIDTH, words, reference, 56, g, items);
 }
 
 /// Writes the items at all rows of the lanes of group `g`, plus the reference.
 #[inline(always)]
-fn unpack_group<W: FastLanes, const FRAMED: bool, const WIDTH: usize>(
-    words: &[W],
+fn unpack_group<W: FastLanes, S: Storage<W>, const FRAMED: bool, const WIDTH: usize>(
+    words: &[S::Unit],
     reference: W::Vector,
     g: usize,
     items: &mut [W; FL_CHUNK_SIZE],
 )
     requires width { WIDTH ≤ W.T }
-    requires block { length words.now ≡ WIDTH * W.LANES }
+    requires block { S.count (length words.now) ≡ WIDTH * W.LANES }
     requires reference { W.whole reference }
     requires frame { IsReference FRAMED (W.lane reference) }
     requires group { 16 * g + 16 ≤ W.LANES }
-    ensures filled { Filled W.T W.LANES place (sum_of W.T W.LANES WIDTH (pattern_at W.pattern words.now) (W.lane reference)) g 0 W.T (pattern_at W.pattern items.old) (pattern_at W.pattern items.new) }
+    ensures filled { Filled W.T W.LANES place (sum_of W.T W.LANES WIDTH (S.word words.now) (W.lane reference)) g 0 W.T (pattern_at W.pattern items.old) (pattern_at W.pattern items.new) }
     ensures whole { length items.new ≡ 1024 }
 {
     let t = bits::<W>();
     if t == 8 {
-        unpack_8::<W, FRAMED>(WIDTH, words, reference, 0, g, items);
+        unpack_8::<W, S, FRAMED>(WIDTH, words, reference, 0, g, items);
     } else if t == 16 {
-        unpack_16::<W, FRAMED, WIDTH>(words, reference, g, items);
+        unpack_16::<W, S, FRAMED, WIDTH>(words, reference, g, items);
     } else if t == 32 {
-        unpack_32::<W, FRAMED, WIDTH>(words, reference, g, items);
+        unpack_32::<W, S, FRAMED, WIDTH>(words, reference, g, items);
     } else {
-        unpack_64::<W, FRAMED, WIDTH>(words, reference, g, items);
+        unpack_64::<W, S, FRAMED, WIDTH>(words, reference, g, items);
     }
 }
 
@@ -207,116 +213,116 @@ fn splat_reference<W: FastLanes, const FRAMED: bool>(reference: W) -> W::Vector
 }
 
 /// Writes the items of a block, plus the reference.
-fn unpack_groups<W: FastLanes, const FRAMED: bool, const WIDTH: usize>(
-    words: &[W],
+fn unpack_groups<W: FastLanes, S: Storage<W>, const FRAMED: bool, const WIDTH: usize>(
+    words: &[S::Unit],
     reference: W,
     items: &mut [W; FL_CHUNK_SIZE],
 )
     requires width { WIDTH ≤ W.T }
-    requires block { length words.now ≡ WIDTH * W.LANES }
+    requires block { S.count (length words.now) ≡ WIDTH * W.LANES }
     requires frame { FRAMED ≡ false → W.pattern reference ≡ 0 }
-    ensures items { (i : ℕ) → i < 1024 → pattern_at W.pattern items.new i ≡ (unpacked_item W.T W.LANES WIDTH (pattern_at W.pattern words.now) i + W.pattern reference) % 2 ^ W.T }
+    ensures items { (i : ℕ) → i < 1024 → pattern_at W.pattern items.new i ≡ (unpacked_item W.T W.LANES WIDTH (S.word words.now) i + W.pattern reference) % 2 ^ W.T }
     ensures whole { length items.new ≡ 1024 }
 {
     let reference = splat_reference::<W, FRAMED>(reference);
     for g in 0..lanes::<W>() / 16 {
-        unpack_group::<W, FRAMED, WIDTH>(words, reference, g, items);
+        unpack_group::<W, S, FRAMED, WIDTH>(words, reference, g, items);
     }
 }
 
 /// Unpacks at a width of at most 8 bits.
-fn unpack_to_8<W: FastLanes, const FRAMED: bool>(
+fn unpack_to_8<W: FastLanes, S: Storage<W>, const FRAMED: bool>(
     width: usize,
-    words: &[W],
+    words: &[S::Unit],
     reference: W,
     items: &mut [W; FL_CHUNK_SIZE],
 )
     requires most { width ≤ 8 }
     requires width { width ≤ W.T }
-    requires block { length words.now ≡ width * W.LANES }
+    requires block { S.count (length words.now) ≡ width * W.LANES }
     requires frame { FRAMED ≡ false → W.pattern reference ≡ 0 }
-    ensures items { (i : ℕ) → i < 1024 → pattern_at W.pattern items.new i ≡ (unpacked_item W.T W.LANES width (pattern_at W.pattern words.now) i + W.pattern reference) % 2 ^ W.T }
+    ensures items { (i : ℕ) → i < 1024 → pattern_at W.pattern items.new i ≡ (unpacked_item W.T W.LANES width (S.word words.now) i + W.pattern reference) % 2 ^ W.T }
     ensures whole { length items.new ≡ 1024 }
 {
-    at_width!(width, [0 1 2 3 4 5 6 7], 8, unpack_groups, FRAMED, (words, reference, items))
+    at_width!(width, [0 1 2 3 4 5 6 7], 8, unpack_groups, [W, S, FRAMED], (words, reference, items))
 }
 
 /// Unpacks at a width of 9 to 16 bits.
-fn unpack_to_16<W: FastLanes, const FRAMED: bool>(
+fn unpack_to_16<W: FastLanes, S: Storage<W>, const FRAMED: bool>(
     width: usize,
-    words: &[W],
+    words: &[S::Unit],
     reference: W,
     items: &mut [W; FL_CHUNK_SIZE],
 )
     requires above { 8 < width }
     requires most { width ≤ 16 }
     requires width { width ≤ W.T }
-    requires block { length words.now ≡ width * W.LANES }
+    requires block { S.count (length words.now) ≡ width * W.LANES }
     requires frame { FRAMED ≡ false → W.pattern reference ≡ 0 }
-    ensures items { (i : ℕ) → i < 1024 → pattern_at W.pattern items.new i ≡ (unpacked_item W.T W.LANES width (pattern_at W.pattern words.now) i + W.pattern reference) % 2 ^ W.T }
+    ensures items { (i : ℕ) → i < 1024 → pattern_at W.pattern items.new i ≡ (unpacked_item W.T W.LANES width (S.word words.now) i + W.pattern reference) % 2 ^ W.T }
     ensures whole { length items.new ≡ 1024 }
 {
-    at_width!(width, [9 10 11 12 13 14 15], 16, unpack_groups, FRAMED, (words, reference, items))
+    at_width!(width, [9 10 11 12 13 14 15], 16, unpack_groups, [W, S, FRAMED], (words, reference, items))
 }
 
 /// Unpacks at a width of 17 to 32 bits.
-fn unpack_to_32<W: FastLanes, const FRAMED: bool>(
+fn unpack_to_32<W: FastLanes, S: Storage<W>, const FRAMED: bool>(
     width: usize,
-    words: &[W],
+    words: &[S::Unit],
     reference: W,
     items: &mut [W; FL_CHUNK_SIZE],
 )
     requires above { 16 < width }
     requires most { width ≤ 32 }
     requires width { width ≤ W.T }
-    requires block { length words.now ≡ width * W.LANES }
+    requires block { S.count (length words.now) ≡ width * W.LANES }
     requires frame { FRAMED ≡ false → W.pattern reference ≡ 0 }
-    ensures items { (i : ℕ) → i < 1024 → pattern_at W.pattern items.new i ≡ (unpacked_item W.T W.LANES width (pattern_at W.pattern words.now) i + W.pattern reference) % 2 ^ W.T }
+    ensures items { (i : ℕ) → i < 1024 → pattern_at W.pattern items.new i ≡ (unpacked_item W.T W.LANES width (S.word words.now) i + W.pattern reference) % 2 ^ W.T }
     ensures whole { length items.new ≡ 1024 }
 {
-    at_width!(width, [17 18 19 20 21 22 23 24 25 26 27 28 29 30 31], 32, unpack_groups, FRAMED, (words, reference, items))
+    at_width!(width, [17 18 19 20 21 22 23 24 25 26 27 28 29 30 31], 32, unpack_groups, [W, S, FRAMED], (words, reference, items))
 }
 
 /// Unpacks at a width of 33 to 64 bits.
-fn unpack_to_64<W: FastLanes, const FRAMED: bool>(
+fn unpack_to_64<W: FastLanes, S: Storage<W>, const FRAMED: bool>(
     width: usize,
-    words: &[W],
+    words: &[S::Unit],
     reference: W,
     items: &mut [W; FL_CHUNK_SIZE],
 )
     requires above { 32 < width }
     requires most { width ≤ 64 }
     requires width { width ≤ W.T }
-    requires block { length words.now ≡ width * W.LANES }
+    requires block { S.count (length words.now) ≡ width * W.LANES }
     requires frame { FRAMED ≡ false → W.pattern reference ≡ 0 }
-    ensures items { (i : ℕ) → i < 1024 → pattern_at W.pattern items.new i ≡ (unpacked_item W.T W.LANES width (pattern_at W.pattern words.now) i + W.pattern reference) % 2 ^ W.T }
+    ensures items { (i : ℕ) → i < 1024 → pattern_at W.pattern items.new i ≡ (unpacked_item W.T W.LANES width (S.word words.now) i + W.pattern reference) % 2 ^ W.T }
     ensures whole { length items.new ≡ 1024 }
 {
-    at_width!(width, [33 34 35 36 37 38 39 40 41 42 43 44 45 46 47 48 49 50 51 52 53 54 55 56 57 58 59 60 61 62 63], 64, unpack_groups, FRAMED, (words, reference, items))
+    at_width!(width, [33 34 35 36 37 38 39 40 41 42 43 44 45 46 47 48 49 50 51 52 53 54 55 56 57 58 59 60 61 62 63], 64, unpack_groups, [W, S, FRAMED], (words, reference, items))
 }
 
 /// Writes the items of a block at any width, plus the reference.
-pub(crate) fn unpack_block<W: FastLanes, const FRAMED: bool>(
+pub(crate) fn unpack_block<W: FastLanes, S: Storage<W>, const FRAMED: bool>(
     width: usize,
-    words: &[W],
+    words: &[S::Unit],
     reference: W,
     items: &mut [W; FL_CHUNK_SIZE],
 )
     requires width { width ≤ W.T }
-    requires block { length words.now ≡ width * W.LANES }
+    requires block { S.count (length words.now) ≡ width * W.LANES }
     requires frame { FRAMED ≡ false → W.pattern reference ≡ 0 }
-    ensures items { (i : ℕ) → i < 1024 → pattern_at W.pattern items.new i ≡ (unpacked_item W.T W.LANES width (pattern_at W.pattern words.now) i + W.pattern reference) % 2 ^ W.T }
+    ensures items { (i : ℕ) → i < 1024 → pattern_at W.pattern items.new i ≡ (unpacked_item W.T W.LANES width (S.word words.now) i + W.pattern reference) % 2 ^ W.T }
     ensures whole { length items.new ≡ 1024 }
 {
     let t = bits::<W>();
     if t == 8 || width <= 8 {
-        unpack_to_8::<W, FRAMED>(width, words, reference, items);
+        unpack_to_8::<W, S, FRAMED>(width, words, reference, items);
     } else if t == 16 || width <= 16 {
-        unpack_to_16::<W, FRAMED>(width, words, reference, items);
+        unpack_to_16::<W, S, FRAMED>(width, words, reference, items);
     } else if t == 32 || width <= 32 {
-        unpack_to_32::<W, FRAMED>(width, words, reference, items);
+        unpack_to_32::<W, S, FRAMED>(width, words, reference, items);
     } else {
-        unpack_to_64::<W, FRAMED>(width, words, reference, items);
+        unpack_to_64::<W, S, FRAMED>(width, words, reference, items);
     }
 }
 
@@ -335,7 +341,7 @@ pub fn unpack<W: FastLanes>(
     ensures words { work.new.words ≡ work.old.words }
 {
     work.add_block();
-    unpack_block::<W, false>(width, words, W::zero(), items);
+    unpack_block::<W, AsWords, false>(width, words, W::zero(), items);
 }
 
 /// Unpacks a block and adds the reference to each item, modulo 2 to the number of bits.
@@ -354,5 +360,25 @@ pub fn unfor_pack<W: FastLanes>(
     ensures words { work.new.words ≡ work.old.words }
 {
     work.add_block();
-    unpack_block::<W, true>(width, words, reference, items);
+    unpack_block::<W, AsWords, true>(width, words, reference, items);
+}
+
+/// Unpacks a block of bytes: writes the item at each position, its bits from `width` on 0.
+///
+/// The bytes are those of the block's words, the low byte of each first.
+pub fn unpack_bytes<W: FastLanes>(
+    width: usize,
+    bytes: &[u8],
+    items: &mut [W; FL_CHUNK_SIZE],
+    work: &mut Work,
+)
+    requires width { width ≤ W.T }
+    requires block { length bytes.now ≡ 128 * width }
+    ensures items { (i : ℕ) → i < 1024 → pattern_at W.pattern items.new i ≡ unpacked_item W.T W.LANES width (word_at W.T bytes.now) i }
+    ensures whole { length items.new ≡ 1024 }
+    ensures blocks { work.new.blocks ≡ min (work.old.blocks + 1) u64.MAX }
+    ensures words { work.new.words ≡ work.old.words }
+{
+    work.add_block();
+    unpack_block::<W, AsBytes, false>(width, bytes, W::zero(), items);
 }

@@ -53,16 +53,16 @@ pub(crate) fn group_at<W: FastLanes>(width: usize, k: usize, g: usize) -> usize
 
 /// Calls a kernel with its width as a constant, which is one of those listed or else the last.
 macro_rules! at_width {
-    ($width:expr, [$($each:literal)*], $last:literal, $kernel:ident, $args:tt) => {
+    ($width:expr, [$($each:literal)*], $last:literal, $kernel:ident, [$first:ident, $second:ident], $args:tt) => {
         match $width {
-            $($each => $kernel::<W, $each> $args,)*
-            _ => $kernel::<W, $last> $args,
+            $($each => $kernel::<$first, $second, $each> $args,)*
+            _ => $kernel::<$first, $second, $last> $args,
         }
     };
-    ($width:expr, [$($each:literal)*], $last:literal, $kernel:ident, $which:ident, $args:tt) => {
+    ($width:expr, [$($each:literal)*], $last:literal, $kernel:ident, [$first:ident, $second:ident, $third:ident], $args:tt) => {
         match $width {
-            $($each => $kernel::<W, $which, $each> $args,)*
-            _ => $kernel::<W, $which, $last> $args,
+            $($each => $kernel::<$first, $second, $third, $each> $args,)*
+            _ => $kernel::<$first, $second, $third, $last> $args,
         }
     };
 }

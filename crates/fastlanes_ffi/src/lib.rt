@@ -2,11 +2,15 @@
 #![tactic(auto)]
 
 mod blocks;
+mod columns;
 
 use blocks::{
     compare_all, delta_all, pack_all, rle_decode_all, single, transpose_all, undelta_all,
     unfor_pack_all, unpack_all, untranspose_all,
 };
+use columns::{decode_column, pack_column, unpack_column};
+use fl_types::Validity;
+use std::alloc::Global;
 
 #[unsafe(no_mangle)]
 pub extern "C" fn fl_pack_u8(width: usize, items: &[u8], packed: &mut [u8]) {
@@ -289,4 +293,116 @@ pub extern "C" fn fl_undelta_u64(input: &[u64], bases: &[u64], items: &mut [u64]
 #[unsafe(no_mangle)]
 pub extern "C" fn fl_rle_decode_u64(values: &[u64], indices: &[u16], items: &mut [u64]) {
     rle_decode_all(values, indices.as_chunks().0, items.as_chunks_mut().0);
+}
+
+#[unsafe(no_mangle)]
+pub extern "C" fn fl_pack_column_u8(
+    alloc: Global,
+    rounds: usize,
+    width: u8,
+    items: &[u8],
+    bytes: &mut [u8],
+) -> usize {
+    pack_column(alloc, rounds, width, items, bytes).unwrap_or(0)
+}
+
+#[unsafe(no_mangle)]
+pub extern "C" fn fl_unpack_column_u8(
+    alloc: Global,
+    rounds: usize,
+    width: u8,
+    len: usize,
+    packed: &[u8],
+    items: &mut [u8],
+) -> usize {
+    unpack_column(alloc, rounds, width, len, packed, &Validity::NonNullable, items).unwrap_or(0)
+}
+
+#[unsafe(no_mangle)]
+pub extern "C" fn fl_decode_column_u8(width: u8, packed: &[u8], items: &mut [u8]) -> usize {
+    decode_column(width, packed, items)
+}
+
+#[unsafe(no_mangle)]
+pub extern "C" fn fl_pack_column_u16(
+    alloc: Global,
+    rounds: usize,
+    width: u8,
+    items: &[u16],
+    bytes: &mut [u8],
+) -> usize {
+    pack_column(alloc, rounds, width, items, bytes).unwrap_or(0)
+}
+
+#[unsafe(no_mangle)]
+pub extern "C" fn fl_unpack_column_u16(
+    alloc: Global,
+    rounds: usize,
+    width: u8,
+    len: usize,
+    packed: &[u8],
+    items: &mut [u16],
+) -> usize {
+    unpack_column(alloc, rounds, width, len, packed, &Validity::NonNullable, items).unwrap_or(0)
+}
+
+#[unsafe(no_mangle)]
+pub extern "C" fn fl_decode_column_u16(width: u8, packed: &[u8], items: &mut [u16]) -> usize {
+    decode_column(width, packed, items)
+}
+
+#[unsafe(no_mangle)]
+pub extern "C" fn fl_pack_column_u32(
+    alloc: Global,
+    rounds: usize,
+    width: u8,
+    items: &[u32],
+    bytes: &mut [u8],
+) -> usize {
+    pack_column(alloc, rounds, width, items, bytes).unwrap_or(0)
+}
+
+#[unsafe(no_mangle)]
+pub extern "C" fn fl_unpack_column_u32(
+    alloc: Global,
+    rounds: usize,
+    width: u8,
+    len: usize,
+    packed: &[u8],
+    items: &mut [u32],
+) -> usize {
+    unpack_column(alloc, rounds, width, len, packed, &Validity::NonNullable, items).unwrap_or(0)
+}
+
+#[unsafe(no_mangle)]
+pub extern "C" fn fl_decode_column_u32(width: u8, packed: &[u8], items: &mut [u32]) -> usize {
+    decode_column(width, packed, items)
+}
+
+#[unsafe(no_mangle)]
+pub extern "C" fn fl_pack_column_u64(
+    alloc: Global,
+    rounds: usize,
+    width: u8,
+    items: &[u64],
+    bytes: &mut [u8],
+) -> usize {
+    pack_column(alloc, rounds, width, items, bytes).unwrap_or(0)
+}
+
+#[unsafe(no_mangle)]
+pub extern "C" fn fl_unpack_column_u64(
+    alloc: Global,
+    rounds: usize,
+    width: u8,
+    len: usize,
+    packed: &[u8],
+    items: &mut [u64],
+) -> usize {
+    unpack_column(alloc, rounds, width, len, packed, &Validity::NonNullable, items).unwrap_or(0)
+}
+
+#[unsafe(no_mangle)]
+pub extern "C" fn fl_decode_column_u64(width: u8, packed: &[u8], items: &mut [u64]) -> usize {
+    decode_column(width, packed, items)
 }

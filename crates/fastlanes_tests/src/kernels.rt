@@ -132,6 +132,42 @@ fn old_and_new_agree_on_words_of_64_bits(rt: HostRuntime) {
     old_and_new_agree::<u64>(&rt);
 }
 
+/// Packs and unpacks a block at each width, as words and as their bytes.
+fn words_and_bytes_agree<W: FastLanes>(rt: &impl Abort) {
+    W::in_memory();
+    let mut items = [W::zero(); FL_CHUNK_SIZE];
+    for p in 0..FL_CHUNK_SIZE {
+        items[p] = word(item_of_block(2, p));
+    }
+    let mut packed = [W::zero(); FL_CHUNK_SIZE];
+    let mut bytes = [0u8; 8 * FL_CHUNK_SIZE];
+    let mut unpacked = [W::zero(); FL_CHUNK_SIZE];
+    let mut unpacked_from_bytes = [W::zero(); FL_CHUNK_SIZE];
+    let mut work = Work::new();
+    for width in 0..W::T + 1 {
+        let size = block_size::<W>(width);
+        pack(width, &items, &mut packed[..size]);
+        pack_bytes(width, &items, &mut bytes[..128 * width]);
+        for m in 0..size {
+            assert!(rt; W::word(&bytes, m).same(packed[m]), "word {m} at {width}");
+        }
+        unpack(width, &packed[..size], &mut unpacked, &mut work);
+        unpack_bytes(width, &bytes[..128 * width], &mut unpacked_from_bytes, &mut work);
+        for p in 0..FL_CHUNK_SIZE {
+            assert!(rt; unpacked[p].same(unpacked_from_bytes[p]), "item {p} at {width}");
+        }
+    }
+    assert!(rt; work.blocks() == 2 * (W::T as u64 + 1));
+}
+
+#[test]
+fn words_and_bytes_agree_at_each_type(rt: HostRuntime) {
+    words_and_bytes_agree::<u8>(&rt);
+    words_and_bytes_agree::<u16>(&rt);
+    words_and_bytes_agree::<u32>(&rt);
+    words_and_bytes_agree::<u64>(&rt);
+}
+
 /// Items `p` modulo 7 at width 3, through each kernel that reads packed words.
 fn packed_items_are_read<W: FastLanes>(rt: &impl Abort)
     requires { 3 ≤ W.T }

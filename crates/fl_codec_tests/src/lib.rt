@@ -23,3 +23,5 @@ mod runs;
 mod widths;
 #[cfg(test)]
 mod widths_at_each_type;
+#[cfg(test)]
+mod word_packing;

@@ -1,5 +1,7 @@
 //! What no clause says: how refusals are shown, and each call that takes memory.
 
+ghost use Rattle.std.specs.Prelude.{◌≡◌, IfOk, length};
+
 use fl_types::*;
 use std::test::Fail;
 
@@ -87,6 +89,45 @@ fn lists_of_bits_grow_and_are_cut(rt: HostRuntime) -> Result<(), Fail> {
     assert_eq!(rt; made.len(), 130);
     assert!(rt; made.get(64));
     assert!(rt; made.get(129));
+    Ok(())
+}
+
+/// Every third of so many.
+fn thirds(rt: &HostRuntime, len: usize) -> Result<BitList, FastLanesError>
+    ensures { IfOk result (λ b. length b ≡ len) }
+{
+    BitList::from_fn(rt.alloc(), len, |i| i % 3 == 0)
+}
+
+#[test]
+fn lists_of_bits_are_equal_by_their_bits(rt: HostRuntime) -> Result<(), Fail> {
+    let bits = thirds(&rt, 70)?;
+    assert!(rt; bits == bits.try_clone(rt.alloc())?);
+    assert!(rt; bits == thirds(&rt, 130)?.slice(rt.alloc(), 60, 130)?);
+    assert!(rt; bits != thirds(&rt, 71)?);
+    assert!(rt; bits != BitList::from_fn(rt.alloc(), 70, |i| i % 3 == 0 && i != 69)?);
+    Ok(())
+}
+
+#[test]
+fn validities_masks_and_slots_are_compared(rt: HostRuntime) -> Result<(), Fail> {
+    assert!(rt; Validity::AllValid != Validity::NonNullable);
+    assert!(rt; Validity::Array(thirds(&rt, 2)?) == Validity::Array(thirds(&rt, 2)?));
+    assert!(rt; Mask::AllTrue(3) != Mask::AllTrue(4));
+    assert!(rt; Mask::Values(thirds(&rt, 2)?) != Mask::Values(thirds(&rt, 3)?));
+    assert!(rt; Slots::U8(vec![in rt.alloc(); 7u8; 1]?) == Slots::U8(vec![in rt.alloc(); 7u8; 1]?));
+    assert!(rt; Slots::U8(vec![in rt.alloc(); 7u8; 1]?) != Slots::I8(vec![in rt.alloc(); 7i8; 1]?));
+    Ok(())
+}
+
+#[test]
+fn values_are_shown_for_debugging(rt: HostRuntime) -> Result<(), Fail> {
+    let shown = format!(in rt.alloc(); "{:?}", Validity::AllInvalid)?;
+    assert_eq!(rt; shown.as_str(), "AllInvalid");
+    let shown = format!(in rt.alloc(); "{:?}", Mask::AllTrue(3))?;
+    assert_eq!(rt; shown.as_str(), "AllTrue(3)");
+    let shown = format!(in rt.alloc(); "{:?}", Slots::I16(vec![in rt.alloc(); -2i16; 2]?))?;
+    assert_eq!(rt; shown.as_str(), "I16([-2, -2])");
     Ok(())
 }
 

@@ -45,7 +45,8 @@ start_at widths j h =
     let here = boundary_at widths j h in
     omega arith
 
-width_at : (widths : List ℕ) (j : ℕ) → j < length widths → (bounded_blocks (boundaries_of widths)).width j ≡ get_or widths j 0
+-- the width of a block between its boundaries is the one that they were made of
+pub width_at : (widths : List ℕ) (j : ℕ) → j < length widths → (bounded_blocks (boundaries_of widths)).width j ≡ get_or widths j 0
 width_at widths j h =
     let here = boundary_at widths j (omega arith) in
     let next = boundary_at widths (j + 1) (omega arith) in

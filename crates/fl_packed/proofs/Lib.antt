@@ -1,9 +1,12 @@
 pub mod Bounds
 pub mod ColumnLaws
 pub mod FoundBelow
+pub mod Gathered
 pub mod Joined
 pub mod Natives
 pub mod Order
 pub mod Lent
 pub mod Restores
 pub mod Slices
+pub mod SameWords
+pub mod WordLaws

@@ -36,32 +36,11 @@ few_words _ _ width bits_16 h = omega arith
 few_words _ _ width bits_32 h = omega arith
 few_words _ _ width bits_64 h = omega arith
 
--- a word that lies in the bytes is one of their words
-pub word_inside : (T lanes m n words bytes : ℕ) → IsWordWidth T lanes → bytes ≡ words * (T / 8) → words ≤ n → (m + 1) * (T / 8) ≤ bytes → m < n
-word_inside _ _ m n words bytes bits_8 e f h = omega arith
-word_inside _ _ m n words bytes bits_16 e f h = omega arith
-word_inside _ _ m n words bytes bits_32 e f h = omega arith
-word_inside _ _ m n words bytes bits_64 e f h = omega arith
-
--- the words of a block lie in its bytes
-pub word_of_block : (T lanes width m bytes : ℕ) → IsWordWidth T lanes → bytes ≡ 128 * width → m < width * lanes → (m + 1) * (T / 8) ≤ bytes
-word_of_block _ _ width m bytes bits_8 e h = omega arith
-word_of_block _ _ width m bytes bits_16 e h = omega arith
-word_of_block _ _ width m bytes bits_32 e h = omega arith
-word_of_block _ _ width m bytes bits_64 e h = omega arith
-
 -- ---- items and words
 -- an unpacked item has its low bits alone
 pub unpacked_small : (T lanes width : ℕ) (word : ℕ → ℕ) (i : ℕ) → unpacked_item T lanes width word i < 2 ^ width
 unfolding unpacked_item unpacked_bits
 unpacked_small T lanes width word i = from_bits_below _ (λ b. packed_bit_small T lanes word _ _) width
-
--- only the words of the block count
-pub unpacked_by_words : (T lanes width : ℕ) (word other : ℕ → ℕ) (i : ℕ) → IsWordWidth T lanes → ((m : ℕ) → m < width * lanes → other m ≡ word m) → i < 1024
-    → unpacked_item T lanes width other i ≡ unpacked_item T lanes width word i
-unpacked_by_words T lanes width word other i shape same h =
-    let packed = packed_by_words T lanes width (unpacked_item T lanes width word) word other shape same (items_packed T lanes width word shape) in
-    sym (items_read T lanes width (unpacked_item T lanes width word) other shape packed i h) ∙ mod-eq_of_lt (unpacked_small T lanes width word i)
 
 -- only the items of the block count
 pub packed_by_items : (T lanes width : ℕ) (item other word : ℕ → ℕ) → IsWordWidth T lanes → ((i : ℕ) → i < 1024 → other i ≡ item i)

@@ -19,7 +19,7 @@ use Rattle.fl_packed.specs.Blocks.{ArePacked, Blocks, block_item, bytes_of_block
 use Rattle.fl_packed.specs.Columns.{PackedParts, column_of_packed, packed_item}
 use Rattle.fl_packed.specs.Restored.{AreKept}
 
-type_shape : (ptype : PType) → IsWordWidth (bits_of_type ptype) (lanes_of_type ptype)
+pub type_shape : (ptype : PType) → IsWordWidth (bits_of_type ptype) (lanes_of_type ptype)
 type_shape U8 = bits_8
 type_shape U16 = bits_16
 type_shape U32 = bits_32

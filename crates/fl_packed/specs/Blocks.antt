@@ -54,6 +54,11 @@ pub record ArePacked (ptype : PType) (integers : List ℤ) (blocks : Blocks) (by
   pub size : length bytes ≡ blocks.start (chunk_count (length integers))
   pub each : (j : ℕ) → j < chunk_count (length integers) → Packed (bits_of_type ptype) (lanes_of_type ptype) (blocks.width j) (λ q. pattern_in ptype integers (1024 * j + q)) (word_at (bits_of_type ptype) (bytes_of_block blocks bytes j))
 
+-- these words, read as integers of the type, are the packed low bits of these integers, block by block, and behind the last integer stands 0
+pub record AreWords (ptype : PType) (integers : List ℤ) (width : ℕ) (words : List ℤ) : Type 0 where
+  pub size : length words ≡ width * lanes_of_type ptype * chunk_count (length integers)
+  pub each : (j : ℕ) → j < chunk_count (length integers) → Packed (bits_of_type ptype) (lanes_of_type ptype) width (λ q. pattern_in ptype integers (1024 * j + q)) (λ m. pattern_in ptype words (width * lanes_of_type ptype * j + m))
+
 -- the integer of element i
 unfoldable pub value_at : {T : Type 0} → (T → ℤ) → List T → ℕ → ℤ
 value_at value items i = slice_index_or (map value items) i (pos 0)

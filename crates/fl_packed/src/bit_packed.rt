@@ -3,12 +3,11 @@
 ghost use Rattle.std.specs.Prelude.{◌≡◌, ◌+◌, ◌*◌, ◌<◌, ◌≤◌, ℕ, length, map, min};
 ghost use Rattle.std.specs.Mem.{type_size};
 ghost use Rattle.std.proofs.Common.{refl};
-ghost use Rattle.fastlanes.specs.Layout.{Packed, pattern_at};
+ghost use Rattle.fastlanes.specs.Layout.{Packed, pattern_at, word_at};
 ghost use Rattle.fl_types.specs.Integers.{bits_of_type};
 ghost use Rattle.fl_packed.specs.Blocks.{block_item, pattern_in, value_at};
 
-use crate::words::unpack_bytes;
-use fastlanes::{FL_CHUNK_SIZE, FastLanes, Work, pack};
+use fastlanes::{FL_CHUNK_SIZE, FastLanes, Work, pack_bytes, unpack_bytes};
 use fl_types::NativePType;
 
 /// A type whose values have so many bits.
@@ -31,12 +30,13 @@ pub trait BitPacked: NativePType + BitCount {
         ensures blocks { work.new.blocks ≡ min (work.old.blocks + 1) u64.MAX }
         ensures words { work.new.words ≡ work.old.words };
 
-    /// Packs the low `width` bits of at most 1024 integers, behind which stands 0.
-    fn pack_block(width: usize, items: &[Self], words: &mut [Self::Physical])
+    /// Packs the low `width` bits of at most 1024 integers, behind which stands 0, into the
+    /// `128 * width` bytes of a block.
+    fn pack_block(width: usize, items: &[Self], block: &mut [u8])
         requires width { width ≤ Self.Physical.T }
         requires few { length items.now ≤ 1024 }
-        requires room { length words.old ≡ width * Self.Physical.LANES }
-        ensures { Packed Self.Physical.T Self.Physical.LANES width (pattern_in Self.PTYPE (map Self.value items.now)) (pattern_at Self.Physical.pattern words.new) };
+        requires room { length block.old ≡ 128 * width }
+        ensures { Packed Self.Physical.T Self.Physical.LANES width (pattern_in Self.PTYPE (map Self.value items.now)) (word_at Self.Physical.T block.new) };
 
     /// An integer takes at most eight bytes, so that blocks of them fit in memory.
     fn fits_in_memory()
@@ -69,7 +69,7 @@ fn unpack_patterns<T: NativePType>(
 }
 
 /// Writes the patterns of at most 1024 integers, and behind them 0.
-fn put_patterns<T: NativePType>(items: &[T], patterns: &mut [T::Physical; FL_CHUNK_SIZE])
+pub(crate) fn put_patterns<T: NativePType>(items: &[T], patterns: &mut [T::Physical; FL_CHUNK_SIZE])
     requires { length items.now ≤ 1024 }
     ensures patterns { (i : ℕ) → i < 1024 → pattern_at T.Physical.pattern patterns.new i ≡ pattern_in T.PTYPE (map T.value items.now) i }
     ensures whole { length patterns.new ≡ 1024 }
@@ -83,16 +83,16 @@ fn put_patterns<T: NativePType>(items: &[T], patterns: &mut [T::Physical; FL_CHU
 }
 
 /// Packs the patterns of at most 1024 integers, behind which stands 0.
-fn pack_patterns<T: NativePType>(width: usize, items: &[T], words: &mut [T::Physical])
+fn pack_patterns<T: NativePType>(width: usize, items: &[T], block: &mut [u8])
     requires width { width ≤ T.Physical.T }
     requires few { length items.now ≤ 1024 }
-    requires room { length words.old ≡ width * T.Physical.LANES }
-    ensures { Packed T.Physical.T T.Physical.LANES width (pattern_in T.PTYPE (map T.value items.now)) (pattern_at T.Physical.pattern words.new) }
+    requires room { length block.old ≡ 128 * width }
+    ensures { Packed T.Physical.T T.Physical.LANES width (pattern_in T.PTYPE (map T.value items.now)) (word_at T.Physical.T block.new) }
 {
     T::Physical::in_memory();
     let mut patterns = [T::Physical::zero(); FL_CHUNK_SIZE];
     put_patterns(items, &mut patterns);
-    pack(width, &patterns, words);
+    pack_bytes(width, &patterns, block);
 }
 
 impl BitCount for u8 {
@@ -108,10 +108,10 @@ impl BitPacked for u8 {
         unpack_bytes(width, block, items, work);
     }
 
-    fn pack_block(width: usize, items: &[u8], words: &mut [u8]) {
+    fn pack_block(width: usize, items: &[u8], block: &mut [u8]) {
         match items.first_chunk::<FL_CHUNK_SIZE>() {
-            Some(block) => pack(width, block, words),
-            None => pack_patterns(width, items, words),
+            Some(whole) => pack_bytes(width, whole, block),
+            None => pack_patterns(width, items, block),
         }
     }
 
@@ -131,10 +131,10 @@ impl BitPacked for u16 {
         unpack_bytes(width, block, items, work);
     }
 
-    fn pack_block(width: usize, items: &[u16], words: &mut [u16]) {
+    fn pack_block(width: usize, items: &[u16], block: &mut [u8]) {
         match items.first_chunk::<FL_CHUNK_SIZE>() {
-            Some(block) => pack(width, block, words),
-            None => pack_patterns(width, items, words),
+            Some(whole) => pack_bytes(width, whole, block),
+            None => pack_patterns(width, items, block),
         }
     }
 
@@ -154,10 +154,10 @@ impl BitPacked for u32 {
         unpack_bytes(width, block, items, work);
     }
 
-    fn pack_block(width: usize, items: &[u32], words: &mut [u32]) {
+    fn pack_block(width: usize, items: &[u32], block: &mut [u8]) {
         match items.first_chunk::<FL_CHUNK_SIZE>() {
-            Some(block) => pack(width, block, words),
-            None => pack_patterns(width, items, words),
+            Some(whole) => pack_bytes(width, whole, block),
+            None => pack_patterns(width, items, block),
         }
     }
 
@@ -177,10 +177,10 @@ impl BitPacked for u64 {
         unpack_bytes(width, block, items, work);
     }
 
-    fn pack_block(width: usize, items: &[u64], words: &mut [u64]) {
+    fn pack_block(width: usize, items: &[u64], block: &mut [u8]) {
         match items.first_chunk::<FL_CHUNK_SIZE>() {
-            Some(block) => pack(width, block, words),
-            None => pack_patterns(width, items, words),
+            Some(whole) => pack_bytes(width, whole, block),
+            None => pack_patterns(width, items, block),
         }
     }
 
@@ -200,8 +200,8 @@ impl BitPacked for i8 {
         unpack_patterns(width, block, items, work);
     }
 
-    fn pack_block(width: usize, items: &[i8], words: &mut [u8]) {
-        pack_patterns(width, items, words);
+    fn pack_block(width: usize, items: &[i8], block: &mut [u8]) {
+        pack_patterns(width, items, block);
     }
 
     fn fits_in_memory() {}
@@ -220,8 +220,8 @@ impl BitPacked for i16 {
         unpack_patterns(width, block, items, work);
     }
 
-    fn pack_block(width: usize, items: &[i16], words: &mut [u16]) {
-        pack_patterns(width, items, words);
+    fn pack_block(width: usize, items: &[i16], block: &mut [u8]) {
+        pack_patterns(width, items, block);
     }
 
     fn fits_in_memory() {}
@@ -240,8 +240,8 @@ impl BitPacked for i32 {
         unpack_patterns(width, block, items, work);
     }
 
-    fn pack_block(width: usize, items: &[i32], words: &mut [u32]) {
-        pack_patterns(width, items, words);
+    fn pack_block(width: usize, items: &[i32], block: &mut [u8]) {
+        pack_patterns(width, items, block);
     }
 
     fn fits_in_memory() {}
@@ -260,8 +260,8 @@ impl BitPacked for i64 {
         unpack_patterns(width, block, items, work);
     }
 
-    fn pack_block(width: usize, items: &[i64], words: &mut [u64]) {
-        pack_patterns(width, items, words);
+    fn pack_block(width: usize, items: &[i64], block: &mut [u8]) {
+        pack_patterns(width, items, block);
     }
 
     fn fits_in_memory() {}

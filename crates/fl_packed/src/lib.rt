@@ -12,6 +12,6 @@ pub mod packing;
 mod patching;
 pub mod unpack_iter;
 mod unpacked_items;
-mod words;
+pub mod word_packing;
 
 pub use crate::blocks::Widths;

@@ -12,54 +12,26 @@ ghost use Rattle.fl_packed.specs.Widths.{blocks_of, NamesAll};
 use crate::bit_packed::BitPacked;
 use crate::blocks::{Widths, chunk_count};
 use crate::boundaries::{boundary_array, packed_size};
-use crate::words::put_words;
 use bytes::Bytes;
-use fastlanes::{FL_CHUNK_SIZE, FastLanes};
+use fastlanes::FL_CHUNK_SIZE;
 use fl_plain::PrimitiveArray;
 use fl_types::{FastLanesError, NativePType, match_each_integer_ptype};
 use std::alloc::{AllocError, Global};
 
-/// Packs at most 1024 integers, behind which stands 0, into the bytes of a block. The block's words
-/// are lent as room.
-fn pack_bytes<T: BitPacked>(width: usize, items: &[T], words: &mut [T::Physical], bytes: &mut [u8])
-    requires width { width ≤ T.Physical.T }
-    requires few { length items.now ≤ 1024 }
-    requires room { length words.old ≡ width * T.Physical.LANES }
-    requires block { length bytes.old ≡ 128 * width }
-    ensures { Packed T.Physical.T T.Physical.LANES width (pattern_in T.PTYPE (map T.value items.now)) (word_at T.Physical.T bytes.new) }
-{
-    T::pack_block(width, items, words);
-    put_words(words, bytes);
-}
-
 /// Packs at most 1024 integers, behind which stands 0, into the bytes of the block that starts there.
-/// Words are lent as room.
-fn pack_at<T: BitPacked>(
-    width: usize,
-    items: &[T],
-    words: &mut [T::Physical],
-    start: usize,
-    bytes: &mut [u8],
-)
+fn pack_at<T: BitPacked>(width: usize, items: &[T], start: usize, bytes: &mut [u8])
     requires width { width ≤ T.Physical.T }
     requires few { length items.now ≤ 1024 }
-    requires room { length words.old ≡ 1024 }
     requires within { start + 128 * width ≤ length bytes.old }
     ensures packed { Packed T.Physical.T T.Physical.LANES width (pattern_in T.PTYPE (map T.value items.now)) (word_at T.Physical.T (between start (start + 128 * width) bytes.new)) }
     ensures before { (a b : ℕ) → b ≤ start → between a b bytes.new ≡ between a b bytes.old }
 {
-    let lanes = T::Physical::LANES;
     let size = FL_CHUNK_SIZE / 8 * width;
-    pack_bytes(
-        width,
-        items,
-        &mut words[..width * lanes],
-        &mut bytes[start..start + size],
-    );
+    T::pack_block(width, items, &mut bytes[start..start + size]);
 }
 
 /// The items of chunk `j`, of which the last one may be short.
-fn chunk_of<T>(items: &[T], j: usize) -> &[T]
+pub(crate) fn chunk_of<T>(items: &[T], j: usize) -> &[T]
     requires { 1024 * j < length items.now }
     ensures chunk { result.now ≡ take 1024 (drop (1024 * j) items.now) }
     ensures few { length result.now ≤ 1024 }
@@ -76,11 +48,9 @@ fn pack_blocks<T: BitPacked>(widths: Widths, items: &[T], bytes: &mut [u8])
     requires joined { AreJoined (chunk_count (length items.now)) (length bytes.old) (blocks_of widths) }
     ensures { (j : ℕ) → j < chunk_count (length items.now) → Packed T.Physical.T T.Physical.LANES ((blocks_of widths.entry).width j) (λ q. pattern_in T.PTYPE (map T.value items.now) (1024 * j + q)) (word_at T.Physical.T (bytes_of_block (blocks_of widths.entry) bytes.new j)) }
 {
-    T::Physical::in_memory();
-    let mut words = [T::Physical::zero(); FL_CHUNK_SIZE];
     for j in 0..chunk_count(items.len()) {
         let (start, width) = widths.block(j);
-        pack_at(width, chunk_of(items, j), &mut words, start, bytes);
+        pack_at(width, chunk_of(items, j), start, bytes);
     }
 }
 

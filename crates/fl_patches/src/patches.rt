@@ -19,7 +19,7 @@ use std::marker::Model;
 /// Patches of an array: values at some of its positions. The patch at position `i` has the index
 /// `offset + i`, so that a slice can keep the indices of the array that it was cut from. Contracts
 /// see the parts, and the map from positions to values as `patched`.
-#[derive(Drop)]
+#[derive(Debug, Drop)]
 pub struct Patches {
     array_len: usize,
     offset: usize,

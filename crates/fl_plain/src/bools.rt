@@ -14,7 +14,7 @@ use std::marker::Model;
 
 /// A plain array of truth values: a truth value in each place, also under a null, and which of them
 /// count.
-#[derive(Drop)]
+#[derive(Debug, Drop)]
 pub struct BoolArray {
     bits: BitList,
     validity: Validity,

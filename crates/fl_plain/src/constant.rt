@@ -16,7 +16,7 @@ use std::alloc::Global;
 use std::marker::Model;
 
 /// Copies of an integer, or of a null.
-#[derive(Drop)]
+#[derive(Clone, Debug, Drop)]
 pub struct ConstantArray {
     scalar: Scalar,
     len: usize,

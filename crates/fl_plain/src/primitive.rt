@@ -21,7 +21,7 @@ use std::marker::Model;
 
 /// A plain array of integers: a stored integer in each place, also under a null, and which of them
 /// are valid. Contracts see its type, its integers and its validity.
-#[derive(Drop)]
+#[derive(Debug, Drop)]
 pub struct PrimitiveArray {
     slots: Slots,
     validity: Validity,

@@ -1,14 +1,16 @@
 -- Bits in words, and lists of them.
-use Rattle.std.proofs.Common.{◌≡◌, ℕ, ◌+◌, ◌-◌, ◌*◌, ◌/◌, ◌%◌, ◌^◌, ◌<◌, ◌≤◌, ◌==◌, List, [], ◌∷◌, ◌++◌, Bool, true, length, get_or, set, drop, slice_get, ◌≢◌, Some, false, Result, Ok, Err, IfOk, IfErr, refl, ◌∙◌, ap, sym, subst, pow_pos, add_comm, lit<, inl, inr, arith}
+use Rattle.std.proofs.Common.{◌≡◌, ℕ, ◌+◌, ◌-◌, ◌*◌, ◌/◌, ◌%◌, ◌^◌, ◌<◌, ◌≤◌, ◌==◌, List, [], ◌∷◌, ◌++◌, Bool, true, ◌&&◌, length, get_or, set, drop, slice_get, ◌≢◌, Some, false, Result, Ok, Err, IfOk, IfErr, refl, ◌∙◌, ap, sym, subst, pow_pos, add_comm, lit<, inl, inr, arith}
 use Rattle.std.proofs.lemmas.Bool.{cases_lt, cases_eq}
 use Rattle.std.proofs.Math.Nat.{div-add-mod, mul_comm, one-mul, mod-eq_of_lt, mod-lt}
 use Rattle.std.proofs.Math.Pow.{pow-lt}
 use Rattle.std.proofs.lemmas.Nat.Bits.{bit_at_cat_low, bit_at_cat_high}
 use Rattle.std.specs.Int.{bit_at}
 use Rattle.fastlanes.specs.Layout.{bit_value}
-use Rattle.std.proofs.lemmas.List.{get_or_append_left, get_or_push, get_or-set_same, get_or-set_other, get_or-take, get_or-drop, length-take, length-drop}
+use Rattle.std.proofs.lemmas.List.{get_or_append_left, get_or_push, get_or-set_same, get_or-set_other, get_or-take, get_or-drop, length-take, length-drop, drop_more}
 use Rattle.std.proofs.lemmas.List.FromFn.{length-map-range_with_len, get_or-map-range_with_len, map-range_with_len_more, fill_by_all}
-use Rattle.std.proofs.lemmas.Option.{slice_get-get_or}
+use Rattle.std.proofs.lemmas.Option.{slice_get-get_or, slice_get_within, get_or_from_slice_get}
+use Rattle.std.specs.Bool.{beq}
+use Rattle.std.specs.Cmp.Lexicographic.{pointwise}
 use Rattle.fl_types.specs.Refusals.{Answers}
 use Rattle.fl_types.specs.declared.error.FastLanesError.{FastLanesError}
 use Rattle.fl_types.specs.declared.error.FastLanesError.TheVariants.{OutOfMemory}
@@ -168,3 +170,12 @@ bit_put_in_last_word words n at bit word new len rest some here is =
 pub answered : (f : ℕ → Bool) (n : ℕ) (r : Result (List Bool) FastLanesError) → IfOk r (λ b. length b ≡ n) → IfOk r (λ b. (i : ℕ) → i < n → get_or b i false ≡ f i) → IfErr r (λ e. e ≡ OutOfMemory) → Answers (λ b. b) r (Ok (table f n))
 answered f n (Ok b) e h memory = ap Ok (sym (made_of {E = FastLanesError} f n (Ok b) e h))
 answered f n (Err e) len h memory = rw memory tt
+
+-- two lists from a place on are equal where the items there are, and those behind
+pub equal_from : (xs ys : List Bool) (i : ℕ) (x y : Bool) → slice_get xs i ≡ Some x → slice_get ys i ≡ Some y
+    → pointwise beq (drop i xs) (drop i ys) ≡ (beq x y && pointwise beq (drop (i + 1) xs) (drop (i + 1) ys))
+equal_from xs ys i x y hx hy =
+    ap (λ l. pointwise beq l (drop i ys)) (drop_more xs i x (slice_get_within xs i x hx))
+    ∙ ap (λ l. pointwise beq (get_or xs i x ∷ drop (i + 1) xs) l) (drop_more ys i y (slice_get_within ys i y hy))
+    ∙ ap (λ b. beq b (get_or ys i y) && pointwise beq (drop (i + 1) xs) (drop (i + 1) ys)) (get_or_from_slice_get xs i x x hx)
+    ∙ ap (λ b. beq x b && pointwise beq (drop (i + 1) xs) (drop (i + 1) ys)) (get_or_from_slice_get ys i y y hy)

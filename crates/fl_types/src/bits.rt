@@ -1,6 +1,9 @@
 //! Lists of truth values.
 
 ghost use Rattle.std.specs.Prelude.{◌≡◌, ◌<◌, ◌≤◌, ◌+◌, ◌^◌, ◌*◌, ◌/◌, ℕ, Bool, [], ◌∷◌, ◌++◌, length, slice_get, slice_index, slice_index_or, false, Some, IfOk, IfErr, OnOk, OnErr, Ok};
+ghost use Rattle.std.specs.Bool.{beq};
+ghost use Rattle.std.specs.Cmp.{bool_eq_equiv, partial_equiv_from_equiv};
+ghost use Rattle.std.specs.Cmp.Lexicographic.{lists_equiv, lists_per, pointwise};
 ghost use Rattle.std.specs.Int.{bit_at};
 ghost use Rattle.fastlanes.specs.Layout.{bit_value};
 ghost use Rattle.fl_types.specs.Bits.{between, bit_of_word, first_bits, is_set, table, true_count};
@@ -13,7 +16,7 @@ use std::alloc::{AllocError, Global};
 use std::marker::Model;
 
 /// A list of truth values, kept 64 to a word. Contracts see the list.
-#[derive(Drop)]
+#[derive(Debug, Drop)]
 pub struct BitList {
     words: Vec<u64>,
     len: usize,
@@ -128,6 +131,29 @@ impl BitList {
         }
         count
     }
+}
+
+/// Two lists are equal where they are as long and have the same bits.
+impl PartialEq for BitList {
+    ghost eq = { pointwise beq };
+
+    ghost laws = { lists_per (partial_equiv_from_equiv bool_eq_equiv) };
+
+    fn eq(&self, other: &BitList) -> bool {
+        if self.len() != other.len() {
+            return false;
+        }
+        for i in 0..self.len() {
+            if self.get(i) != other.get(i) {
+                return false;
+            }
+        }
+        true
+    }
+}
+
+impl Eq for BitList {
+    ghost laws = { lists_equiv bool_eq_equiv };
 }
 
 /// Bit `i` of these words.

@@ -7,7 +7,7 @@ ghost use Rattle.fl_types.specs.Masks.{mask_bits, mask_len};
 use crate::bits::BitList;
 
 /// Which items a filter keeps.
-#[derive(Drop)]
+#[derive(Debug, PartialEq, Eq, Drop)]
 pub enum Mask {
     /// Keeps each of so many items.
     AllTrue(usize),

@@ -6,7 +6,7 @@ ghost use Rattle.fl_types.specs.Slots.{integers_of, ptype_of};
 use crate::dtype::PType;
 
 /// The stored integers of a plain array.
-#[derive(Drop)]
+#[derive(Debug, PartialEq, Eq, Drop)]
 pub enum Slots {
     /// Of 8 bits, unsigned.
     U8(Vec<u8>),

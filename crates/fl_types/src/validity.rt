@@ -10,7 +10,7 @@ use crate::error::FastLanesError;
 use std::alloc::Global;
 
 /// Which items of an array are not null, and whether the array may have nulls.
-#[derive(Drop)]
+#[derive(Debug, PartialEq, Eq, Drop)]
 pub enum Validity {
     /// No item is null, and none may be.
     NonNullable,

@@ -1,5 +1,5 @@
 -- Exceptions that are found one by one.
-use Rattle.std.proofs.Common.{◌≡◌, ℕ, ℤ, pos, suc, ◌+◌, ◌-◌, ◌*◌, ◌<◌, ◌≤◌, ◌^◌, Bool, true, false, cond, List, [], ◌∷◌, ◌++◌, length, map, take, drop, get_or, Option, Some, None, min, refl, ap, sym, subst, ◌∙◌, arith, nat_lt, le_trans, inl, inr, ◌⊎◌, zero-add}
+use Rattle.std.proofs.Common.{◌≡◌, ℕ, ℤ, pos, suc, zero, ◌+◌, ◌-◌, ◌*◌, ◌<◌, ◌≤◌, ◌^◌, Bool, true, false, cond, List, [], ◌∷◌, ◌++◌, length, map, take, drop, get_or, Option, Some, None, min, refl, ap, sym, subst, ◌∙◌, arith, nat_lt, le_trans, inl, inr, ◌⊎◌, zero-add}
 use Rattle.std.proofs.lemmas.Bool.{cases_Bool, le-ltb, lt-ltb}
 use Rattle.std.proofs.lemmas.List.{append-nil, append_assoc, get_or-map, length-append, length-map, length-take, length-drop, map-append, get_or-drop, get_or-take, get_or_default, take-map, drop-map}
 use Rattle.fl_types.specs.declared.dtype.PType.{PType}
@@ -13,24 +13,21 @@ use Rattle.std.proofs.lemmas.List.FromFn.{map-range_with_len_more}
 use Rattle.fl_patches.proofs.Sparse.{places-append, places_even, values-append}
 use Rattle.fl_widths.proofs.Blocks.{exceptions_between, length-exceptions, take_between, take_to_block}
 use Rattle.fl_plain.proofs.ItemLaws.{length-items_of, null_item_read, valid_item_read}
-use Rattle.fl_widths.proofs.Histograms.{between_empty, between_next}
+use Rattle.fl_widths.proofs.Histograms.{between_next}
 use Rattle.fl_widths.specs.Exceptions.{bit_count, bits_of_item, exception, exceptions_of}
 use Rattle.fl_widths.specs.PatchParts.{AreGathered, HasBlocks, counts_before}
 use Rattle.fl_widths.proofs.BitCounts.{bit_count-le}
 use Rattle.std.proofs.Common.{IsTrue, ◌/◌}
 
-pub gathered_none : (places : List ℕ) (values : List ℤ) → places ≡ [] → values ≡ [] → AreGathered places values []
-gathered_none places values e f = record { placed = e; valued = f }
-
 -- nothing at a place
-pub gathered_skip : (places : List ℕ) (values : List ℤ) (before : List (Option ℤ)) → AreGathered places values before → AreGathered places values (before ++ None ∷ [])
+gathered_skip : (places : List ℕ) (values : List ℤ) (before : List (Option ℤ)) → AreGathered places values before → AreGathered places values (before ++ None ∷ [])
 gathered_skip places values before so = record {
   placed = so.placed ∙ sym (places-append 0 before (None ∷ []) ∙ append-nil (places_from 0 before));
   valued = so.valued ∙ sym (values-append before (None ∷ []) ∙ append-nil (values_in before));
 }
 
 -- an exception at a place
-pub gathered_push : (places : List ℕ) (values : List ℤ) (before : List (Option ℤ)) (place : ℕ) (z : ℤ) → length before ≡ place → AreGathered places values before → AreGathered (places ++ place ∷ []) (values ++ z ∷ []) (before ++ Some z ∷ [])
+gathered_push : (places : List ℕ) (values : List ℤ) (before : List (Option ℤ)) (place : ℕ) (z : ℤ) → length before ≡ place → AreGathered places values before → AreGathered (places ++ place ∷ []) (values ++ z ∷ []) (before ++ Some z ∷ [])
 gathered_push places values before place z len so =
     let at : 0 + length before ≡ place = omega arith in
     record {
@@ -59,28 +56,24 @@ pub exception_many : (t : PType) (w : ℕ) (item : Option ℤ) → w < bits_of_i
 exception_many t w item many = rw (lt-ltb w (bits_of_item t item) many) refl
 
 -- an item is its value, or null
-pub item_cases : {X : Type 0} (value : X → ℤ) (v : Validity) (xs : List X) (i : ℕ) (x : X) → IsTrue (covers v (length xs)) → i < length xs → x ≡ get_or xs i x
+item_cases : {X : Type 0} (value : X → ℤ) (v : Validity) (xs : List X) (i : ℕ) (x : X) → IsTrue (covers v (length xs)) → i < length xs → x ≡ get_or xs i x
     → (get_or (items_of v (map value xs)) i None ≡ Some (value x)) ⊎ (get_or (items_of v (map value xs)) i None ≡ None)
 item_cases value v xs i x covered h read = elim (cases_Bool (is_valid_at v i)) [
   | inl here ↦ inl (valid_item_read value v xs i x covered h here read)
   | inr gone ↦ inr (null_item_read value v xs i covered h gone)
 ]
 
--- an item with more bits than the width, or a null above them
-pub exception_hit : {X : Type 0} (t : PType) (value : X → ℤ) (v : Validity) (xs : List X) (i w : ℕ) (x : X) → IsTrue (covers v (length xs)) → i < length xs → x ≡ get_or xs i x → w < bit_count (pattern_of t (value x))
-    → get_or (items_of v (map value xs)) i None ≡ exception t w (get_or (items_of v (map value xs)) i None)
-exception_hit t value v xs i w x covered h read many = elim (item_cases value v xs i x covered h read) [
-  | inl some ↦ rw some (sym (exception_many t w (Some (value x)) many))
-  | inr none ↦ rw none (sym (exception_null t w None refl))
-]
-
 -- an item with no more bits than the width
-pub exception_miss : {X : Type 0} (t : PType) (value : X → ℤ) (v : Validity) (xs : List X) (i w : ℕ) (x : X) → IsTrue (covers v (length xs)) → i < length xs → x ≡ get_or xs i x → bit_count (pattern_of t (value x)) ≤ w
+exception_miss : {X : Type 0} (t : PType) (value : X → ℤ) (v : Validity) (xs : List X) (i w : ℕ) (x : X) → IsTrue (covers v (length xs)) → i < length xs → x ≡ get_or xs i x → bit_count (pattern_of t (value x)) ≤ w
     → exception t w (get_or (items_of v (map value xs)) i None) ≡ None
 exception_miss t value v xs i w x covered h read few = elim (item_cases value v xs i x covered h read) [
   | inl some ↦ rw some (exception_few t w (Some (value x)) few)
   | inr none ↦ exception_null t w _ none
 ]
+
+-- there is an item for each value
+pub covered_values : {X : Type 0} (value : X → ℤ) (v : Validity) (xs : List X) → IsTrue (covers v (length xs)) → length (items_of v (map value xs)) ≡ length xs
+covered_values value v xs covered = length-items_of v (map value xs) (rw length-map covered) ∙ length-map xs value
 
 -- ---- a part of the items
 no_places : {A : Type 0} (n : ℕ) (xs : List (Option A)) → ((i : ℕ) → i < length xs → get_or xs i None ≡ None) → (places_from n xs ≡ []) × (values_in xs ≡ [])
@@ -89,27 +82,78 @@ no_places n (None ∷ xs) nothing = no_places (n + 1) xs (λ i h. nothing (suc i
 no_places n (Some x ∷ xs) nothing = let first : Some x ≡ None = nothing 0 (omega arith) in absurd (cc)
 
 -- a part without exceptions
-pub gathered_nothing : (places : List ℕ) (values : List ℤ) (before part : List (Option ℤ)) → ((i : ℕ) → i < length part → get_or part i None ≡ None) → AreGathered places values before → AreGathered places values (before ++ part)
+gathered_nothing : (places : List ℕ) (values : List ℤ) (before part : List (Option ℤ)) → ((i : ℕ) → i < length part → get_or part i None ≡ None) → AreGathered places values before → AreGathered places values (before ++ part)
 gathered_nothing places values before part nothing so = record {
   placed = so.placed ∙ sym (places-append 0 before part ∙ (ap (λ ys. places_from 0 before ++ ys) (no_places (0 + length before) part nothing).0 ∙ append-nil (places_from 0 before)));
   valued = so.valued ∙ sym (values-append before part ∙ (ap (λ ys. values_in before ++ ys) (no_places 0 part nothing).1 ∙ append-nil (values_in before)));
 }
 
 -- the items so far, and one more
-pub part_more : (t : PType) (w : ℕ) (xs : List (Option ℤ)) (start i : ℕ) (before : List (Option ℤ)) (e : Option ℤ) → start ≤ i → i < length xs → e ≡ exception t w (get_or xs i None)
+part_more : (t : PType) (w : ℕ) (xs : List (Option ℤ)) (start i : ℕ) (before : List (Option ℤ)) (e : Option ℤ) → start ≤ i → i < length xs → e ≡ exception t w (get_or xs i None)
     → (before ++ map (exception t w) (between start i xs)) ++ e ∷ [] ≡ before ++ map (exception t w) (between start (i + 1) xs)
 part_more t w xs start i before e order h is =
     rw (is, between_next xs start i None order h, map-append) (append_assoc before (map (exception t w) (between start i xs)) (exception t w (get_or xs i None) ∷ []))
 
-pub part_length : (t : PType) (w : ℕ) (xs : List (Option ℤ)) (start i : ℕ) (before : List (Option ℤ)) → length before ≡ start → start ≤ i → i ≤ length xs → length (before ++ map (exception t w) (between start i xs)) ≡ i
+part_length : (t : PType) (w : ℕ) (xs : List (Option ℤ)) (start i : ℕ) (before : List (Option ℤ)) → length before ≡ start → start ≤ i → i ≤ length xs → length (before ++ map (exception t w) (between start i xs)) ≡ i
 part_length t w xs start i before len order h =
     omega (arith, length-append before (map (exception t w) (between start i xs)), length-map (between start i xs) (exception t w), length-take (i - start) (drop start xs), length-drop start xs)
 
-pub part_none : (t : PType) (w : ℕ) (xs : List (Option ℤ)) (start : ℕ) (before : List (Option ℤ)) → before ≡ before ++ map (exception t w) (between start start xs)
-part_none t w xs start before = rw (between_empty xs start) (sym (append-nil before))
-
-pub gathered_as : (places : List ℕ) (values : List ℤ) (xs ys : List (Option ℤ)) → xs ≡ ys → AreGathered places values xs → AreGathered places values ys
+gathered_as : (places : List ℕ) (values : List ℤ) (xs ys : List (Option ℤ)) → xs ≡ ys → AreGathered places values xs → AreGathered places values ys
 gathered_as places values xs ys e so = subst (λ zs. AreGathered places values zs) e so
+
+-- an item read twice is the same
+same_read : {X : Type 0} (xs : List X) (i : ℕ) (x y : X) → i < length xs → x ≡ get_or xs i x → y ≡ get_or xs i y → x ≡ y
+same_read xs i x y h e f = e ∙ (get_or_default xs i x y h ∙ sym f)
+
+-- one item more, which is no exception
+part_skip : (t : PType) (w : ℕ) (xs : List (Option ℤ)) (start i : ℕ) (before : List (Option ℤ)) (places : List ℕ) (values : List ℤ) → start ≤ i → i < length xs → exception t w (get_or xs i None) ≡ None
+    → AreGathered places values (before ++ map (exception t w) (between start i xs)) → AreGathered places values (before ++ map (exception t w) (between start (i + 1) xs))
+part_skip t w xs start i before places values order h none so =
+    gathered_as places values _ _ (part_more t w xs start i before None order h (sym none)) (gathered_skip places values (before ++ map (exception t w) (between start i xs)) so)
+
+-- one item more, with no more bits than the width
+pub part_few : {X : Type 0} (t : PType) (value : X → ℤ) (v : Validity) (xs : List X) (start i w : ℕ) (x : X) (before : List (Option ℤ)) (places : List ℕ) (values : List ℤ) → IsTrue (covers v (length xs)) → start ≤ i → i < length xs → x ≡ get_or xs i x → bit_count (pattern_of t (value x)) ≤ w
+    → AreGathered places values (before ++ map (exception t w) (between start i (items_of v (map value xs)))) → AreGathered places values (before ++ map (exception t w) (between start (i + 1) (items_of v (map value xs))))
+part_few t value v xs start i w x before places values covered order h read few so =
+    part_skip t w (items_of v (map value xs)) start i before places values order (omega (arith, covered_values value v xs covered)) (exception_miss t value v xs i w x covered h read few) so
+
+-- one item more, which is null
+pub part_null : {X : Type 0} (t : PType) (value : X → ℤ) (v : Validity) (xs : List X) (start i w : ℕ) (before : List (Option ℤ)) (places : List ℕ) (values : List ℤ) → IsTrue (covers v (length xs)) → start ≤ i → i < length xs → is_valid_at v i ≡ false
+    → AreGathered places values (before ++ map (exception t w) (between start i (items_of v (map value xs)))) → AreGathered places values (before ++ map (exception t w) (between start (i + 1) (items_of v (map value xs))))
+part_null t value v xs start i w before places values covered order h gone so =
+    part_skip t w (items_of v (map value xs)) start i before places values order (omega (arith, covered_values value v xs covered)) (exception_null t w _ (null_item_read value v xs i covered h gone)) so
+
+-- one item more, which is an exception
+pub part_hit : {X : Type 0} (t : PType) (value : X → ℤ) (v : Validity) (xs : List X) (start i w : ℕ) (x y : X) (before : List (Option ℤ)) (places places' : List ℕ) (values values' : List ℤ) → IsTrue (covers v (length xs)) → length before ≡ start → start ≤ i → i < length xs
+    → is_valid_at v i ≡ true → x ≡ get_or xs i x → y ≡ get_or xs i y → w < bit_count (pattern_of t (value x))
+    → ((had : List (Option ℤ)) → length had ≡ i → AreGathered places values had → AreGathered places' values' (had ++ Some (value y) ∷ []))
+    → AreGathered places values (before ++ map (exception t w) (between start i (items_of v (map value xs)))) → AreGathered places' values' (before ++ map (exception t w) (between start (i + 1) (items_of v (map value xs))))
+part_hit t value v xs start i w x y before places places' values values' covered len order h here read again many step so =
+    let items : List (Option ℤ) = items_of v (map value xs) in
+    let count : length items ≡ length xs = covered_values value v xs covered in
+    let same : x ≡ y = same_read xs i x y h read again in
+    let some : get_or items i None ≡ Some (value y) = valid_item_read value v xs i y covered h here again in
+    let is : Some (value y) ≡ exception t w (get_or items i None) = rw some (sym (exception_many t w (Some (value y)) (rw same at many))) in
+    let long : length (before ++ map (exception t w) (between start i items)) ≡ i = part_length t w items start i before len order (omega arith) in
+    gathered_as places' values' _ _ (part_more t w items start i before (Some (value y)) order (omega arith) is) (step (before ++ map (exception t w) (between start i items)) long so)
+
+-- no item of nulls alone is an exception
+exception_gone : (t : PType) (w : ℕ) (zs : List ℤ) (i : ℕ) → exception t w (get_or (map (let null : ℤ → Option ℤ = λ z. None in null) zs) i None) ≡ None
+exception_gone t w [] i = exception_null t w None refl
+exception_gone t w (z ∷ zs) zero = exception_null t w None refl
+exception_gone t w (z ∷ zs) (suc i) = exception_gone t w zs i
+
+-- a part of nulls alone
+pub gathered_nulls : (t : PType) (w : ℕ) (zs : List ℤ) (start end : ℕ) (places : List ℕ) (values : List ℤ) (before : List (Option ℤ)) → AreGathered places values before
+    → AreGathered places values (before ++ map (exception t w) (between start end (map (λ z. None) zs)))
+gathered_nulls t w zs start end places values before so =
+    let null : ℤ → Option ℤ = λ z. None in
+    let items : List (Option ℤ) = map null zs in
+    gathered_nothing places values before (map (exception t w) (between start end items)) (λ i h.
+    let within : i < length (between start end items) = omega (arith, length-map (between start end items) (exception t w)) in
+    let short : i < end - start = omega (arith, length-take (end - start) (drop start items)) in
+    let item : get_or (between start end items) i None ≡ get_or items (start + i) None = get_or-take (end - start) (drop start items) i None short ∙ get_or-drop start items i None in
+    get_or-map (exception t w) (between start end items) i None None within ∙ (ap (exception t w) item ∙ exception_gone t w zs (start + i))) so
 
 -- an item of a part, seen through its value
 read_part : {X : Type 0} (value : X → ℤ) (xs : List X) (start n i : ℕ) → i < n → get_or (map value (take n (drop start xs))) i (pos 0) ≡ get_or (map value xs) (start + i) (pos 0)
@@ -142,10 +186,6 @@ gathered_few {X} t value v xs start end w union places values before covered ord
     let same : get_or (map value (take (end - start) (drop start xs))) i (pos 0) ≡ get_or (map value xs) (start + i) (pos 0) = read_part value xs start (end - start) i within in
     le_trans (bit_count-le _ union (rw (← same) below) fits) few) in
     there ∙ (ap (exception t w) item ∙ exception_part t value v xs (start + i) w covered at small)) so
-
--- there is an item for each value
-pub covered_values : {X : Type 0} (value : X → ℤ) (v : Validity) (xs : List X) → IsTrue (covers v (length xs)) → length (items_of v (map value xs)) ≡ length xs
-covered_values value v xs covered = length-items_of v (map value xs) (rw length-map covered) ∙ length-map xs value
 
 -- ---- blocks
 -- a block more

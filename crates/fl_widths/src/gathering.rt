@@ -1,10 +1,10 @@
 //! The patches of the items that a width leaves out.
 
-ghost use Rattle.std.specs.Prelude.{◌≡◌, ◌+◌, ◌*◌, ◌/◌, ◌<◌, ◌≤◌, ◌^◌, ◌++◌, ◌∷◌, [], ℕ, ℤ, pos, List, Option, IfOk, IsTrue, OnOk, None, Ok, length, map, min, option_map, slice_index, slice_index_or};
+ghost use Rattle.std.specs.Prelude.{◌≡◌, ◌+◌, ◌*◌, ◌/◌, ◌<◌, ◌≤◌, ◌^◌, ◌++◌, ◌∷◌, [], ℕ, ℤ, pos, List, Option, IfOk, IsTrue, OnOk, None, Ok, Some, length, map, min, slice_index, slice_index_or};
 ghost use Rattle.fl_types.specs.Bits.{between, table};
 ghost use Rattle.fl_types.specs.Integers.{pattern_of, smallest_type};
 ghost use Rattle.fl_types.specs.Refusals.{Answers};
-ghost use Rattle.fl_types.specs.Validities.{covers, items_of, nullability_of};
+ghost use Rattle.fl_types.specs.Validities.{covers, items_of, masked, nullability_of};
 ghost use Rattle.fl_types.specs.declared.validity.Validity.TheVariants as valid;
 ghost use Rattle.fl_patches.specs.PatchMaps.{ArePatches, chunk_count, full_validity, places_from};
 ghost use Rattle.fl_widths.specs.Exceptions.{bit_count, exception, exceptions_of, one_width, width_of_block};
@@ -14,8 +14,8 @@ use crate::index_types::{index_array, number_array};
 use crate::patterns::{Pattern, bit_count, bits_of};
 use fastlanes::FL_CHUNK_SIZE;
 use fl_patches::Patches;
-use fl_plain::{PrimitiveArray, item_at};
-use fl_types::{FastLanesError, Nullability, Validity, match_each_integer_ptype};
+use fl_plain::PrimitiveArray;
+use fl_types::{BitList, FastLanesError, Nullability, Validity, match_each_integer_ptype};
 use std::alloc::{AllocError, Global};
 
 /// Exceptions that are found one by one: their places, rising, and beside each its value.
@@ -36,13 +36,54 @@ impl<T: Pattern> Found<T> {
         })
     }
 
-    /// Adds what stands at a place, an exception or nothing.
-    fn push(&mut self, place: usize, value: Option<T>) -> Result<(), AllocError>
-        ensures { OnOk result ((before : List (Option ℤ)) → length before ≡ place → AreGathered self.old.places.items (map T.value self.old.values.items) before → AreGathered self.new.places.items (map T.value self.new.values.items) (before ++ option_map T.value value ∷ [])) }
+    /// Adds the value of an exception at a place.
+    fn push(&mut self, place: usize, value: T) -> Result<(), AllocError>
+        ensures { OnOk result ((before : List (Option ℤ)) → length before ≡ place → AreGathered self.old.places.items (map T.value self.old.values.items) before → AreGathered self.new.places.items (map T.value self.new.values.items) (before ++ Some (T.value value) ∷ [])) }
     {
-        if let Some(value) = value {
-            self.places.push(place as u64)?;
-            self.values.push(value)?;
+        self.places.push(place as u64)?;
+        self.values.push(value)?;
+        Ok(())
+    }
+
+    /// Adds the exceptions at a width among the items from `start` to below `end`, where those are
+    /// null whose bit isn't set.
+    fn push_masked(
+        &mut self,
+        items: &[T],
+        bits: &BitList,
+        width: usize,
+        start: usize,
+        end: usize,
+    ) -> Result<(), AllocError>
+        requires even { length bits.now ≡ length items.now }
+        requires order { start ≤ end }
+        requires range { end ≤ length items.now }
+        ensures { OnOk result ((before : List (Option ℤ)) → length before ≡ start → AreGathered self.old.places.items (map T.value self.old.values.items) before → AreGathered self.new.places.items (map T.value self.new.values.items) (before ++ map (exception T.PTYPE width) (between start end (masked bits.now (map T.value items.now))))) }
+    {
+        for i in start..end {
+            if bits_of(items[i]) > width && bits.get(i) {
+                self.push(i, items[i])?;
+            }
+        }
+        Ok(())
+    }
+
+    /// Adds the exceptions at a width among the items from `start` to below `end`, where none is null.
+    fn push_present(
+        &mut self,
+        items: &[T],
+        width: usize,
+        start: usize,
+        end: usize,
+    ) -> Result<(), AllocError>
+        requires order { start ≤ end }
+        requires range { end ≤ length items.now }
+        ensures { OnOk result ((before : List (Option ℤ)) → length before ≡ start → AreGathered self.old.places.items (map T.value self.old.values.items) before → AreGathered self.new.places.items (map T.value self.new.values.items) (before ++ map (exception T.PTYPE width) (between start end (map (λ z. Some z) (map T.value items.now))))) }
+    {
+        for i in start..end {
+            if bits_of(items[i]) > width {
+                self.push(i, items[i])?;
+            }
         }
         Ok(())
     }
@@ -64,10 +105,12 @@ impl<T: Pattern> Found<T> {
         if bit_count(union_of(&items[start..end])) <= width {
             return Ok(());
         }
-        for i in start..end {
-            self.push(i, exception_in(items, validity, width, i))?;
+        match validity {
+            Validity::NonNullable => self.push_present(items, width, start, end),
+            Validity::AllValid => self.push_present(items, width, start, end),
+            Validity::AllInvalid => Ok(()),
+            Validity::Array(bits) => self.push_masked(items, bits, width, start, end),
         }
-        Ok(())
     }
 
     /// Adds the exceptions at a width among the items of a block, and to the offsets how many stand
@@ -100,19 +143,6 @@ fn union_of<T: Pattern>(items: &[T]) -> u64
         union |= item.pattern();
     }
     union
-}
-
-/// The item at a place where it is an exception at a width.
-fn exception_in<T: Pattern>(items: &[T], validity: &Validity, width: usize, i: usize) -> Option<T>
-    requires covers { IsTrue (covers validity.now (length items.now)) }
-    requires range { i < length items.now }
-    ensures { option_map T.value result ≡ exception T.PTYPE width (slice_index_or (items_of validity.now (map T.value items.now)) i None) }
-{
-    if bits_of(items[i]) > width {
-        item_at(items, validity, i)
-    } else {
-        None
-    }
 }
 
 /// The exceptions at one width, and how many of them stand before each block.

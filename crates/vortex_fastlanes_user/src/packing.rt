@@ -3,7 +3,7 @@
 use std::alloc::Global;
 use std::test::Fail;
 use vortex_fastlanes::bitpack_compress::{
-    bit_width_histogram, bitpack_unchecked, find_best_bit_width,
+    bit_width_histogram, bitpack_primitive, bitpack_unchecked, find_best_bit_width,
 };
 use vortex_fastlanes::bitpack_decompress::unpack_single_primitive;
 use vortex_fastlanes::*;
@@ -27,6 +27,12 @@ fn packed_item(array: &PrimitiveArray, alloc: Global, i: usize) -> Result<u8, Fa
     Ok(unpack_single_primitive(bytes, 3, i))
 }
 
+/// How many words three bytes at width 3 have, and the first of them.
+fn first_word(alloc: Global) -> Result<(usize, u8), FastLanesError> {
+    let words = bitpack_primitive(alloc, &[5u8, 6, 7], 3)?;
+    Ok((words.len(), words.first().copied().unwrap_or(0)))
+}
+
 /// How many bases and deltas an array has.
 fn parts(array: &PrimitiveArray, alloc: Global) -> Result<(usize, usize), FastLanesError> {
     let (bases, deltas) = delta_compress(alloc, array)?;
@@ -39,5 +45,11 @@ fn packs_a_few_bytes(rt: HostRuntime) -> Result<(), Fail> {
     assert!(rt; best_width(&array, rt.alloc())? == 3);
     assert!(rt; packed_item(&array, rt.alloc(), 2)? == 7);
     assert!(rt; parts(&array, rt.alloc())? == (128, 1024));
+    Ok(())
+}
+
+#[test]
+fn packs_into_words(rt: HostRuntime) -> Result<(), Fail> {
+    assert!(rt; first_word(rt.alloc())? == (384, 5));
     Ok(())
 }

@@ -1,4 +1,4 @@
-use Rattle.std.proofs.Common.{arith}
+use Rattle.std.proofs.Common.{arith, ap, ◌∙◌}
 use Rattle.fastlanes.specs.Layout.{pattern_at}
 use Rattle.fastlanes.specs.Filled.{word_of, word_place}
 use Rattle.fastlanes.proofs.Fillings.{groups_more, words_packed, whole_eights}
@@ -7,11 +7,11 @@ use Rattle.fastlanes.proofs.packing.pack_groups.Goals as goal
 pub loop-g-preserved : goal.loop-g-preserved
 loop-g-preserved g c = record {
   filled = groups_more g.row.WIDTH g.W.FastLanes.LANES (word_place g.W.FastLanes.LANES) (word_of g.W.FastLanes.T g.row.WIDTH (pattern_at g.W.FastLanes.pattern c.args.items.now)) c.loop-g.g
-      (pattern_at g.W.FastLanes.pattern c.loop-g.packed) (pattern_at g.W.FastLanes.pattern c.pack_group.new.packed) (omega arith) c.pack_group.ensures.words c.loop-g.invariant.filled;
-  whole = omega (arith, c.pack_group.auto.packed);
+      (g.S.Storage.word c.loop-g.packed) (g.S.Storage.word c.pack_group.new.packed) (omega arith) c.pack_group.ensures.words c.loop-g.invariant.filled;
+  whole = ap g.S.Storage.count c.pack_group.auto.packed ∙ c.loop-g.invariant.whole;
 }
 
 pub returns : goal.returns
 returns g c =
     let eights = whole_eights g.W.FastLanes.T g.W.FastLanes.LANES g.met.W.FastLanes.shape in
-    words_packed g.W.FastLanes.T g.W.FastLanes.LANES g.row.WIDTH c.loop-g.g (pattern_at g.W.FastLanes.pattern c.args.items.now) (pattern_at g.W.FastLanes.pattern c.loop-g.packed) g.met.W.FastLanes.shape (omega arith) c.loop-g.invariant.filled
+    words_packed g.W.FastLanes.T g.W.FastLanes.LANES g.row.WIDTH c.loop-g.g (pattern_at g.W.FastLanes.pattern c.args.items.now) (g.S.Storage.word c.loop-g.packed) g.met.W.FastLanes.shape (omega arith) c.loop-g.invariant.filled

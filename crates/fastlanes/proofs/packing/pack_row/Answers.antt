@@ -22,7 +22,7 @@ returns-then-shift-width-2-clause-begun g c j h =
 
 pub returns-then-shift-width-2-clause-words : goal.returns-then-shift-width-2-clause-words
 returns-then-shift-width-2-clause-words g c =
-    words_filled g.W.FastLanes.T g.W.FastLanes.LANES c.args.width (word_of g.W.FastLanes.T c.args.width (pattern_at g.W.FastLanes.pattern c.args.items.now)) c.args.g c.begin-k.result.0 _ _ _ (pattern_at g.W.FastLanes.pattern c.args.packed.now) (pattern_at g.W.FastLanes.pattern c.store.new.words) (g.W.FastLanes.lane c.or-both.result)
+    words_filled g.W.FastLanes.T g.W.FastLanes.LANES c.args.width (word_of g.W.FastLanes.T c.args.width (pattern_at g.W.FastLanes.pattern c.args.items.now)) c.args.g c.begin-k.result.0 _ _ _ (g.S.Storage.word c.args.packed.now) (g.S.Storage.word c.store.new.units) (g.W.FastLanes.lane c.or-both.result)
     g.met.W.FastLanes.shape c.requires.group (sym c.begin-k.ensures.word) (next_word_moves g.W.FastLanes.T g.W.FastLanes.LANES c.args.width c.args.r _ g.met.W.FastLanes.shape c.requires.width c.begin-k.ensures.bit (omega arith) ∙ rw c.begin-k.ensures.word refl) c.group_at.ensures.place
     c.store.ensures.lanes c.store.ensures.others
     (λ j h. row_fills g.W.FastLanes.T g.W.FastLanes.LANES c.args.width (pattern_at g.W.FastLanes.pattern c.args.items.now) c.args.r (16 * c.args.g + j) _ _ _ _ _ _ _ g.met.W.FastLanes.shape c.begin-k.ensures.word c.begin-k.ensures.bit (omega arith)
@@ -35,7 +35,7 @@ returns-else-shift-width-2-clause-begun g c j h =
 
 pub returns-else-shift-width-2-clause-words : goal.returns-else-shift-width-2-clause-words
 returns-else-shift-width-2-clause-words g c =
-    words_filled g.W.FastLanes.T g.W.FastLanes.LANES c.args.width (word_of g.W.FastLanes.T c.args.width (pattern_at g.W.FastLanes.pattern c.args.items.now)) c.args.g c.begin-k.result.0 _ _ _ (pattern_at g.W.FastLanes.pattern c.args.packed.now) (pattern_at g.W.FastLanes.pattern c.store.new.words) (g.W.FastLanes.lane c.or-both.result)
+    words_filled g.W.FastLanes.T g.W.FastLanes.LANES c.args.width (word_of g.W.FastLanes.T c.args.width (pattern_at g.W.FastLanes.pattern c.args.items.now)) c.args.g c.begin-k.result.0 _ _ _ (g.S.Storage.word c.args.packed.now) (g.S.Storage.word c.store.new.units) (g.W.FastLanes.lane c.or-both.result)
     g.met.W.FastLanes.shape c.requires.group (sym c.begin-k.ensures.word) (next_word_moves g.W.FastLanes.T g.W.FastLanes.LANES c.args.width c.args.r _ g.met.W.FastLanes.shape c.requires.width c.begin-k.ensures.bit (omega arith) ∙ rw c.begin-k.ensures.word refl) c.group_at.ensures.place
     c.store.ensures.lanes c.store.ensures.others
     (λ j h. row_fills g.W.FastLanes.T g.W.FastLanes.LANES c.args.width (pattern_at g.W.FastLanes.pattern c.args.items.now) c.args.r (16 * c.args.g + j) _ _ _ _ _ _ _ g.met.W.FastLanes.shape c.begin-k.ensures.word c.begin-k.ensures.bit (omega arith)

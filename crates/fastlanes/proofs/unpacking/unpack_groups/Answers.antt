@@ -6,7 +6,7 @@ use Rattle.fastlanes.proofs.unpacking.unpack_groups.Goals as goal
 
 pub loop-g-preserved : goal.loop-g-preserved
 loop-g-preserved g c = record {
-  filled = groups_more g.W.FastLanes.T g.W.FastLanes.LANES place (sum_of g.W.FastLanes.T g.W.FastLanes.LANES g.row.WIDTH (pattern_at g.W.FastLanes.pattern c.args.words.now) (g.W.FastLanes.lane c.splat_reference-reference.result)) c.loop-g.g
+  filled = groups_more g.W.FastLanes.T g.W.FastLanes.LANES place (sum_of g.W.FastLanes.T g.W.FastLanes.LANES g.row.WIDTH (g.S.Storage.word c.args.words.now) (g.W.FastLanes.lane c.splat_reference-reference.result)) c.loop-g.g
       (pattern_at g.W.FastLanes.pattern c.loop-g.items) (pattern_at g.W.FastLanes.pattern c.unpack_group.new.items) (omega arith) c.unpack_group.ensures.filled c.loop-g.invariant.filled;
   whole = c.unpack_group.ensures.whole;
 }
@@ -14,4 +14,4 @@ loop-g-preserved g c = record {
 pub returns-clause-items : goal.returns-clause-items
 returns-clause-items g c i h =
     let eights = whole_eights g.W.FastLanes.T g.W.FastLanes.LANES g.met.W.FastLanes.shape in
-    sums_filled g.W.FastLanes.T g.W.FastLanes.LANES g.row.WIDTH c.loop-g.g (pattern_at g.W.FastLanes.pattern c.args.words.now) (pattern_at g.W.FastLanes.pattern c.loop-g.items) (g.W.FastLanes.lane c.splat_reference-reference.result) (g.W.FastLanes.pattern c.args.reference) i g.met.W.FastLanes.shape (omega arith) h c.splat_reference-reference.ensures.lanes c.loop-g.invariant.filled
+    sums_filled g.W.FastLanes.T g.W.FastLanes.LANES g.row.WIDTH c.loop-g.g (g.S.Storage.word c.args.words.now) (pattern_at g.W.FastLanes.pattern c.loop-g.items) (g.W.FastLanes.lane c.splat_reference-reference.result) (g.W.FastLanes.pattern c.args.reference) i g.met.W.FastLanes.shape (omega arith) h c.splat_reference-reference.ensures.lanes c.loop-g.invariant.filled

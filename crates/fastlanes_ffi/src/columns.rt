@@ -1,0 +1,128 @@
+//! Whole columns, packed and unpacked again and again, which test the lengths themselves.
+#![tactic(auto)]
+
+ghost use Rattle.std.specs.Prelude.{◌≡◌, ◌*◌, ◌≤◌, length};
+ghost use Rattle.fl_types.specs.Integers.{bits_of_type};
+ghost use Rattle.fl_packed.specs.Columns.{block_count};
+ghost use Rattle.fl_packed.specs.Parts.{Fit, parts_of};
+
+use bytes::Bytes;
+use fastlanes::FL_CHUNK_SIZE;
+use fl_packed::decoding::{PackedColumn, unpack_even};
+use fl_packed::packing::bitpack_unchecked;
+use fl_packed::unpack_iter::{BitPacked, BitPackingStrategy, UnpackedChunks};
+use fl_plain::PrimitiveArray;
+use fl_types::{FastLanesError, NativePType, Validity};
+use std::alloc::Global;
+
+/// Packs an array so many times at a width, and writes the bytes of the last time, as far as there is
+/// room.
+fn pack_array(
+    alloc: Global,
+    rounds: usize,
+    width: u8,
+    array: &PrimitiveArray,
+    bytes: &mut [u8],
+) -> Result<usize, FastLanesError> {
+    if usize::from(width) > array.ptype().bit_width() {
+        return Ok(0);
+    }
+    let mut packed = Bytes::new();
+    for _ in 0..rounds {
+        packed = bitpack_unchecked(alloc, array, width)?;
+    }
+    let count = packed.len().min(bytes.len());
+    bytes[..count].copy_from_slice(&packed.as_slice()[..count]);
+    Ok(count)
+}
+
+/// Packs a column so many times at a width, and writes the bytes of the last time, as far as there is
+/// room. The answer is how many were written.
+pub(crate) fn pack_column<T: BitPacked>(
+    alloc: Global,
+    rounds: usize,
+    width: u8,
+    items: &[T],
+    bytes: &mut [u8],
+) -> Result<usize, FastLanesError> {
+    let slots = Vec::from_slice(alloc, items)?;
+    let array = PrimitiveArray::new(slots, Validity::NonNullable)?;
+    pack_array(alloc, rounds, width, &array, bytes)
+}
+
+/// Unpacks a column so many times, and writes the items of the last time, as far as there is room.
+fn unpack_again<T: BitPacked>(
+    alloc: Global,
+    rounds: usize,
+    width: usize,
+    column: &PackedColumn,
+    items: &mut [T],
+) -> Result<usize, FastLanesError>
+    requires typed { column.now.ptype ≡ T.PTYPE }
+    requires fit { Fit (parts_of column.now) }
+    requires width { width ≤ bits_of_type column.now.ptype }
+    requires room { 128 * width * block_count (parts_of column.now) ≤ length column.now.packed.now }
+{
+    let mut count = 0;
+    for _ in 0..rounds {
+        let array = unpack_even(alloc, column, width)?;
+        let unpacked = array.as_slice::<T>();
+        count = unpacked.len().min(items.len());
+        items[..count].copy_from_slice(&unpacked[..count]);
+    }
+    Ok(count)
+}
+
+/// Unpacks a column of so many items so many times, and writes the items of the last time, as far as
+/// there is room. The answer is how many were written.
+pub(crate) fn unpack_column<'a, T: BitPacked>(
+    alloc: Global,
+    rounds: usize,
+    width: u8,
+    len: usize,
+    packed: &'a [u8],
+    validity: &'a Validity,
+    items: &mut [T],
+) -> Result<usize, FastLanesError> {
+    let width = usize::from(width);
+    let blocks = len.div_ceil(FL_CHUNK_SIZE);
+    if width > T::PTYPE.bit_width() || !validity.covers(len) {
+        return Ok(0);
+    }
+    if width != 0 && blocks > packed.len() / (128 * width) {
+        return Ok(0);
+    }
+    let column = PackedColumn {
+        packed,
+        ptype: T::PTYPE,
+        validity,
+        patches: None,
+        offset: 0,
+        len,
+    };
+    unpack_again(alloc, rounds, width, &column, items)
+}
+
+/// Decodes a column into these items. The answer is how many there are, 0 where the bytes are not
+/// those of so many items.
+pub(crate) fn decode_column<T: BitPacked>(width: u8, packed: &[u8], items: &mut [T]) -> usize {
+    let width = usize::from(width);
+    if width > T::PTYPE.bit_width() {
+        return 0;
+    }
+    T::fits_in_memory();
+    let mut scratch = [T::zero(); FL_CHUNK_SIZE];
+    let len = items.len();
+    let Ok(mut chunks) = UnpackedChunks::try_new_with_strategy(
+        BitPackingStrategy,
+        packed,
+        width,
+        0,
+        len,
+        &mut scratch,
+    ) else {
+        return 0;
+    };
+    chunks.decode_into(items);
+    len
+}

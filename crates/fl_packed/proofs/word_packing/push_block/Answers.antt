@@ -1,0 +1,22 @@
+use Rattle.std.proofs.Common.{◌+◌, ◌∙◌, length, ap, sym}
+use Rattle.fl_packed.proofs.Natives.{packed_by_items}
+use Rattle.fl_packed.proofs.WordLaws.{block_added, front_words, words_kept, words_more}
+use Rattle.fl_packed.proofs.word_packing.push_block.Goals as goal
+
+pub returns-clause-long : goal.returns-clause-long
+returns-clause-long g c =
+    let old = c.args.packed.now.items in
+    let words = c.pack.new.packed in
+    let block = front_words g.T.Physical.FastLanes.T g.T.Physical.FastLanes.LANES c.args.width c.LANES-lanes.result c.args.words.now words g.met.T.Physical.FastLanes.shape c.requires.width c.LANES-lanes.ensures c.requires.words c.pack.auto.packed in
+    words_more g.T.Physical.FastLanes.pattern g.T.Number.value g.T.NativePType.PTYPE old c.push_words.new.packed.items words c.push_words.ensures.words ∙ ap (λ n. length old + n) block
+
+pub returns-clause-before : goal.returns-clause-before
+returns-clause-before g c m h = words_kept g.T.Number.value g.T.NativePType.PTYPE c.args.packed.now.items _ _ c.push_words.ensures.words m h
+
+pub returns-clause-packed : goal.returns-clause-packed
+returns-clause-packed g c =
+    let words = c.pack.new.packed in
+    let block = front_words g.T.Physical.FastLanes.T g.T.Physical.FastLanes.LANES c.args.width c.LANES-lanes.result c.args.words.now words g.met.T.Physical.FastLanes.shape c.requires.width c.LANES-lanes.ensures c.requires.words c.pack.auto.packed in
+    let packed = packed_by_items _ _ c.args.width _ _ _ g.met.T.Physical.FastLanes.shape (λ i h. sym (c.put_patterns.ensures.patterns i h)) c.pack.ensures in
+    block_added g.T.Physical.FastLanes.pattern g.T.Number.value g.T.NativePType.PTYPE g.T.Physical.FastLanes.T g.T.Physical.FastLanes.LANES c.args.width _ c.args.packed.now.items _ words g.met.T.Physical.FastLanes.shape g.met.T.NativePType.width_law block
+    c.push_words.ensures.words c.all_in_range.ensures packed
