@@ -315,7 +315,16 @@ pub extern "C" fn fl_unpack_column_u8(
     packed: &[u8],
     items: &mut [u8],
 ) -> usize {
-    unpack_column(alloc, rounds, width, len, packed, &Validity::NonNullable, items).unwrap_or(0)
+    unpack_column(
+        alloc,
+        rounds,
+        width,
+        len,
+        packed,
+        &Validity::NonNullable,
+        items,
+    )
+    .unwrap_or(0)
 }
 
 #[unsafe(no_mangle)]
@@ -343,7 +352,16 @@ pub extern "C" fn fl_unpack_column_u16(
     packed: &[u8],
     items: &mut [u16],
 ) -> usize {
-    unpack_column(alloc, rounds, width, len, packed, &Validity::NonNullable, items).unwrap_or(0)
+    unpack_column(
+        alloc,
+        rounds,
+        width,
+        len,
+        packed,
+        &Validity::NonNullable,
+        items,
+    )
+    .unwrap_or(0)
 }
 
 #[unsafe(no_mangle)]
@@ -371,7 +389,16 @@ pub extern "C" fn fl_unpack_column_u32(
     packed: &[u8],
     items: &mut [u32],
 ) -> usize {
-    unpack_column(alloc, rounds, width, len, packed, &Validity::NonNullable, items).unwrap_or(0)
+    unpack_column(
+        alloc,
+        rounds,
+        width,
+        len,
+        packed,
+        &Validity::NonNullable,
+        items,
+    )
+    .unwrap_or(0)
 }
 
 #[unsafe(no_mangle)]
@@ -399,7 +426,16 @@ pub extern "C" fn fl_unpack_column_u64(
     packed: &[u8],
     items: &mut [u64],
 ) -> usize {
-    unpack_column(alloc, rounds, width, len, packed, &Validity::NonNullable, items).unwrap_or(0)
+    unpack_column(
+        alloc,
+        rounds,
+        width,
+        len,
+        packed,
+        &Validity::NonNullable,
+        items,
+    )
+    .unwrap_or(0)
 }
 
 #[unsafe(no_mangle)]

@@ -152,9 +152,17 @@ fn words_and_bytes_agree<W: FastLanes>(rt: &impl Abort) {
             assert!(rt; W::word(&bytes, m).same(packed[m]), "word {m} at {width}");
         }
         unpack(width, &packed[..size], &mut unpacked, &mut work);
-        unpack_bytes(width, &bytes[..128 * width], &mut unpacked_from_bytes, &mut work);
+        unpack_bytes(
+            width,
+            &bytes[..128 * width],
+            &mut unpacked_from_bytes,
+            &mut work,
+        );
         for p in 0..FL_CHUNK_SIZE {
-            assert!(rt; unpacked[p].same(unpacked_from_bytes[p]), "item {p} at {width}");
+            assert!(rt;
+                unpacked[p].same(unpacked_from_bytes[p]),
+                "item {p} at {width}"
+            );
         }
     }
     assert!(rt; work.blocks() == 2 * (W::T as u64 + 1));

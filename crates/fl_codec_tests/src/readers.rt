@@ -4,10 +4,14 @@ ghost use Rattle.std.specs.Prelude.{◌≤◌};
 ghost use Rattle.fl_types.specs.Integers.{bits_of_type};
 
 use crate::packing::bytes_of_rising;
+use fastlanes::{FL_CHUNK_SIZE, Work};
 use fl_packed::decoding::unpack_single_primitive;
-use fl_packed::unpack_iter::{BitPacked, BitPackingStrategy, UnpackedChunks, UnpackedItems};
+use fl_packed::unpack_iter::{
+    BitPacked, BitPackingStrategy, UnpackStrategy, UnpackedChunks, UnpackedItems,
+};
 use fl_types::*;
 use std::alloc::Global;
+use std::cell::Cell;
 use std::test::Fail;
 
 /// Whether a reader of 500 to 1499 writes them, and unpacks each of its two blocks once.
@@ -200,5 +204,54 @@ fn parts_lend_each_item_once(rt: HostRuntime) -> Result<(), Fail> {
     assert!(rt; parts_of(&[], 0, 0)? == (None, 0, None));
     assert!(rt; one_block_is_lent_once()?);
     assert!(rt; blocks_are_lent_once()?);
+    Ok(())
+}
+
+/// Unpacks by the layout, and counts its calls.
+#[derive(Clone, Copy)]
+struct CountingStrategy<'c> {
+    calls: &'c Cell<usize>,
+}
+
+impl UnpackStrategy<u8> for CountingStrategy<'_> {
+    fn unpack_chunk(
+        &self,
+        bit_width: usize,
+        chunk: &[u8],
+        dst: &mut [u8; FL_CHUNK_SIZE],
+        work: &mut Work,
+    ) {
+        self.calls.set(self.calls.get().saturating_add(1));
+        BitPackingStrategy.unpack_chunk(bit_width, chunk, dst, work);
+    }
+}
+
+/// How often a reader of two cut blocks has called its strategy after it wrote all items, after it
+/// lent those of the first block, and after it lent those of the last one.
+fn calls_of(
+    calls: &Cell<usize>,
+    scratch: &mut [u8; 1024],
+    items: &mut [u8; 1000],
+) -> Result<(usize, usize, usize), FastLanesError> {
+    let strategy = CountingStrategy { calls };
+    let bytes = [255u8; 256];
+    let mut chunks = UnpackedChunks::try_new_with_strategy(
+        strategy, &bytes, 1, 500, 1000, scratch,
+    )?;
+    chunks.decode_into(items);
+    let all = calls.get();
+    let _first = chunks.initial();
+    let first = calls.get();
+    let _last = chunks.trailer();
+    Ok((all, first, calls.get()))
+}
+
+fn strategy_unpacks_each_block() -> Result<bool, FastLanesError> {
+    Ok(calls_of(&Cell::new(0), &mut [0; 1024], &mut [0; 1000])? == (2, 3, 4))
+}
+
+#[test]
+fn a_reader_unpacks_by_its_strategy(rt: HostRuntime) -> Result<(), Fail> {
+    assert!(rt; strategy_unpacks_each_block()?);
     Ok(())
 }

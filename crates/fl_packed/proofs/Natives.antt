@@ -7,10 +7,9 @@ use Rattle.std.proofs.lemmas.List.{get_or-map, length-map, get_or-take, get_or_p
 use Rattle.std.specs.Int.{bit_at}
 use Rattle.fastlanes.specs.Layout.{pattern_at, place, Packed, unpacked_item, unpacked_bits, word_at, IsWordWidth, bits_8, bits_16, bits_32, bits_64}
 use Rattle.fastlanes.proofs.BitSums.{from_bits_below}
-use Rattle.fastlanes.proofs.Blocks.{packed_bit_small, packed_by_words}
+use Rattle.fastlanes.proofs.Blocks.{packed_bit_small}
 use Rattle.fastlanes.proofs.Bijection.{place_read}
 use Rattle.fastlanes.proofs.Patterns.{pattern_at_read}
-use Rattle.fastlanes.proofs.Unique.{items_packed, items_read}
 use Rattle.fl_types.specs.declared.dtype.PType.{PType}
 use Rattle.fl_types.specs.declared.dtype.PType.TheVariants.{U8, U16, U32, U64, I8, I16, I32, I64}
 use Rattle.fl_types.specs.Integers.{bits_of_type, lanes_of_type, is_unsigned, pattern_of, read_as}

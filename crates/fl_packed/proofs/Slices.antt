@@ -1,7 +1,8 @@
 -- Parts of lists.
-use Rattle.std.proofs.Common.{◌≡◌, ℕ, zero, suc, ◌+◌, ◌-◌, ◌<◌, ◌≤◌, ℤ, pos, List, [], ◌∷◌, ◌++◌, length, map, take, drop, get_or, min, refl, ap, sym, ◌∙◌, arith, inl, inr, length-take, length-drop}
+use Rattle.std.proofs.Common.{◌≡◌, ℕ, zero, suc, ◌+◌, ◌-◌, ◌<◌, ◌≤◌, ℤ, pos, List, [], ◌∷◌, ◌++◌, length, map, take, drop, get_or, min, replicate, refl, ap, sym, ◌∙◌, arith, inl, inr, append_assoc, length-append, length-take, length-drop}
 use Rattle.std.proofs.lemmas.Bool.{cases_lt}
-use Rattle.std.proofs.lemmas.List.{take-map, drop-map, get_or-take, get_or-drop, take_all, take-append-le, length-map, map-append, get_or_append_left, get_or-append_right}
+use Rattle.std.proofs.lemmas.List.{take-map, drop-map, get_or-take, get_or-drop, take_all, take-append-le, length-map, length-replicate, map-append, get_or_append_left, get_or-append_right, get_or-append-add}
+use Rattle.std.proofs.Math.Seq.{take-append_seam}
 use Rattle.fl_types.specs.declared.dtype.PType.{PType}
 use Rattle.fl_types.specs.Integers.{pattern_of}
 use Rattle.fl_types.specs.Bits.{table}
@@ -22,6 +23,11 @@ between_front (suc a) zero s xs ys h k = let none : 0 - suc a ≡ 0 = omega arit
 between_front (suc a) (suc b) zero xs ys h k = absurd (omega arith)
 between_front (suc a) (suc b) (suc s) [] ys h k = absurd (omega arith)
 between_front (suc a) (suc b) (suc s) (x ∷ xs) ys h k = let less : suc b - suc a ≡ b - a = omega arith in rw less (between_front a b s xs ys (omega arith) (omega arith))
+
+-- a part of a list that was kept and grown
+pub grown_front : {X : Type 0} (a b n : ℕ) (xs ys : List X) → b ≤ length xs → length xs ≤ n → take (b - a) (drop a (take n xs ++ ys)) ≡ take (b - a) (drop a xs)
+grown_front a b n xs ys h k =
+    ap (λ zs. take (b - a) (drop a (zs ++ ys))) (take_all n xs k ∙ sym (take_all (length xs) xs (omega arith))) ∙ between_front a b (length xs) xs ys h (omega arith)
 
 -- at most so many elements from a place on
 pub chunk_taken : {X : Type 0} (n a m : ℕ) (xs : List X) → m ≡ min (length xs - a) n → take (a + m - a) (drop a xs) ≡ take n (drop a xs)
@@ -70,6 +76,34 @@ value_part value xs a n i h =
 -- what a vector holds whose elements were all written
 pub vec_written : {X : Type 0} (n : ℕ) (new old : List X) → length new ≡ n → take n (new ++ drop (length new) old) ≡ new
 vec_written n new old e = take-append-le n new (drop (length new) old) (omega arith) ∙ take_all n new (omega arith)
+
+-- what a vector holds that was filled up from its old length to an end, and whose new elements were all written
+pub vec_grown : {X : Type 0} (len end from count : ℕ) (x : X) (old row new rest tail : List X) → count ≡ length old → from ≡ count → count ≤ end → len ≡ end → row ≡ take end old ++ replicate (end - count) x
+    → length new ≡ length (take (length row - from) (drop from row)) → take len ((take from row ++ (new ++ rest)) ++ tail) ≡ old ++ new
+vec_grown len end from count x old row new rest tail count_is from_is order len_is row_is kept =
+    let more = replicate (end - count) x in
+    let is : row ≡ old ++ more = row_is ∙ ap (λ xs. xs ++ more) (take_all end old (omega arith)) in
+    let long : length row ≡ end = let sum = length-append old more in let added = length-replicate (end - count) x in omega (arith, ap length is) in
+    let written : length new ≡ end - count = let taken = length-take (length row - from) (drop from row) in let others = length-drop from row in omega arith in
+    let old_long : from ≡ length old = from_is ∙ count_is in
+    let front : take from row ≡ old = rw (is, old_long) (take-append_seam old more) in
+    let size : len ≡ length (old ++ new) = let sum = length-append old new in omega arith in
+    let apart : (old ++ (new ++ rest)) ++ tail ≡ (old ++ new) ++ (rest ++ tail) = simp append_assoc in
+    rw (front, apart, size) (take-append_seam (old ++ new) (rest ++ tail))
+
+-- an integer before those that were added
+pub value_before : {X : Type 0} (value : X → ℤ) (old new : List X) (i : ℕ) → i < length old → value_at value (old ++ new) i ≡ value_at value old i
+unfolding value_at
+value_before value old new i h =
+    let inside : i < length (map value old) = let same = length-map old value in omega arith in
+    ap (λ ys. get_or ys i (pos 0)) (map-append value old new) ∙ get_or_append_left (map value old) (map value new) (pos 0) i inside
+
+-- an integer that was added
+pub value_added : {X : Type 0} (value : X → ℤ) (old new : List X) (i : ℕ) → value_at value (old ++ new) (length old + i) ≡ value_at value new i
+unfolding value_at
+value_added value old new i =
+    let place : length old + i ≡ length (map value old) + i = let same = length-map old value in omega arith in
+    ap (λ ys. get_or ys (length old + i) (pos 0)) (map-append value old new) ∙ (ap (λ k. get_or (map value old ++ map value new) k (pos 0)) place ∙ get_or-append-add (map value old) (map value new) i (pos 0))
 
 -- the integers between two places, by what each of them is
 pub integers_between : {X : Type 0} (value : X → ℤ) (item : ℕ → ℤ) (xs : List X) (from to : ℕ) → from ≤ to → to ≤ length xs

@@ -1,6 +1,6 @@
 //! Columns read back from their packed blocks.
 
-ghost use Rattle.std.specs.Prelude.{◌≡◌, ◌+◌, ◌*◌, ◌/◌, ◌<◌, ◌≤◌, ◌^◌, ℕ, IfOk, IfSome, IsTrue, Ok, length, unwrap_or, vec_len};
+ghost use Rattle.std.specs.Prelude.{◌≡◌, ◌+◌, ◌*◌, ◌/◌, ◌<◌, ◌≤◌, ◌^◌, ℕ, IfOk, IfSome, IsTrue, Ok, OnOk, length, min, unwrap_or};
 ghost use Rattle.std.specs.Option.{option_copied};
 ghost use Rattle.fl_types.specs.Integers.{bits_of_type};
 ghost use Rattle.fl_types.specs.Refusals.{Answers};
@@ -12,9 +12,9 @@ ghost use Rattle.fl_packed.specs.Parts.{Fit, parts_of};
 ghost use Rattle.fl_packed.specs.Widths.{blocks_of, NamesAll};
 
 use crate::bit_packed::BitPacked;
-use crate::blocks::Widths;
+use crate::blocks::{Widths, chunk_count};
 use crate::patching::put_patches;
-use crate::unpack_iter::{BitPackingStrategy, block_at, unpack_blocks};
+use crate::unpack_iter::{BitPackingStrategy, block_at, count_fits, part_of, unpack_part};
 use fastlanes::{FL_CHUNK_SIZE, Work, unpack_single};
 use fl_patches::Patches;
 use fl_plain::PrimitiveArray;
@@ -71,11 +71,63 @@ pub fn unpack_single_primitive<T: NativePType>(packed: &[u8], width: usize, i: u
     unpack_block_item(width, block, i % FL_CHUNK_SIZE, &mut work)
 }
 
-/// So many integers 0.
-fn zeros<T: NativePType>(alloc: Global, len: usize) -> Result<Vec<T>, AllocError>
-    ensures { IfOk result (λ v. vec_len v ≡ len) }
+/// Adds the items of a block from position `low` on, until there are `end` items. A whole block is
+/// unpacked straight into its place, another one by way of the scratch block.
+fn push_part<T: BitPacked>(
+    width: usize,
+    block: &[u8],
+    low: usize,
+    end: usize,
+    items: &mut Vec<T>,
+    scratch: &mut [T; FL_CHUNK_SIZE],
+    work: &mut Work,
+) -> Result<(), AllocError>
+    requires width { width ≤ bits_of_type T.PTYPE }
+    requires block { length block.now ≡ 128 * width }
+    requires order { length items.old.items ≤ end }
+    requires within { low + end ≤ length items.old.items + 1024 }
+    ensures long { OnOk result (length items.new.items ≡ end) }
+    ensures before { OnOk result ((i : ℕ) → i < length items.old.items → value_at T.value items.new.items i ≡ value_at T.value items.old.items i) }
+    ensures part { OnOk result ((i : ℕ) → length items.old.items + i < end → value_at T.value items.new.items (length items.old.items + i) ≡ block_item T.PTYPE width block.now (low + i)) }
+    ensures blocks { OnOk result (work.new.blocks ≡ min (work.old.blocks + 1) u64.MAX) }
+    ensures words { work.new.words ≡ work.old.words }
 {
-    vec![in alloc; T::zero(); len]
+    let from = items.len();
+    items.resize(end, T::zero())?;
+    let part = &mut items[from..];
+    unpack_part(&BitPackingStrategy, width, block, low, part, scratch, work);
+    Ok(())
+}
+
+/// The items of packed blocks from the offset on, each block unpacked once.
+fn unpack_counted<T: BitPacked>(
+    alloc: Global,
+    widths: Widths,
+    packed: &[u8],
+    offset: usize,
+    len: usize,
+    work: &mut Work,
+) -> Result<Vec<T>, AllocError>
+    requires offset { offset < 1024 }
+    requires few { offset + len < 2 ^ 64 }
+    requires names { NamesAll widths (chunk_count (offset + len)) }
+    requires within { AreWithin (bits_of_type T.PTYPE) (chunk_count (offset + len)) (length packed.now) (blocks_of widths) }
+    ensures long { IfOk result (λ v. length v.items ≡ len) }
+    ensures items { IfOk result (λ v. (i : ℕ) → i < len → value_at T.value v.items i ≡ item_of_blocks T.PTYPE (blocks_of widths.entry) packed.now (offset + i)) }
+    ensures blocks { OnOk result (work.new.blocks ≡ min (work.old.blocks + chunk_count (offset + len)) u64.MAX) }
+    ensures words { work.new.words ≡ work.old.words }
+{
+    count_fits(work);
+    T::fits_in_memory();
+    let mut items = Vec::with_capacity(alloc, len)?;
+    let mut scratch = [T::zero(); FL_CHUNK_SIZE];
+    for j in 0..chunk_count(offset + len) {
+        let (start, width) = widths.block(j);
+        let (low, _from, end) = part_of(offset, len, j);
+        let block = block_at(packed, start, width);
+        push_part(width, block, low, end, &mut items, &mut scratch, work)?;
+    }
+    Ok(items)
 }
 
 /// The items of packed blocks from the offset on.
@@ -93,21 +145,8 @@ fn unpack_values<T: BitPacked>(
     ensures long { IfOk result (λ v. length v.items ≡ len) }
     ensures items { IfOk result (λ v. (i : ℕ) → i < len → value_at T.value v.items i ≡ item_of_blocks T.PTYPE (blocks_of widths.entry) packed.now (offset + i)) }
 {
-    let mut items = zeros::<T>(alloc, len)?;
-    T::fits_in_memory();
-    let mut scratch = [T::zero(); FL_CHUNK_SIZE];
     let mut work = Work::new();
-    let strategy = BitPackingStrategy;
-    unpack_blocks(
-        &strategy,
-        widths,
-        packed,
-        offset,
-        &mut items,
-        &mut scratch,
-        &mut work,
-    );
-    Ok(items)
+    unpack_counted(alloc, widths, packed, offset, len, &mut work)
 }
 
 /// These items, with the patches' values in their places, if there are patches.

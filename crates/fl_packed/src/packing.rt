@@ -1,6 +1,6 @@
 //! Packing columns into bytes.
 
-ghost use Rattle.std.specs.Prelude.{◌≡◌, ◌+◌, ◌-◌, ◌*◌, ◌<◌, ◌≤◌, ◌^◌, ℕ, ℤ, IfErr, IfOk, drop, length, map, slice_index, sum, take};
+ghost use Rattle.std.specs.Prelude.{◌≡◌, ◌+◌, ◌-◌, ◌*◌, ◌<◌, ◌≤◌, ◌^◌, ℕ, ℤ, IfErr, IfOk, OnOk, drop, length, map, slice_index, sum, take};
 ghost use Rattle.fastlanes.specs.Layout.{Packed, word_at};
 ghost use Rattle.fl_types.specs.Bits.{between};
 ghost use Rattle.fl_types.specs.Integers.{bits_of_type};
@@ -41,36 +41,45 @@ pub(crate) fn chunk_of<T>(items: &[T], j: usize) -> &[T]
     &items[start..end]
 }
 
-/// Packs each block of these integers into its bytes.
-fn pack_blocks<T: BitPacked>(widths: Widths, items: &[T], bytes: &mut [u8])
-    requires names { NamesAll widths (chunk_count (length items.now)) }
-    requires within { AreWithin T.Physical.T (chunk_count (length items.now)) (length bytes.old) (blocks_of widths) }
-    requires joined { AreJoined (chunk_count (length items.now)) (length bytes.old) (blocks_of widths) }
-    ensures { (j : ℕ) → j < chunk_count (length items.now) → Packed T.Physical.T T.Physical.LANES ((blocks_of widths.entry).width j) (λ q. pattern_in T.PTYPE (map T.value items.now) (1024 * j + q)) (word_at T.Physical.T (bytes_of_block (blocks_of widths.entry) bytes.new j)) }
+/// Adds the packed block of at most 1024 integers, behind which stands 0.
+fn push_block<T: BitPacked>(
+    width: usize,
+    items: &[T],
+    bytes: &mut Vec<u8>,
+) -> Result<(), AllocError>
+    requires width { width ≤ T.Physical.T }
+    requires few { length items.now ≤ 1024 }
+    requires room { length bytes.old.items + 128 * width < 2 ^ 64 }
+    ensures long { OnOk result (length bytes.new.items ≡ length bytes.old.items + 128 * width) }
+    ensures packed { OnOk result (Packed T.Physical.T T.Physical.LANES width (pattern_in T.PTYPE (map T.value items.now)) (word_at T.Physical.T (between (length bytes.old.items) (length bytes.old.items + 128 * width) bytes.new.items))) }
+    ensures before { OnOk result ((a b : ℕ) → b ≤ length bytes.old.items → between a b bytes.new.items ≡ between a b bytes.old.items) }
 {
+    let start = bytes.len();
+    bytes.resize(start + FL_CHUNK_SIZE / 8 * width, 0)?;
+    pack_at(width, items, start, bytes);
+    Ok(())
+}
+
+/// The packed blocks of these integers. A block's bytes are made while they are packed, not all of
+/// them before.
+fn pack_blocks<T: BitPacked>(
+    alloc: Global,
+    widths: Widths,
+    items: &[T],
+    size: usize,
+) -> Result<Vec<u8>, AllocError>
+    requires names { NamesAll widths (chunk_count (length items.now)) }
+    requires within { AreWithin T.Physical.T (chunk_count (length items.now)) size (blocks_of widths) }
+    requires joined { AreJoined (chunk_count (length items.now)) size (blocks_of widths) }
+    ensures long { IfOk result (λ v. length v.items ≡ size) }
+    ensures each { IfOk result (λ v. (j : ℕ) → j < chunk_count (length items.now) → Packed T.Physical.T T.Physical.LANES ((blocks_of widths.entry).width j) (λ q. pattern_in T.PTYPE (map T.value items.now) (1024 * j + q)) (word_at T.Physical.T (bytes_of_block (blocks_of widths.entry) v.items j))) }
+{
+    let mut bytes = Vec::with_capacity(alloc, size)?;
     for j in 0..chunk_count(items.len()) {
-        let (start, width) = widths.block(j);
-        pack_at(width, chunk_of(items, j), start, bytes);
+        let (_start, width) = widths.block(j);
+        push_block(width, chunk_of(items, j), &mut bytes)?;
     }
-}
-
-/// So many bytes of 0.
-fn zero_bytes(alloc: Global, len: usize) -> Result<Vec<u8>, AllocError>
-    ensures { IfOk result (λ v. length v.items ≡ len) }
-{
-    vec![in alloc; 0u8; len]
-}
-
-/// These bytes, which have the room, with the packed blocks of these integers in them.
-fn with_blocks<T: BitPacked>(widths: Widths, items: &[T], mut bytes: Vec<u8>) -> Vec<u8>
-    requires names { NamesAll widths (chunk_count (length items.now)) }
-    requires within { AreWithin T.Physical.T (chunk_count (length items.now)) (length bytes.items) (blocks_of widths) }
-    requires joined { AreJoined (chunk_count (length items.now)) (length bytes.items) (blocks_of widths) }
-    ensures long { length result.items ≡ length bytes.items }
-    ensures each { (j : ℕ) → j < chunk_count (length items.now) → Packed T.Physical.T T.Physical.LANES ((blocks_of widths.entry).width j) (λ q. pattern_in T.PTYPE (map T.value items.now) (1024 * j + q)) (word_at T.Physical.T (bytes_of_block (blocks_of widths.entry) result.items j)) }
-{
-    pack_blocks(widths, items, &mut bytes);
-    bytes
+    Ok(bytes)
 }
 
 fn pack_typed<T: BitPacked>(
@@ -85,9 +94,9 @@ fn pack_typed<T: BitPacked>(
     requires joined { AreJoined (chunk_count (length array.now.slots)) size (blocks_of widths) }
     ensures { IfOk result (λ v. ArePacked array.now.ptype array.now.slots (blocks_of widths.entry) v.items) }
 {
-    let zeros = zero_bytes(alloc, size)?;
     let items = array.as_slice::<T>();
-    Ok(with_blocks(widths, items, zeros))
+    let bytes = pack_blocks(alloc, widths, items, size)?;
+    Ok(bytes)
 }
 
 /// The packed low bits of an array's integers, as bytes of their own.

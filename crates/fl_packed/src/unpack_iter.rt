@@ -64,7 +64,7 @@ pub(crate) fn block_at(packed: &[u8], start: usize, width: usize) -> &[u8]
 
 /// Writes the items of a block from position `low` on. A whole block is unpacked straight into its
 /// place, another one by way of the scratch block.
-fn unpack_part<T: NativePType, S: UnpackStrategy<T>>(
+pub(crate) fn unpack_part<T: NativePType, S: UnpackStrategy<T>>(
     strategy: &S,
     width: usize,
     block: &[u8],
@@ -92,7 +92,7 @@ fn unpack_part<T: NativePType, S: UnpackStrategy<T>>(
 
 /// Where the items of block `j` stand: the position of the first of them in the block, and where they
 /// begin and end among all items.
-fn part_of(offset: usize, len: usize, j: usize) -> (usize, usize, usize)
+pub(crate) fn part_of(offset: usize, len: usize, j: usize) -> (usize, usize, usize)
     requires offset { offset < 1024 }
     requires some { 1024 * j < offset + len }
     requires few { offset + len < 2 ^ 64 }
@@ -110,14 +110,14 @@ fn part_of(offset: usize, len: usize, j: usize) -> (usize, usize, usize)
 }
 
 /// A count of blocks fits its type.
-fn count_fits(work: &Work)
+pub(crate) fn count_fits(work: &Work)
     ensures { work.now.blocks ≤ u64.MAX }
 {
     let _blocks = work.blocks();
 }
 
 /// Writes the items of packed blocks from the offset on, each block unpacked once.
-pub(crate) fn unpack_blocks<T: NativePType, S: UnpackStrategy<T>>(
+fn unpack_blocks<T: NativePType, S: UnpackStrategy<T>>(
     strategy: &S,
     widths: Widths,
     packed: &[u8],

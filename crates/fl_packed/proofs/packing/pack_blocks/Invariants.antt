@@ -1,4 +1,4 @@
-use Rattle.std.proofs.Common.{ℕ, ◌+◌, ◌*◌, ◌<◌, map}
+use Rattle.std.proofs.Common.{◌≡◌, ℕ, ◌+◌, ◌*◌, ◌<◌, length, map}
 use Rattle.fastlanes.specs.Layout.{Packed, word_at}
 use Rattle.fl_packed.specs.Blocks.{bytes_of_block, pattern_in}
 use Rattle.fl_packed.specs.Widths.{blocks_of}
@@ -7,5 +7,6 @@ use Rattle.fl_packed.proofs.packing.pack_blocks.Given as goal
 -- the blocks so far
 abbrev pub invariant-loop-j : goal.invariant-loop-j
 invariant-loop-j g l = record {
-  each : (k : ℕ) → k < l.j → Packed g.T.Physical.FastLanes.T g.T.Physical.FastLanes.LANES ((blocks_of l.widths).width k) (λ q. pattern_in g.T.NativePType.PTYPE (map g.T.Number.value l.items) (1024 * k + q)) (word_at g.T.Physical.FastLanes.T (bytes_of_block (blocks_of l.widths) l.bytes k));
+  long : length l.bytes.items ≡ (blocks_of l.widths).start l.j;
+  each : (k : ℕ) → k < l.j → Packed g.T.Physical.FastLanes.T g.T.Physical.FastLanes.LANES ((blocks_of l.widths).width k) (λ q. pattern_in g.T.NativePType.PTYPE (map g.T.Number.value l.items) (1024 * k + q)) (word_at g.T.Physical.FastLanes.T (bytes_of_block (blocks_of l.widths) l.bytes.items k));
 }
