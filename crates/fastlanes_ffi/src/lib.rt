@@ -1,4 +1,4 @@
-//! Exports for comparisons of speed: each kernel over any number of whole blocks. What is too short is left undone.
+//! Exports for comparisons of speed: each kernel over any number of whole blocks, and whole packed columns. What is too short is left undone.
 #![tactic(auto)]
 
 mod blocks;
