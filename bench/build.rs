@@ -6,7 +6,7 @@ use std::{env, fs, process::Command};
 
 const TYPES: [&str; 4] = ["u8", "u16", "u32", "u64"];
 // kernel, the arguments (T is the word type), the result
-const KERNELS: [(&str, &str, &str); 15] = [
+const KERNELS: [(&str, &str, &str); 16] = [
     ("pack", "usize, *const T, usize, *mut T, usize", ""),
     ("unpack", "usize, *const T, usize, *mut T, usize", ""),
     ("unfor_pack", "usize, *const T, usize, T, *mut T, usize", ""),
@@ -20,6 +20,7 @@ const KERNELS: [(&str, &str, &str); 15] = [
     ("undelta", "*const T, usize, *const T, usize, *mut T, usize", ""),
     ("rle_decode", "*const T, usize, *const u16, usize, *mut T, usize", ""),
     ("pack_column", "usize, u8, *const T, usize, *mut u8, usize", "usize"),
+    ("pack_into", "usize, u8, *const T, usize, *mut u8, usize", "usize"),
     ("unpack_column", "usize, u8, usize, *const u8, usize, *mut T, usize", "usize"),
     ("decode_column", "u8, *const u8, usize, *mut T, usize", "usize"),
 ];

@@ -1,14 +1,14 @@
-//! Whole columns beside the kernels that they stand on and beside `memcpy`: packing into new bytes, unpacking into a
-//! new array, and decoding into items that are there. A column in cache has 64 KB of decoded items; a long one as many
-//! megabytes as are asked for.
+//! Whole columns beside the kernels that they stand on and beside `memcpy`: packing into new bytes and into bytes that
+//! are there, unpacking into a new array, and decoding into items that are there. A column in cache has 64 KB of
+//! decoded items; a long one as many megabytes as are asked for.
 use crate::port;
 use crate::{random, race, Case};
 use baseline::kernels::*;
 use std::hint::black_box;
 use std::time::Instant;
 
-/// The ratios of one call at one type and place, a width each: to the kernels, to `memcpy`, and to `memcpy` into new
-/// memory.
+/// The ratios of one call at one type and place, a width each: to the kernels, to `memcpy`, and to `memcpy` into a
+/// new list.
 struct Ratios { name: String, rows: Vec<(usize, f64, f64, f64)> }
 
 fn mean(rows: &[(usize, f64, f64, f64)], by: impl Fn(&(usize, f64, f64, f64)) -> f64) -> f64 {
@@ -41,7 +41,7 @@ macro_rules! columns_of {
         let noise = random(4096);
         let source: Vec<W> = (0..n).map(|i| noise[(i * 7 + i / 4096) % 4096] as W).collect();
         let source = &source[..];
-        let (mut pack_rows, mut unpack_rows, mut decode_rows) = (Vec::new(), Vec::new(), Vec::new());
+        let (mut pack_rows, mut into_rows, mut unpack_rows, mut decode_rows) = (Vec::new(), Vec::new(), Vec::new(), Vec::new());
         let widths: Vec<usize> = $widths(T);
         for w in widths {
             let size = w * LANES;
@@ -55,6 +55,9 @@ macro_rules! columns_of {
             let mut bytes_out = vec![1u8; raw.len()];
             assert_eq!(unsafe { port::$t::PACK_COLUMN_ALL[0].1(1, w as u8, source.as_ptr(), n, bytes_out.as_mut_ptr(), bytes_out.len()) }, raw.len());
             assert!(bytes_out == raw, "pack_column u{} width {w} differs", T);
+            bytes_out.fill(1);
+            assert_eq!(unsafe { port::$t::PACK_INTO_ALL[0].1(1, w as u8, source.as_ptr(), n, bytes_out.as_mut_ptr(), bytes_out.len()) }, raw.len());
+            assert!(bytes_out == raw, "pack_into u{} width {w} differs", T);
             assert_eq!(unsafe { port::$t::UNPACK_COLUMN_ALL[0].1(1, w as u8, n, raw.as_ptr(), raw.len(), d1.as_mut_ptr(), n) }, n);
             assert!(d1 == low, "unpack_column u{} width {w} differs", T);
             assert_eq!(unsafe { port::$t::DECODE_COLUMN_ALL[0].1(w as u8, raw.as_ptr(), raw.len(), d2.as_mut_ptr(), n) }, n);
@@ -72,12 +75,14 @@ macro_rules! columns_of {
                 (cases[0].best, cases[1].best, cases[2].best, cases[3].best, cases[4].best)
             };
             let pack = best_round(&mut |k| { let s = black_box(source); unsafe { port::$t::PACK_COLUMN_ALL[0].1(k, black_box(w as u8), s.as_ptr(), s.len(), 8 as *mut u8, 0) }; }, rounds, tries);
+            let into = best_round(&mut |k| { let (s, b) = (black_box(source), black_box(&mut bytes_out[..])); unsafe { port::$t::PACK_INTO_ALL[0].1(k, black_box(w as u8), s.as_ptr(), s.len(), b.as_mut_ptr(), b.len()) }; }, rounds, tries);
             let unpack = best_round(&mut |k| { let p = black_box(raw); unsafe { port::$t::UNPACK_COLUMN_ALL[0].1(k, black_box(w as u8), n, p.as_ptr(), p.len(), 8 as *mut W, 0) }; }, rounds, tries);
             pack_rows.push((w, kernel_pack / pack, memcpy / pack, fresh / pack));
+            into_rows.push((w, kernel_pack / into, memcpy / into, fresh / into));
             unpack_rows.push((w, kernel_unpack / unpack, memcpy / unpack, fresh / unpack));
             decode_rows.push((w, kernel_unpack / decode, memcpy / decode, fresh / decode));
         }
-        for (call, rows) in [("bitpack_unchecked", pack_rows), ("unpack_even", unpack_rows), ("decode_into", decode_rows)] {
+        for (call, rows) in [("bitpack_unchecked", pack_rows), ("bitpack_into", into_rows), ("unpack_even", unpack_rows), ("decode_into", decode_rows)] {
             $out.push(Ratios { name: format!("{call} | u{} | {}", T, $place), rows });
         }
     }};
@@ -100,9 +105,10 @@ pub fn run(types: &str, megabytes: usize, all_widths: bool) {
             }
         }
     }
-    println!("\n| call | type | column | to the kernels (geometric mean) | least | to memcpy | to memcpy into new memory |\n|---|---|---|---|---|---|---|");
+    println!("\n| call | type | column | to the kernels (geometric mean) | from width 1 on | least | to memcpy | to memcpy into a new list |\n|---|---|---|---|---|---|---|---|");
     for it in &out {
         let least = it.rows.iter().min_by(|a, b| a.1.total_cmp(&b.1)).unwrap();
-        println!("| {} | {:.2} | {:.2} at width {} | {:.2} | {:.2} |", it.name, mean(&it.rows, |r| r.1), least.1, least.0, mean(&it.rows, |r| r.2), mean(&it.rows, |r| r.3));
+        let above: Vec<_> = it.rows.iter().copied().filter(|r| r.0 > 0).collect();
+        println!("| {} | {:.2} | {:.2} | {:.2} at width {} | {:.2} | {:.2} |", it.name, mean(&it.rows, |r| r.1), mean(&above, |r| r.1), least.1, least.0, mean(&it.rows, |r| r.2), mean(&it.rows, |r| r.3));
     }
 }

@@ -5,6 +5,7 @@ pub mod Blocks
 pub mod Bijection
 pub mod Streams
 pub mod WordBytes
+pub mod WholeWords
 pub mod Wraps
 pub mod Unique
 pub mod Vectors
@@ -21,4 +22,5 @@ pub mod Wholes
 pub mod DeltaRows
 pub mod Changes
 pub mod SingleItems
+pub mod Separated
 pub mod Turns

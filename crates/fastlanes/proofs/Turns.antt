@@ -1,17 +1,15 @@
 -- Bits in the order of the lanes and in that of the items.
-use Rattle.std.proofs.Common.{◌≡◌, ℕ, zero, suc, ◌+◌, ◌-◌, ◌*◌, ◌/◌, ◌%◌, ◌^◌, ◌<◌, ◌≤◌, ◌∙◌, ap, sym, arith, refl, List, length, map, replicate, get_or, Bool, true, false, not, cond, bit_and, lit≤, w8}
+use Rattle.std.proofs.Common.{◌≡◌, ℕ, zero, suc, ◌+◌, ◌-◌, ◌*◌, ◌/◌, ◌%◌, ◌^◌, ◌<◌, ◌≤◌, ◌∙◌, ap, sym, arith, refl, List, length, map, replicate, get_or, Bool, true, false, cond, leb, lit≤, w8, inl, inr, set, length-set, get_or-set_same, get_or-set_other}
 use Rattle.std.specs.Prelude.{slice_index, nat_eq}
-use Rattle.std.specs.Int.{bit_at}
 use Rattle.std.specs.Simd.Lanes.{chunk, zip2, mask_l, top}
-use Rattle.std.proofs.lemmas.Simd.{get_or-chunk, length-chunk, get_or-zip2, length-zip2, get_or-replicate, length-replicate, bit_mask_l, bitmask_splat}
-use Rattle.std.proofs.lemmas.List.{get_or-map}
-use Rattle.std.proofs.lemmas.Nat.Bits.{and_pow, bit_at-lt}
-use Rattle.std.proofs.lemmas.Nat.{pow_pos, pow_below}
-use Rattle.std.proofs.Math.Nat.{mod-eq_of_lt}
-use Rattle.std.proofs.Math.Dec.{eqb-suc-zero}
+use Rattle.std.proofs.lemmas.Simd.{get_or-chunk, length-chunk, get_or-zip2, length-zip2, get_or-replicate, length-replicate, bit_mask_l, mask_l-mod, tops_compared}
+use Rattle.std.proofs.lemmas.Nat.{pow-add}
+use Rattle.std.proofs.lemmas.Bool.{cases_lt, cases_eq}
+use Rattle.std.proofs.lemmas.Bool.Decides.{nat_tests}
+use Rattle.std.proofs.Math.Nat.{mul_assoc}
 use Rattle.fastlanes.specs.Layout.{place, row_of, lane_of, word_at, IsWordWidth, bits_8, bits_16, bits_32, bits_64}
 use Rattle.fastlanes.specs.Compared.{is_set, has_bit}
-use Rattle.fastlanes.proofs.Bijection.{place_read, position_placed}
+use Rattle.fastlanes.proofs.Bijection.{place_read}
 use Rattle.fastlanes.proofs.ByteBits.{word_bit}
 
 -- bit i of these words is a bit of their bytes
@@ -25,63 +23,100 @@ byte_bit bytes words i small same h =
     let whole : i / 64 * 64 + i % 64 ≡ i = omega arith in
     rw (sym (same (i / 64) k)) (ap (λ (n : ℕ). nat_eq n 1) (rw whole at here))
 
--- ---- the sixteen places of one eighth of the rows
-same_lanes : (T lanes o a : ℕ) → IsWordWidth T lanes → o < 8 → a < 16 → (lane_of lanes (16 * o + a) ≡ 16 * o % lanes + a) × ((16 * o + a) / 128 ≡ 16 * o / 128) × ((16 * o + a) % 128 / lanes ≡ 16 * o % 128 / lanes)
-same_lanes _ _ o a bits_8 p h = (omega arith, omega arith, omega arith)
-same_lanes _ _ o a bits_16 p h = (omega arith, omega arith, omega arith)
-same_lanes _ _ o a bits_32 p h = (omega arith, omega arith, omega arith)
-same_lanes _ _ o a bits_64 p h = (omega arith, omega arith, omega arith)
-
-pub sixteen_lanes : (T lanes o a : ℕ) → IsWordWidth T lanes → o < 8 → a < 16 → lane_of lanes (16 * o + a) ≡ 16 * o % lanes + a
-sixteen_lanes T lanes o a shape p h = (same_lanes T lanes o a shape p h).0
-
-pub sixteen_rows : (T lanes o a : ℕ) → IsWordWidth T lanes → o < 8 → a < 16 → row_of lanes (16 * o + a) ≡ row_of lanes (16 * o)
-unfolding row_of
-sixteen_rows T lanes o a shape p h = let there = same_lanes T lanes o a shape p h in rw (there.1, there.2) refl
-
--- ---- bit i of each byte
-positive : (m : ℕ) → 0 < m → not (nat_eq m 0) ≡ true
-positive zero q = absurd (omega arith)
-positive (suc m) q = rw (eqb-suc-zero m) refl
-
-is_one : (n m : ℕ) → n < 2 → 0 < m → not (nat_eq (n * m) 0) ≡ nat_eq n 1
-is_one zero m p q = let z : 0 * m ≡ 0 = omega arith in rw z refl
-is_one (suc zero) m p q = let z : 1 * m ≡ m = omega arith in rw z (positive m q)
-is_one (suc (suc n)) m p q = absurd (omega arith)
-
-pub test_bit : (b i mask : ℕ) → mask ≡ 2 ^ i → not (nat_eq (bit_and b mask) 0) ≡ is_set b i
-unfolding is_set
-test_bit b i mask e = rw (e, and_pow b i) (is_one (bit_at b i) (2 ^ i) (bit_at-lt b i) (pow_pos i))
-
-pub shifted_one : (i : ℕ) → i < 8 → 1 * 2 ^ i % 2 ^ 8 ≡ 2 ^ i
-shifted_one i h =
-    let less : 2 ^ i < 2 ^ 8 = pow_below i 8 h in
-    let same : 1 * 2 ^ i ≡ 2 ^ i = omega arith in
-    rw same (mod-eq_of_lt less)
-
+-- ---- the top bit of each byte
 value_of : (on : Bool) → nat_eq (cond on 1 0) 1 ≡ on
 value_of true = refl
 value_of false = refl
 
--- which of 64 bytes have a bit of the mask
-pub any_bits : (xs : List ℕ) (at mask m : ℕ) → m < 64 → at + 64 ≤ length xs
-    → is_set (mask_l (map (top 7) (zip2 (λ (a b : ℕ). cond (not (nat_eq a b)) (2 ^ 8 - 1) 0) (zip2 bit_and (chunk at 64 xs) (replicate 64 mask)) (replicate 64 0))) % 2 ^ 64) m
-    ≡ not (nat_eq (bit_and (slice_index xs (at + m)) mask) 0)
+pub top_bit : (xs : List ℕ) (m : ℕ) → length xs ≡ 64 → m < 64
+    → is_set (mask_l (map (top 7) (zip2 (λ (a b : ℕ). cond (leb a b) (2 ^ 8 - 1) 0) (replicate 64 128) xs)) % 2 ^ 64) m ≡ leb 128 (slice_index xs m)
 unfolding is_set
-any_bits xs at mask m h room =
-    let long : length (chunk at 64 xs) ≡ 64 = length-chunk at 64 xs room in
-    let whole : length (zip2 bit_and (chunk at 64 xs) (replicate 64 mask)) ≡ 64 = length-zip2 bit_and (chunk at 64 xs) (replicate 64 mask) (long ∙ sym (length-replicate 64 mask)) ∙ long in
-    let one : get_or (zip2 bit_and (chunk at 64 xs) (replicate 64 mask)) m 0 ≡ bit_and (get_or (chunk at 64 xs) m 0) (get_or (replicate 64 mask) m 0) =
-    get_or-zip2 bit_and (chunk at 64 xs) (replicate 64 mask) m 0 0 0 (rw long h) (rw (length-replicate 64 mask) h) in
+top_bit xs m long h =
+    let one : get_or (zip2 leb (replicate 64 128) xs) m false ≡ leb (get_or (replicate 64 128) m 0) (get_or xs m 0) =
+    get_or-zip2 leb (replicate 64 128) xs m 0 0 false (rw (length-replicate {A = ℕ} 64 128) h) (rw long h) in
+    let whole : length (zip2 leb (replicate 64 128) xs) ≡ 64 = length-zip2 leb (replicate 64 128) xs (length-replicate {A = ℕ} 64 128 ∙ sym long) ∙ length-replicate {A = ℕ} 64 128 in
     rw (
-      bitmask_splat w8 (λ (a b : ℕ). not (nat_eq a b)) (zip2 bit_and (chunk at 64 xs) (replicate 64 mask)) 64 0 whole (lit≤ tt),
-      bit_mask_l (map (λ x. not (nat_eq x 0)) (zip2 bit_and (chunk at 64 xs) (replicate 64 mask))) m,
-      get_or-map (λ (x : ℕ). not (nat_eq x 0)) (zip2 bit_and (chunk at 64 xs) (replicate 64 mask)) m 0 false (rw whole h),
+      tops_compared w8 leb (replicate 64 128) xs,
+      mask_l-mod (zip2 leb (replicate 64 128) xs) 64 (rw whole (lit≤ tt)),
+      bit_mask_l (zip2 leb (replicate 64 128) xs) m,
       one,
-      get_or-chunk at 64 xs m 0 h,
-      get_or-replicate 64 m mask 0 h,
+      get_or-replicate {A = ℕ} 64 m 128 0 h,
     )
     (value_of _)
+
+-- a vector of the 64 bytes from at on, each doubled s times
+pub record Doubled (bytes : List ℕ) (at s : ℕ) (lanes : List ℕ) : Type 0 where
+  pub whole : length lanes ≡ 64
+  pub each : (m : ℕ) → m < 64 → slice_index lanes m ≡ slice_index bytes (at + m) * 2 ^ s % 256
+
+pub doubled_none : (bytes : List ℕ) (at : ℕ) → at + 64 ≤ length bytes → ((k : ℕ) → slice_index bytes k < 256) → Doubled bytes at 0 (chunk at 64 bytes)
+doubled_none bytes at room small = record {
+  whole = length-chunk at 64 bytes room;
+  each = λ m h.
+      let less = small (at + m) in
+      let same : slice_index bytes (at + m) * 1 % 256 ≡ slice_index bytes (at + m) = omega arith in
+      get_or-chunk at 64 bytes m 0 h ∙ sym same;
+}
+
+twice : (b s : ℕ) → (b * 2 ^ s % 256 + b * 2 ^ s % 256) % 256 ≡ b * 2 ^ (s + 1) % 256
+twice b s =
+    let next : 2 ^ (s + 1) ≡ 2 ^ s * 2 = pow-add 2 s 1 in
+    let whole : b * (2 ^ s * 2) ≡ b * 2 ^ s * 2 = sym (mul_assoc b (2 ^ s) 2) in
+    rw (next, whole) (omega arith)
+
+pub doubled_more : (bytes lanes : List ℕ) (at s : ℕ) → Doubled bytes at s lanes → Doubled bytes at (s + 1) (zip2 (λ (a b : ℕ). (a + b) % 2 ^ 8) lanes lanes)
+doubled_more bytes lanes at s d = record {
+  whole = length-zip2 (λ (a b : ℕ). (a + b) % 2 ^ 8) lanes lanes refl ∙ d.whole;
+  each = λ m h.
+      get_or-zip2 (λ (a b : ℕ). (a + b) % 2 ^ 8) lanes lanes m 0 0 0 (rw d.whole h) (rw d.whole h)
+      ∙ (ap (λ (n : ℕ). (n + n) % 256) (d.each m h) ∙ twice (slice_index bytes (at + m)) s);
+}
+
+-- the top bit, after s doublings, is bit 7 - s
+high_bit : (r n : ℕ) → (128 ≤ r → n ≡ 1) → (r < 128 → n ≡ 0) → leb 128 r ≡ nat_eq n 1
+high_bit r n p q = elim (cases_lt r 128) [
+  | inl low ↦ rw (q low) (grind (arith, nat_tests))
+  | inr high ↦ rw (p high) (grind (arith, nat_tests))
+]
+
+top_after : (b s : ℕ) → s < 8 → leb 128 (b * 2 ^ s % 256) ≡ is_set b (7 - s)
+unfolding is_set
+top_after b zero h = high_bit _ _ (omega arith) (omega arith)
+top_after b (suc zero) h = high_bit _ _ (omega arith) (omega arith)
+top_after b (suc (suc zero)) h = high_bit _ _ (omega arith) (omega arith)
+top_after b (suc (suc (suc zero))) h = high_bit _ _ (omega arith) (omega arith)
+top_after b (suc (suc (suc (suc zero)))) h = high_bit _ _ (omega arith) (omega arith)
+top_after b (suc (suc (suc (suc (suc zero))))) h = high_bit _ _ (omega arith) (omega arith)
+top_after b (suc (suc (suc (suc (suc (suc zero)))))) h = high_bit _ _ (omega arith) (omega arith)
+top_after b (suc (suc (suc (suc (suc (suc (suc zero))))))) h = high_bit _ _ (omega arith) (omega arith)
+top_after b (suc (suc (suc (suc (suc (suc (suc (suc s)))))))) h = absurd (omega arith)
+
+pub doubled_top : (bytes lanes : List ℕ) (at s m : ℕ) → Doubled bytes at s lanes → s < 8 → m < 64 → leb 128 (slice_index lanes m) ≡ is_set (slice_index bytes (at + m)) (7 - s)
+doubled_top bytes lanes at s m d h p = ap (leb 128) (d.each m p) ∙ top_after (slice_index bytes (at + m)) s h
+
+-- the step of the loop that writes the words of bit 7 - s, from which on those above stand
+pub words_more : (bytes output : List ℕ) (s low high j m : ℕ) → s < 8 → length output ≡ 16 → j < 16 → 16 ≤ j + 2 * (s + 1) → m < 64
+    → is_set low m ≡ is_set (slice_index bytes (0 + m)) (7 - s)
+    → is_set high m ≡ is_set (slice_index bytes (64 + m)) (7 - s)
+    → (16 ≤ j + 2 * s → is_set (slice_index output j) m ≡ is_set (slice_index bytes (64 * (j % 2) + m)) (j / 2))
+    → is_set (slice_index (set (set output (2 * (7 - s)) low) (2 * (7 - s) + 1) high) j) m ≡ is_set (slice_index bytes (64 * (j % 2) + m)) (j / 2)
+words_more bytes output s low high j m h long p q r first second done =
+    let one = set output (2 * (7 - s)) low in
+    let whole : length one ≡ 16 = rw length-set long in
+    elim (cases_eq j (2 * (7 - s) + 1)) [
+      | inl odd ↦
+          let place : 64 * (j % 2) + m ≡ 64 + m = omega arith in
+          let bit : j / 2 ≡ 7 - s = omega arith in
+          rw (place, bit, odd, get_or-set_same one (2 * (7 - s) + 1) high 0 (omega arith)) second
+      | inr other ↦ rw (get_or-set_other one (2 * (7 - s) + 1) j high 0 other)
+          (elim (cases_eq j (2 * (7 - s))) [
+            | inl even ↦
+                let place : 64 * (j % 2) + m ≡ 0 + m = omega arith in
+                let bit : j / 2 ≡ 7 - s = omega arith in
+                rw (place, bit, even, get_or-set_same output (2 * (7 - s)) low 0 (omega arith)) first
+            | inr old ↦ rw (get_or-set_other output (2 * (7 - s)) j low 0 old) (done (omega arith))
+          ])
+    ]
 
 -- ---- the places of the rows of an eighth
 pub eighth_place : (r l : ℕ) → place r l ≡ 128 * (r % 8) + place (8 * (r / 8)) l
@@ -131,20 +166,3 @@ turned_bit T lanes input output source bytes r l shape p q turned gathered read 
     let two = rw (named.0, named.1, eighth) at (gathered (place (8 * (r / 8)) l) first.0) in
     let three = rw (within.1, within.2) at (read (l * T + r) within.0) in
     one ∙ (ap (λ (n : ℕ). is_set n (r % 8)) two ∙ sym three)
-
-pub eighth_room : (T lanes o a : ℕ) → IsWordWidth T lanes → o < 8 → a < 16 → (16 * o % lanes + a) * (T / 8) + row_of lanes (16 * o) / 8 < 128
-eighth_room T lanes o a shape p h =
-    let placed = position_placed T lanes (16 * o) shape (omega arith) in
-    room T lanes (16 * o % lanes + a) (row_of lanes (16 * o)) shape (lane_fits T lanes o a shape p h) placed.1
-  where
-    lane_fits : (T lanes o a : ℕ) → IsWordWidth T lanes → o < 8 → a < 16 → 16 * o % lanes + a < lanes
-    lane_fits _ _ o a bits_8 p h = omega arith
-    lane_fits _ _ o a bits_16 p h = omega arith
-    lane_fits _ _ o a bits_32 p h = omega arith
-    lane_fits _ _ o a bits_64 p h = omega arith
-
-    room : (T lanes l r : ℕ) → IsWordWidth T lanes → l < lanes → r < T → l * (T / 8) + r / 8 < 128
-    room _ _ l r bits_8 p h = omega arith
-    room _ _ l r bits_16 p h = omega arith
-    room _ _ l r bits_32 p h = omega arith
-    room _ _ l r bits_64 p h = omega arith

@@ -186,6 +186,17 @@ fn pack_group<W: FastLanes, S: Storage<W>, const WIDTH: usize>(
     }
 }
 
+/// Copies the items of a block into as many words.
+#[inline(always)]
+fn copy_items<W: FastLanes, S: Storage<W>>(items: &[W; FL_CHUNK_SIZE], packed: &mut [S::Unit])
+    requires { S.count (length packed.old) ≡ 1024 }
+    ensures { (i : ℕ) → i < 1024 → S.word packed.new i ≡ pattern_at W.pattern items.now i }
+{
+    for m in 0..64usize {
+        S::store(W::load(items, 16 * m), packed, 16 * m);
+    }
+}
+
 /// Packs the low `WIDTH` bits of the items of a block.
 fn pack_groups<W: FastLanes, S: Storage<W>, const WIDTH: usize>(
     items: &[W; FL_CHUNK_SIZE],
@@ -196,6 +207,10 @@ fn pack_groups<W: FastLanes, S: Storage<W>, const WIDTH: usize>(
     ensures { Packed W.T W.LANES WIDTH (pattern_at W.pattern items.now) (S.word packed.new) }
 {
     if WIDTH == 0 {
+        return;
+    }
+    if WIDTH == 8 && bits::<W>() == 8 {
+        copy_items::<W, S>(items, packed);
         return;
     }
     for g in 0..lanes::<W>() / 16 {

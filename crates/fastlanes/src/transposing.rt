@@ -28,15 +28,54 @@ fn stored_of_eight<W: FastLanes>(stored: &[W; FL_CHUNK_SIZE], h: usize, c: usize
     stored[pos(8 * (h % 8) + c, h / 8)]
 }
 
+/// Writes the sixteen stored words from `16 * g` on, where those below are written.
+#[inline(always)]
+fn store_sixteen<W: FastLanes>(
+    items: &[W; FL_CHUNK_SIZE],
+    g: usize,
+    stored: &mut [W; FL_CHUNK_SIZE],
+)
+    requires group { g < 64 }
+    requires below { (i : ℕ) → i < 16 * g → pattern_at W.pattern stored.old i ≡ pattern_at W.pattern items.now (moved_from i) }
+    ensures done { (i : ℕ) → i < 16 * g + 16 → pattern_at W.pattern stored.new i ≡ pattern_at W.pattern items.now (moved_from i) }
+    ensures whole { length stored.new ≡ 1024 }
+{
+    for a in 0..16usize {
+        stored[16 * g + a] = item_of_sixteen(items, g, a);
+    }
+}
+
 /// Moves item `seg(l) + r` to `pos(r, l)`.
 pub fn transpose<W: FastLanes>(items: &[W; FL_CHUNK_SIZE], stored: &mut [W; FL_CHUNK_SIZE])
     ensures moved { Transposed W.T W.LANES (pattern_at W.pattern items.now) (pattern_at W.pattern stored.new) }
     ensures whole { length stored.new ≡ 1024 }
 {
-    for g in 0..64usize {
-        for a in 0..16usize {
-            stored[16 * g + a] = item_of_sixteen(items, g, a);
-        }
+    for k in 0..8usize {
+        store_sixteen(items, 8 * k, stored);
+        store_sixteen(items, 8 * k + 1, stored);
+        store_sixteen(items, 8 * k + 2, stored);
+        store_sixteen(items, 8 * k + 3, stored);
+        store_sixteen(items, 8 * k + 4, stored);
+        store_sixteen(items, 8 * k + 5, stored);
+        store_sixteen(items, 8 * k + 6, stored);
+        store_sixteen(items, 8 * k + 7, stored);
+    }
+}
+
+/// Writes the eight items from item `8 * h` on, where the items below are written.
+#[inline(always)]
+fn restore_eight<W: FastLanes>(
+    stored: &[W; FL_CHUNK_SIZE],
+    h: usize,
+    items: &mut [W; FL_CHUNK_SIZE],
+)
+    requires group { h < 128 }
+    requires below { (i : ℕ) → i < 8 * h → pattern_at W.pattern items.old i ≡ pattern_at W.pattern stored.now (moved_to i) }
+    ensures done { (i : ℕ) → i < 8 * h + 8 → pattern_at W.pattern items.new i ≡ pattern_at W.pattern stored.now (moved_to i) }
+    ensures whole { length items.new ≡ 1024 }
+{
+    for c in 0..8usize {
+        items[8 * h + c] = stored_of_eight(stored, h, c);
     }
 }
 
@@ -45,9 +84,14 @@ pub fn untranspose<W: FastLanes>(stored: &[W; FL_CHUNK_SIZE], items: &mut [W; FL
     ensures moved { Transposed W.T W.LANES (pattern_at W.pattern items.new) (pattern_at W.pattern stored.now) }
     ensures whole { length items.new ≡ 1024 }
 {
-    for h in 0..128usize {
-        for c in 0..8usize {
-            items[8 * h + c] = stored_of_eight(stored, h, c);
-        }
+    for l in 0..16usize {
+        restore_eight(stored, 8 * l, items);
+        restore_eight(stored, 8 * l + 1, items);
+        restore_eight(stored, 8 * l + 2, items);
+        restore_eight(stored, 8 * l + 3, items);
+        restore_eight(stored, 8 * l + 4, items);
+        restore_eight(stored, 8 * l + 5, items);
+        restore_eight(stored, 8 * l + 6, items);
+        restore_eight(stored, 8 * l + 7, items);
     }
 }

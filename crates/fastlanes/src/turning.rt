@@ -1,15 +1,15 @@
 //! Bits in the order of the lanes, brought into the order of the items.
 #![tactic(auto)]
 
-ghost use Rattle.std.specs.Prelude.{◌≡◌, ℕ, ◌+◌, ◌*◌, ◌/◌, ◌%◌, ◌<◌, ◌≤◌, length, slice_index, bit_and, nat_eq, not};
-ghost use Rattle.fastlanes.specs.Layout.{place, row_of, lane_of, word_at};
+ghost use Rattle.std.specs.Prelude.{◌≡◌, ℕ, ◌+◌, ◌*◌, ◌/◌, ◌%◌, ◌<◌, ◌≤◌, ◌⊎◌, nat_le, length, slice_index};
+ghost use Rattle.fastlanes.specs.Layout.{place, row_of, lane_of};
 ghost use Rattle.fastlanes.specs.Compared.{is_set, has_bit};
+ghost use Rattle.fastlanes.specs.Separated.{separated};
 
 use crate::comparing::bytes_fit;
-use crate::layout::row;
-use crate::widths::{bits, lanes};
+use crate::widths::bits;
 use crate::words::FastLanes;
-use std::simd::u8x64;
+use std::simd::{u8x16, u8x64};
 
 /// The words as bytes, the low byte first.
 fn bytes_of_words(words: &[u64; 16], bytes: &mut [u8; 128])
@@ -22,49 +22,89 @@ fn bytes_of_words(words: &[u64; 16], bytes: &mut [u8; 128])
     bytes_fit(bytes);
 }
 
-/// The lane, and the eighth of its rows, of the sixteen places from `16 * o` on among the first 128.
+/// The even ones of the 32 bytes from `from` on, and the odd ones.
 #[inline(always)]
-fn eighth_of_lanes<W: FastLanes>(o: usize) -> (usize, usize)
-    requires { o < 8 }
-    ensures lane { (a : ℕ) → a < 16 → lane_of W.LANES (16 * o + a) ≡ result.0 + a }
-    ensures eighth { (a : ℕ) → a < 16 → row_of W.LANES (16 * o + a) / 8 ≡ result.1 }
-    ensures room { (a : ℕ) → a < 16 → (result.0 + a) * (W.T / 8) + result.1 < 128 }
+fn evens_and_odds(source: &[u8], from: usize) -> (u8x16, u8x16)
+    requires { from + 32 ≤ length source.now }
+    ensures evens { (j : ℕ) → j < 16 → slice_index result.0 j ≡ slice_index source.now (from + 2 * j) }
+    ensures odds { (j : ℕ) → j < 16 → slice_index result.1 j ≡ slice_index source.now (from + 2 * j + 1) }
+    ensures whole_evens { length result.0 ≡ 16 }
+    ensures whole_odds { length result.1 ≡ 16 }
 {
-    (16 * o % W::LANES, row(16 * o, W::LANES) / 8)
+    let first = u8x16::from_slice(&source[from..]);
+    let second = u8x16::from_slice(&source[from + 16..]);
+    first.deinterleave(second)
 }
 
-/// Puts the byte of eight rows of a lane at the place of the first of them.
-fn gather_bytes<W: FastLanes>(source: &[u8; 128], bytes: &mut [u8; 128])
-    ensures moved { (m : ℕ) → m < 128 → slice_index bytes.new m ≡ slice_index source.now (lane_of W.LANES m * (W.T / 8) + row_of W.LANES m / 8) }
-    ensures whole { length bytes.new ≡ 128 }
+/// Puts the even ones of the 32 bytes from `from` on at `even`, and the odd ones at `odd`.
+#[inline(always)]
+fn separate_bytes(source: &[u8], from: usize, bytes: &mut [u8], even: usize, odd: usize)
+    requires from { from + 32 ≤ length source.now }
+    requires apart { even + 16 ≤ odd }
+    requires room { odd + 16 ≤ length bytes.old }
+    ensures evens { (j : ℕ) → j < 16 → slice_index bytes.new (even + j) ≡ slice_index source.now (from + 2 * j) }
+    ensures odds { (j : ℕ) → j < 16 → slice_index bytes.new (odd + j) ≡ slice_index source.now (from + 2 * j + 1) }
+    ensures others { (i : ℕ) → (i < even) ⊎ (even + 16 ≤ i) → (i < odd) ⊎ (odd + 16 ≤ i) → slice_index bytes.new i ≡ slice_index bytes.old i }
+    ensures whole { length bytes.new ≡ length bytes.old }
 {
-    let size = bits::<W>() / 8;
-    for o in 0..8usize {
-        let (l, q) = eighth_of_lanes::<W>(o);
-        for a in 0..16usize {
-            bytes[16 * o + a] = source[(l + a) * size + q];
-        }
+    let (evens, odds) = evens_and_odds(source, from);
+    evens.copy_to_slice(&mut bytes[even..]);
+    odds.copy_to_slice(&mut bytes[odd..]);
+}
+
+/// The bytes with the even ones of each part of `size` bytes before its odd ones.
+#[inline(always)]
+fn separate(source: &[u8; 128], size: usize) -> [u8; 128]
+    requires { size ≡ 128 ⊎ size ≡ 64 ⊎ size ≡ 32 }
+    ensures moved { (n : ℕ) → n < 128 → slice_index result (separated size n) ≡ slice_index source.now n }
+    ensures whole { length result ≡ 128 }
+{
+    let mut bytes = [0; 128];
+    for k in 0..4usize {
+        let even = 32 * k / size * size + 32 * k % size / 2;
+        separate_bytes(source, 32 * k, &mut bytes, even, even + size / 2);
+    }
+    bytes
+}
+
+/// The byte of eight rows of a lane, at the place of the first of them.
+#[inline(always)]
+fn gather_bytes<W: FastLanes>(source: &[u8; 128]) -> [u8; 128]
+    ensures moved { (m : ℕ) → m < 128 → slice_index result m ≡ slice_index source.now (lane_of W.LANES m * (W.T / 8) + row_of W.LANES m / 8) }
+    ensures whole { length result ≡ 128 }
+{
+    match bits::<W>() {
+        8 => *source,
+        16 => separate(source, 128),
+        32 => separate(&separate(source, 128), 64),
+        _ => separate(&separate(&separate(source, 128), 64), 32),
     }
 }
 
-/// Which of the 64 bytes from `at` on have a bit of the mask, the first in the lowest bit.
+/// The top bits of 64 bytes, that of the first in the lowest bit.
 #[inline(always)]
-fn bytes_with(bytes: &[u8], at: usize, mask: u8) -> u64
-    requires { at + 64 ≤ length bytes.now }
-    ensures { (m : ℕ) → m < 64 → is_set result m ≡ not (nat_eq (bit_and (slice_index bytes.now (at + m)) mask) 0) }
+fn top_bits(vector: u8x64) -> u64
+    requires { length vector ≡ 64 }
+    ensures { (m : ℕ) → m < 64 → is_set result m ≡ nat_le 128 (slice_index vector m) }
 {
-    let those = u8x64::from_slice(&bytes[at..]) & u8x64::splat(mask);
-    those.simd_ne(u8x64::splat(0)).to_bitmask()
+    vector.simd_ge(u8x64::splat(128)).to_bitmask()
 }
 
-/// Bit `i` of each of the 64 bytes from `at` on.
+/// Writes each bit of the bytes: two words for bit 0, then two for bit 1, and so on.
 #[inline(always)]
-fn bit_of_each(bytes: &[u8; 128], at: usize, i: usize) -> u64
-    requires room { at + 64 ≤ 128 }
-    requires bit { i < 8 }
-    ensures { (m : ℕ) → m < 64 → is_set result m ≡ is_set (slice_index bytes.now (at + m)) i }
+fn put_bits(bytes: &[u8], output: &mut [u64; 16])
+    requires { length bytes.now ≡ 128 }
+    ensures bits { (j m : ℕ) → j < 16 → m < 64 → is_set (slice_index output.new j) m ≡ is_set (slice_index bytes.now (64 * (j % 2) + m)) (j / 2) }
+    ensures whole { length output.new ≡ 16 }
 {
-    bytes_with(bytes, at, 1 << i)
+    let mut low = u8x64::from_slice(&bytes[0..]);
+    let mut high = u8x64::from_slice(&bytes[64..]);
+    for s in 0..8usize {
+        output[2 * (7 - s)] = top_bits(low);
+        output[2 * (7 - s) + 1] = top_bits(high);
+        low = low + low;
+        high = high + high;
+    }
 }
 
 /// Brings the bits that `unpack_cmp` wrote into the order of the items.
@@ -76,9 +116,6 @@ pub fn transpose_bits<W: FastLanes>(input: &[u64; 16], output: &mut [u64; 16])
 {
     let mut source = [0u8; 128];
     bytes_of_words(input, &mut source);
-    let mut bytes = [0u8; 128];
-    gather_bytes::<W>(&source, &mut bytes);
-    for k in 0..16usize {
-        output[k] = bit_of_each(&bytes, 64 * (k % 2), k / 2);
-    }
+    let bytes = gather_bytes::<W>(&source);
+    put_bits(&bytes, output);
 }

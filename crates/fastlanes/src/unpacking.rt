@@ -212,6 +212,31 @@ fn splat_reference<W: FastLanes, const FRAMED: bool>(reference: W) -> W::Vector
     W::splat(reference)
 }
 
+/// Writes one word at all places of a block.
+#[inline(always)]
+#[tactic(auto, using(crate::proofs::Patterns::pattern_at_read))]
+fn fill<W: FastLanes>(word: W, items: &mut [W; FL_CHUNK_SIZE])
+    ensures items { (i : ℕ) → i < 1024 → pattern_at W.pattern items.new i ≡ W.pattern word }
+    ensures whole { length items.new ≡ 1024 }
+{
+    for i in 0..FL_CHUNK_SIZE {
+        items[i] = word;
+    }
+}
+
+/// Copies the words of a block that has as many of them as items.
+#[inline(always)]
+fn copy_words<W: FastLanes, S: Storage<W>>(words: &[S::Unit], items: &mut [W; FL_CHUNK_SIZE])
+    requires { S.count (length words.now) ≡ 1024 }
+    ensures items { (i : ℕ) → i < 1024 → pattern_at W.pattern items.new i ≡ S.word words.now i }
+    ensures small { (i : ℕ) → i < 1024 → S.word words.now i < 2 ^ W.T }
+    ensures whole { length items.new ≡ 1024 }
+{
+    for m in 0..64usize {
+        W::store(S::load(words, 16 * m), items, 16 * m);
+    }
+}
+
 /// Writes the items of a block, plus the reference.
 fn unpack_groups<W: FastLanes, S: Storage<W>, const FRAMED: bool, const WIDTH: usize>(
     words: &[S::Unit],
@@ -224,6 +249,16 @@ fn unpack_groups<W: FastLanes, S: Storage<W>, const FRAMED: bool, const WIDTH: u
     ensures items { (i : ℕ) → i < 1024 → pattern_at W.pattern items.new i ≡ (unpacked_item W.T W.LANES WIDTH (S.word words.now) i + W.pattern reference) % 2 ^ W.T }
     ensures whole { length items.new ≡ 1024 }
 {
+    reference.in_range();
+    W::in_memory();
+    if WIDTH == 0 {
+        fill(reference, items);
+        return;
+    }
+    if WIDTH == 8 && !FRAMED && bits::<W>() == 8 {
+        copy_words::<W, S>(words, items);
+        return;
+    }
     let reference = splat_reference::<W, FRAMED>(reference);
     for g in 0..lanes::<W>() / 16 {
         unpack_group::<W, S, FRAMED, WIDTH>(words, reference, g, items);

@@ -9,7 +9,7 @@ ghost use Rattle.fl_packed.specs.Parts.{Fit, parts_of};
 use bytes::Bytes;
 use fastlanes::FL_CHUNK_SIZE;
 use fl_packed::decoding::{PackedColumn, unpack_even};
-use fl_packed::packing::bitpack_unchecked;
+use fl_packed::packing::{bitpack_into, bitpack_unchecked};
 use fl_packed::unpack_iter::{BitPacked, BitPackingStrategy, UnpackedChunks};
 use fl_plain::PrimitiveArray;
 use fl_types::{FastLanesError, NativePType, Validity};
@@ -48,6 +48,37 @@ pub(crate) fn pack_column<T: BitPacked>(
     let slots = Vec::from_slice(alloc, items)?;
     let array = PrimitiveArray::new(slots, Validity::NonNullable)?;
     pack_array(alloc, rounds, width, &array, bytes)
+}
+
+/// Packs an array so many times at a width into these bytes. The answer is how many they are, 0 where
+/// the array takes more or fewer.
+fn pack_array_into(rounds: usize, width: u8, array: &PrimitiveArray, bytes: &mut [u8]) -> usize {
+    let blocks = array.len().div_ceil(FL_CHUNK_SIZE);
+    if usize::from(width) > array.ptype().bit_width() {
+        return 0;
+    }
+    let size = 128 * usize::from(width);
+    if size.checked_mul(blocks) != Some(bytes.len()) {
+        return 0;
+    }
+    for _ in 0..rounds {
+        bitpack_into(array, width, bytes);
+    }
+    bytes.len()
+}
+
+/// Packs a column so many times at a width into these bytes. The answer is how many they are, 0 where
+/// the column takes more or fewer.
+pub(crate) fn pack_column_into<T: BitPacked>(
+    alloc: Global,
+    rounds: usize,
+    width: u8,
+    items: &[T],
+    bytes: &mut [u8],
+) -> Result<usize, FastLanesError> {
+    let slots = Vec::from_slice(alloc, items)?;
+    let array = PrimitiveArray::new(slots, Validity::NonNullable)?;
+    Ok(pack_array_into(rounds, width, &array, bytes))
 }
 
 /// Unpacks a column so many times, and writes the items of the last time, as far as there is room.

@@ -8,7 +8,7 @@ use blocks::{
     compare_all, delta_all, pack_all, rle_decode_all, single, transpose_all, undelta_all,
     unfor_pack_all, unpack_all, untranspose_all,
 };
-use columns::{decode_column, pack_column, unpack_column};
+use columns::{decode_column, pack_column, pack_column_into, unpack_column};
 use fl_types::Validity;
 use std::alloc::Global;
 
@@ -307,6 +307,17 @@ pub extern "C" fn fl_pack_column_u8(
 }
 
 #[unsafe(no_mangle)]
+pub extern "C" fn fl_pack_into_u8(
+    alloc: Global,
+    rounds: usize,
+    width: u8,
+    items: &[u8],
+    bytes: &mut [u8],
+) -> usize {
+    pack_column_into(alloc, rounds, width, items, bytes).unwrap_or(0)
+}
+
+#[unsafe(no_mangle)]
 pub extern "C" fn fl_unpack_column_u8(
     alloc: Global,
     rounds: usize,
@@ -341,6 +352,17 @@ pub extern "C" fn fl_pack_column_u16(
     bytes: &mut [u8],
 ) -> usize {
     pack_column(alloc, rounds, width, items, bytes).unwrap_or(0)
+}
+
+#[unsafe(no_mangle)]
+pub extern "C" fn fl_pack_into_u16(
+    alloc: Global,
+    rounds: usize,
+    width: u8,
+    items: &[u16],
+    bytes: &mut [u8],
+) -> usize {
+    pack_column_into(alloc, rounds, width, items, bytes).unwrap_or(0)
 }
 
 #[unsafe(no_mangle)]
@@ -381,6 +403,17 @@ pub extern "C" fn fl_pack_column_u32(
 }
 
 #[unsafe(no_mangle)]
+pub extern "C" fn fl_pack_into_u32(
+    alloc: Global,
+    rounds: usize,
+    width: u8,
+    items: &[u32],
+    bytes: &mut [u8],
+) -> usize {
+    pack_column_into(alloc, rounds, width, items, bytes).unwrap_or(0)
+}
+
+#[unsafe(no_mangle)]
 pub extern "C" fn fl_unpack_column_u32(
     alloc: Global,
     rounds: usize,
@@ -415,6 +448,17 @@ pub extern "C" fn fl_pack_column_u64(
     bytes: &mut [u8],
 ) -> usize {
     pack_column(alloc, rounds, width, items, bytes).unwrap_or(0)
+}
+
+#[unsafe(no_mangle)]
+pub extern "C" fn fl_pack_into_u64(
+    alloc: Global,
+    rounds: usize,
+    width: u8,
+    items: &[u64],
+    bytes: &mut [u8],
+) -> usize {
+    pack_column_into(alloc, rounds, width, items, bytes).unwrap_or(0)
 }
 
 #[unsafe(no_mangle)]

@@ -9,7 +9,7 @@ use crate::columns::{
     TYPES, has_spans, is_at, ones_and_nulls, rising, same_items, solid, two_blocks,
 };
 use fl_packed::decoding::{PackedColumn, unpack_bounded, unpack_even, unpack_single_primitive};
-use fl_packed::packing::{bitpack_blocked_unchecked, bitpack_unchecked};
+use fl_packed::packing::{bitpack_blocked_unchecked, bitpack_into, bitpack_unchecked};
 use fl_patches::Patches;
 use fl_plain::PrimitiveArray;
 use fl_types::*;
@@ -371,6 +371,36 @@ fn each_type_comes_back(rt: HostRuntime) -> Result<(), Fail> {
     for ptype in TYPES {
         assert!(rt; ends_come_back(rt.alloc(), ptype)?);
         assert!(rt; ends_keep_low_bits(rt.alloc(), ptype)?);
+    }
+    Ok(())
+}
+
+/// Whether two items of an array, packed at width 1 over bytes of something else, are these bytes.
+fn are_packed_over(array: &PrimitiveArray, expected: &[u8]) -> bool {
+    if array.len() != 2 || array.ptype().bit_width() < 1 {
+        return false;
+    }
+    let mut bytes = [7u8; 128];
+    bitpack_into(array, 1, &mut bytes);
+    bytes.as_slice() == expected
+}
+
+/// Whether two items are packed into bytes that are there as into new ones.
+fn are_packed_alike(alloc: Global, array: &PrimitiveArray) -> Result<bool, FastLanesError> {
+    let expected = packed(alloc, array, 1)?;
+    Ok(are_packed_over(array, &expected))
+}
+
+/// Whether the ends of a type are packed into bytes that are there as into new ones.
+fn ends_are_packed_alike(alloc: Global, ptype: PType) -> Result<bool, FastLanesError> {
+    let array = extremes(alloc, ptype)?;
+    are_packed_alike(alloc, &array)
+}
+
+#[test]
+fn bytes_that_are_there_are_packed_over(rt: HostRuntime) -> Result<(), Fail> {
+    for ptype in TYPES {
+        assert!(rt; ends_are_packed_alike(rt.alloc(), ptype)?);
     }
     Ok(())
 }

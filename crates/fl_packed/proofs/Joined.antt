@@ -4,6 +4,8 @@ use Rattle.std.proofs.lemmas.Bool.{cases_eq, cases_lt}
 use Rattle.fastlanes.specs.Layout.{Packed, word_at, IsWordWidth}
 use Rattle.fl_types.specs.declared.dtype.PType.{PType}
 use Rattle.fl_types.specs.Bits.{between}
+use Rattle.fl_types.specs.Integers.{bits_of_type, lanes_of_type, read_as}
+use Rattle.fastlanes.proofs.SingleItems.{single_none}
 use Rattle.std.proofs.Math.Nat.{mul-le-mul_left}
 use Rattle.std.specs.Prelude.{◌==◌}
 use Rattle.std.proofs.lemmas.Bool.{and_parts, eqb-true, leb-true}
@@ -50,6 +52,11 @@ item_of_block ptype blocks bytes j q p h is =
     let block_no : p / 1024 ≡ j = omega arith in
     let place_no : p % 1024 ≡ q = omega arith in
     rw (block_no, place_no) refl
+
+-- an item of a block at width 0
+pub item_of_none : (ptype : PType) (blocks : Blocks) (bytes : List ℕ) (p : ℕ) → blocks.width (p / 1024) ≡ 0 → read_as ptype 0 ≡ item_of_blocks ptype blocks bytes p
+unfolding item_of_blocks block_item
+item_of_none ptype blocks bytes p none = ap (read_as ptype) (single_none (bits_of_type ptype) (lanes_of_type ptype) (blocks.width (p / 1024)) (word_at (bits_of_type ptype) (bytes_of_block blocks bytes (p / 1024))) (p % 1024) 0 none refl)
 
 -- an item that was read from a block's bytes
 pub item_read : (ptype : PType) (blocks : Blocks) (packed block : List ℕ) (j start width q p : ℕ) (z : ℤ) → start ≡ blocks.start j → width ≡ blocks.width j → block ≡ between start (start + 128 * width) packed → q < 1024 → p ≡ 1024 * j + q

@@ -1,7 +1,7 @@
 -- Parts of lists.
 use Rattle.std.proofs.Common.{◌≡◌, ℕ, zero, suc, ◌+◌, ◌-◌, ◌<◌, ◌≤◌, ℤ, pos, List, [], ◌∷◌, ◌++◌, length, map, take, drop, get_or, min, replicate, refl, ap, sym, ◌∙◌, arith, inl, inr, append_assoc, length-append, length-take, length-drop}
 use Rattle.std.proofs.lemmas.Bool.{cases_lt}
-use Rattle.std.proofs.lemmas.List.{take-map, drop-map, get_or-take, get_or-drop, take_all, take-append-le, length-map, length-replicate, map-append, get_or_append_left, get_or-append_right, get_or-append-add}
+use Rattle.std.proofs.lemmas.List.{take-map, drop-map, get_or-take, get_or-drop, take_all, take-append-le, length-map, get_or-map, length-replicate, map-append, get_or_append_left, get_or-append_right, get_or-append-add}
 use Rattle.std.proofs.Math.Seq.{take-append_seam}
 use Rattle.fl_types.specs.declared.dtype.PType.{PType}
 use Rattle.fl_types.specs.Integers.{pattern_of}
@@ -118,3 +118,8 @@ integers_between value item xs from to order room each =
 pub integers_all : {X : Type 0} (value : X → ℤ) (item : ℕ → ℤ) (xs : List X) (n : ℕ) → length xs ≡ n → ((i : ℕ) → i < n → value_at value xs i ≡ item i) → map value xs ≡ table item n
 unfolding value_at
 integers_all value item xs n long each = fill_by_all item (map value xs) n (pos 0) (length-map xs value ∙ long) each
+
+-- an integer, by the element
+pub value_read : {X : Type 0} (value : X → ℤ) (xs : List X) (i : ℕ) (x : X) → i < length xs → get_or xs i x ≡ x → value_at value xs i ≡ value x
+unfolding value_at
+value_read value xs i x h e = get_or-map value xs i x (pos 0) h ∙ ap value e

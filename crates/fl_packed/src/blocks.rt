@@ -1,6 +1,6 @@
 //! Where the blocks of a column lie in its bytes.
 
-ghost use Rattle.std.specs.Prelude.{◌≡◌, ◌+◌, ◌-◌, ◌*◌, ◌<◌, ◌≤◌, ◌^◌, IsTrue, length, slice_index, unsigned_abs};
+ghost use Rattle.std.specs.Prelude.{◌≡◌, ◌+◌, ◌-◌, ◌*◌, ◌<◌, ◌≤◌, ◌^◌, ℕ, IsTrue, length, slice_index, unsigned_abs};
 ghost use Rattle.fl_types.specs.Bits.{between};
 ghost use Rattle.fl_patches.specs.PatchMaps.{chunk_count, numbers};
 ghost use Rattle.fl_packed.specs.Blocks.{AreWithin, bytes_of_block};
@@ -44,6 +44,16 @@ fn number_at(array: &PrimitiveArray, i: usize) -> usize
 }
 
 impl Widths<'_> {
+    /// Whether all blocks are known to have width 0 without a look at boundaries.
+    pub(crate) fn are_none(self) -> bool
+        ensures { IsTrue result → (j : ℕ) → (blocks_of self.entry).width j ≡ 0 }
+    {
+        match self {
+            Widths::Even(width) => width == 0,
+            Widths::Bounded(_) => false,
+        }
+    }
+
     /// Where block `j` starts, and its width.
     pub(crate) fn block(self, j: usize) -> (usize, usize)
         requires names { Names self j }

@@ -2,7 +2,7 @@
 
 ghost use Rattle.std.specs.Prelude.{◌≡◌, ◌+◌, ◌*◌, ◌/◌, ◌<◌, ◌≤◌, ◌^◌, ℕ, IfOk, IfSome, IsTrue, Ok, OnOk, length, min, unwrap_or};
 ghost use Rattle.std.specs.Option.{option_copied};
-ghost use Rattle.fl_types.specs.Integers.{bits_of_type};
+ghost use Rattle.fl_types.specs.Integers.{bits_of_type, read_as};
 ghost use Rattle.fl_types.specs.Refusals.{Answers};
 ghost use Rattle.fl_plain.specs.Columns.{column_of_plain};
 ghost use Rattle.fl_patches.specs.PatchMaps.{chunk_count, numbers, patched_in};
@@ -15,7 +15,7 @@ use crate::bit_packed::BitPacked;
 use crate::blocks::{Widths, chunk_count};
 use crate::patching::put_patches;
 use crate::unpack_iter::{BitPackingStrategy, block_at, count_fits, part_of, unpack_part};
-use fastlanes::{FL_CHUNK_SIZE, Work, unpack_single};
+use fastlanes::{FL_CHUNK_SIZE, FastLanes, Work, unpack_single};
 use fl_patches::Patches;
 use fl_plain::PrimitiveArray;
 use fl_types::{FastLanesError, NativePType, PType, Validity, match_each_integer_ptype};
@@ -130,6 +130,16 @@ fn unpack_counted<T: BitPacked>(
     Ok(items)
 }
 
+/// So many zeros: what stands in blocks at width 0.
+fn zeros<T: NativePType>(alloc: Global, len: usize) -> Result<Vec<T>, AllocError>
+    ensures long { IfOk result (λ v. length v.items ≡ len) }
+    ensures items { IfOk result (λ v. (i : ℕ) → i < len → value_at T.value v.items i ≡ read_as T.PTYPE 0) }
+{
+    let mut items = Vec::new(alloc);
+    items.resize(len, T::from_physical(T::Physical::zero()))?;
+    Ok(items)
+}
+
 /// The items of packed blocks from the offset on.
 fn unpack_values<T: BitPacked>(
     alloc: Global,
@@ -145,6 +155,10 @@ fn unpack_values<T: BitPacked>(
     ensures long { IfOk result (λ v. length v.items ≡ len) }
     ensures items { IfOk result (λ v. (i : ℕ) → i < len → value_at T.value v.items i ≡ item_of_blocks T.PTYPE (blocks_of widths.entry) packed.now (offset + i)) }
 {
+    if widths.are_none() {
+        let items = zeros(alloc, len)?;
+        return Ok(items);
+    }
     let mut work = Work::new();
     unpack_counted(alloc, widths, packed, offset, len, &mut work)
 }

@@ -75,11 +75,38 @@ fn pack_blocks<T: BitPacked>(
     ensures each { IfOk result (λ v. (j : ℕ) → j < chunk_count (length items.now) → Packed T.Physical.T T.Physical.LANES ((blocks_of widths.entry).width j) (λ q. pattern_in T.PTYPE (map T.value items.now) (1024 * j + q)) (word_at T.Physical.T (bytes_of_block (blocks_of widths.entry) v.items j))) }
 {
     let mut bytes = Vec::with_capacity(alloc, size)?;
+    // Blocks at width 0 have no bytes.
+    if size == 0 {
+        return Ok(bytes);
+    }
     for j in 0..chunk_count(items.len()) {
         let (_start, width) = widths.block(j);
         push_block(width, chunk_of(items, j), &mut bytes)?;
     }
     Ok(bytes)
+}
+
+/// Packs the blocks of these integers into bytes that are there.
+fn pack_blocks_into<T: BitPacked>(width: usize, items: &[T], bytes: &mut [u8])
+    requires width { width ≤ T.Physical.T }
+    requires room { length bytes.old ≡ 128 * width * chunk_count (length items.now) }
+    ensures each { (j : ℕ) → j < chunk_count (length items.now) → Packed T.Physical.T T.Physical.LANES width (λ q. pattern_in T.PTYPE (map T.value items.now) (1024 * j + q)) (word_at T.Physical.T (bytes_of_block (even_blocks width) bytes.new j)) }
+{
+    let size = FL_CHUNK_SIZE / 8 * width;
+    let blocks = chunk_count(items.len());
+    for j in 0..blocks {
+        pack_at(width, chunk_of(items, j), size * j, bytes);
+    }
+}
+
+fn pack_typed_into<T: BitPacked>(array: &PrimitiveArray, width: usize, bytes: &mut [u8])
+    requires typed { array.now.ptype ≡ T.PTYPE }
+    requires width { width ≤ bits_of_type array.now.ptype }
+    requires room { length bytes.old ≡ 128 * width * chunk_count (length array.now.slots) }
+    ensures { ArePacked array.now.ptype array.now.slots (even_blocks width) bytes.new }
+{
+    let items = array.as_slice::<T>();
+    pack_blocks_into(width, items, bytes);
 }
 
 fn pack_typed<T: BitPacked>(
@@ -130,6 +157,18 @@ fn pack_array(
     let bytes = pack_slots(alloc, array, widths, size)?;
     let packed = Bytes::from_vec(bytes)?;
     Ok(packed)
+}
+
+/// Packs the low `width` bits of an array's integers, also of those under a null, with 0 behind the
+/// last of them, into bytes that are there: `128 * width` for each block of 1024. The width is at most
+/// the type's bits.
+pub fn bitpack_into(array: &PrimitiveArray, width: u8, bytes: &mut [u8])
+    requires width { width ≤ bits_of_type array.now.ptype }
+    requires room { length bytes.old ≡ 128 * width * chunk_count (length array.now.slots) }
+    ensures { ArePacked array.now.ptype array.now.slots (even_blocks width) bytes.new }
+{
+    let width = usize::from(width);
+    match_each_integer_ptype!(array.ptype(), pack_typed_into(array, width, bytes));
 }
 
 /// The packed low `width` bits of an array's integers, also of those under a null, with 0 behind the

@@ -2,6 +2,7 @@ use Rattle.std.proofs.Common.{arith, ap, ◌∙◌}
 use Rattle.fastlanes.specs.Layout.{pattern_at}
 use Rattle.fastlanes.specs.Filled.{word_of, word_place}
 use Rattle.fastlanes.proofs.Fillings.{groups_more, words_packed, whole_eights}
+use Rattle.fastlanes.proofs.WholeWords.{whole_packed}
 use Rattle.fastlanes.proofs.packing.pack_groups.Goals as goal
 
 pub loop-g-preserved : goal.loop-g-preserved
@@ -15,3 +16,7 @@ pub returns : goal.returns
 returns g c =
     let eights = whole_eights g.W.FastLanes.T g.W.FastLanes.LANES g.met.W.FastLanes.shape in
     words_packed g.W.FastLanes.T g.W.FastLanes.LANES g.row.WIDTH c.loop-g.g (pattern_at g.W.FastLanes.pattern c.args.items.now) (g.S.Storage.word c.loop-g.packed) g.met.W.FastLanes.shape (omega arith) c.loop-g.invariant.filled
+
+pub returns-then-bits-eq8 : goal.returns-then-bits-eq8
+returns-then-bits-eq8 g c =
+    whole_packed g.W.FastLanes.T g.W.FastLanes.LANES g.row.WIDTH (pattern_at g.W.FastLanes.pattern c.args.items.now) (g.S.Storage.word c.copy_items.new.packed) g.met.W.FastLanes.shape (omega arith) (omega arith) (λ i h. c.copy_items.ensures i h)

@@ -1,0 +1,12 @@
+use Rattle.std.proofs.Common.{◌≡◌, ℕ, ◌+◌, ◌*◌, ◌<◌, length, map}
+use Rattle.fastlanes.specs.Layout.{Packed, word_at}
+use Rattle.fl_patches.specs.PatchMaps.{chunk_count}
+use Rattle.fl_packed.specs.Blocks.{bytes_of_block, even_blocks, pattern_in}
+use Rattle.fl_packed.proofs.packing.pack_blocks_into.Given as goal
+
+-- the blocks so far
+abbrev pub invariant-loop-j : goal.invariant-loop-j
+invariant-loop-j g l = record {
+  whole : length l.bytes ≡ 128 * l.width * chunk_count (length l.items);
+  each : (k : ℕ) → k < l.j → Packed g.T.Physical.FastLanes.T g.T.Physical.FastLanes.LANES l.width (λ q. pattern_in g.T.NativePType.PTYPE (map g.T.Number.value l.items) (1024 * k + q)) (word_at g.T.Physical.FastLanes.T (bytes_of_block (even_blocks l.width) l.bytes k));
+}
