@@ -1,13 +1,12 @@
 -- Blocks of items and of bytes.
-use Rattle.std.proofs.Common.{◌≡◌, ℕ, ◌+◌, ◌*◌, ◌-◌, ◌/◌, ◌<◌, ◌≤◌, List, ◌++◌, length, take, drop, get_or, map, arith, refl, sym, suc, add-one, ap, subst, ◌∙◌, inl, inr}
+use Rattle.std.proofs.Common.{◌≡◌, ℕ, ◌+◌, ◌*◌, ◌-◌, ◌<◌, ◌≤◌, List, ◌++◌, length, take, drop, get_or, map, arith, refl, sym, suc, add-one, ap, subst, ◌∙◌, inl, inr}
 use Rattle.std.specs.Prelude.{slice_index}
 use Rattle.std.specs.Int.{bit_at}
 use Rattle.std.proofs.lemmas.Bool.{cases_lt, cases_eq}
 use Rattle.std.proofs.lemmas.List.{get_or-map, get_or-take, get_or_past, length-map, length-take, length-append, length-drop, drop-map, drop-append-le, take-append-le, take_all}
 use Rattle.std.proofs.Math.Seq.{drop-append_seam}
 use Rattle.std.proofs.Math.Nat.{mul-le-mul_left, mul-suc}
-use Rattle.fastlanes.specs.Layout.{place, pattern_at, word_at, Packed, IsWordWidth, bits_8, bits_16, bits_32, bits_64}
-use Rattle.fastlanes.proofs.Blocks.{packed_by_words}
+use Rattle.fastlanes.specs.Layout.{place, pattern_at, word_at, Packed}
 use Rattle.flcol.specs.Column.{block_of}
 use Rattle.flcol.proofs.SliceLemmas.{from_index}
 
@@ -55,20 +54,9 @@ block_added P size bytes new j e f done here k below =
         let next : size * suc k ≡ size * k + size = mul-suc size k in
         omega arith
 
--- a block is packed from what was read and put
-pub block_packed : {W : Type 0} (pattern : W → ℕ) (T lanes width : ℕ) (items : ℕ → ℕ) (read : ℕ → ℕ) (words : List W) (bytes : List ℕ) → IsWordWidth T lanes
-    → Packed T lanes width read (pattern_at pattern words) → ((i : ℕ) → read i ≡ items i)
-    → ((m : ℕ) → m < width * lanes → word_at T bytes m ≡ pattern_at pattern words m)
-    → Packed T lanes width items (word_at T bytes)
-block_packed pattern T lanes width items read words bytes shape packed same put = packed_by_words T lanes width items (pattern_at pattern words) (word_at T bytes) shape put
-    (record { bits = λ r l b p q h. ap (λ (x : ℕ). bit_at x b) (sym (same (place r l))) ∙ packed.bits r l b p q h })
-
--- the bytes of a word, times the lanes
-pub block_size : (T lanes width : ℕ) → IsWordWidth T lanes → 128 * width ≡ width * lanes * (T / 8)
-block_size _ _ width bits_8 = omega arith
-block_size _ _ width bits_16 = omega arith
-block_size _ _ width bits_32 = omega arith
-block_size _ _ width bits_64 = omega arith
+-- a block is packed from the items that were filled in
+pub block_packed : (T lanes width : ℕ) (items read word : ℕ → ℕ) → Packed T lanes width read word → ((i : ℕ) → read i ≡ items i) → Packed T lanes width items word
+block_packed T lanes width items read word packed same = record { bits = λ r l b p q h. ap (λ (x : ℕ). bit_at x b) (sym (same (place r l))) ∙ packed.bits r l b p q h }
 
 -- one more packed block
 pub packed_added : {W : Type 0} (pattern : W → ℕ) (T lanes width : ℕ) (items : List W) (bytes new more : List ℕ) (j : ℕ) → more ≡ bytes ++ new

@@ -9,8 +9,7 @@ pub loop-j-preserved : goal.loop-j-preserved
 loop-j-preserved g c =
     let new_size : length c.pack_block.new.bytes ≡ 128 * c.args.width = omega arith in
     record {
-      words_room = omega arith;
-      bytes_room = new_size;
+      room = new_size;
       size = size_added _ _ _ _ _ c.in_ok-extend_from_slice.ensures.items c.loop-j.invariant.size new_size;
       blocks = packed_added _ _ _ _ _ _ _ _ _ c.in_ok-extend_from_slice.ensures.items c.loop-j.invariant.size new_size c.loop-j.invariant.blocks c.pack_block.ensures;
     }

@@ -7,8 +7,7 @@ use Rattle.flcol.proofs.packing.packed_blocks.Given as goal
 -- the blocks so far
 abbrev pub invariant-loop-j : goal.invariant-loop-j
 invariant-loop-j g l = record {
-  words_room : length l.words ≡ l.width * g.W.FastLanes.LANES;
-  bytes_room : length l.packed ≡ 128 * l.width;
+  room : length l.packed ≡ 128 * l.width;
   size : length l.bytes.items ≡ 128 * l.width * l.j;
   blocks : (k : ℕ) → k < l.j → Packed g.W.FastLanes.T g.W.FastLanes.LANES l.width (slice_index (block_of 1024 (map g.W.FastLanes.pattern l.items) k)) (word_at g.W.FastLanes.T (block_of (128 * l.width) l.bytes.items k));
 }
