@@ -174,6 +174,15 @@ pub trait FastLanes: Copy {
     ghost one_word: { (x y : Self) → pattern x ≡ pattern y → x ≡ y };
 }
 
+/// A number whose low `width` bits are set, and no others.
+#[inline(always)]
+fn low_bits(width: usize) -> u32
+    requires { width ≤ 16 }
+    ensures { result ≡ 2 ^ width - 1 }
+{
+    (1 << width) - 1
+}
+
 impl FastLanes for u8 {
     const T: usize = 8;
 
@@ -214,15 +223,15 @@ impl FastLanes for u8 {
     }
 
     #[inline(always)]
-    #[tactic(auto, using(crate::proofs::Shifts::mask_is))]
+    #[tactic(auto, using(crate::proofs::Shifts::mask_below))]
     fn bits_from(self, shift: usize, width: usize) -> Self {
-        self >> shift & u8::MAX >> (8 - width)
+        self >> shift & low_bits(width) as u8
     }
 
     #[inline(always)]
-    #[tactic(auto, using(crate::proofs::Shifts::mask_is))]
+    #[tactic(auto, using(crate::proofs::Shifts::mask_below))]
     fn bits_across(self, next: Self, shift: usize, width: usize) -> Self {
-        (self >> shift | next << (8 - shift)) & u8::MAX >> (8 - width)
+        (self >> shift | next << (8 - shift)) & low_bits(width) as u8
     }
 
     fn same(self, other: Self) -> bool {
@@ -351,15 +360,15 @@ impl FastLanes for u16 {
     }
 
     #[inline(always)]
-    #[tactic(auto, using(crate::proofs::Shifts::mask_is))]
+    #[tactic(auto, using(crate::proofs::Shifts::mask_below))]
     fn bits_from(self, shift: usize, width: usize) -> Self {
-        self >> shift & u16::MAX >> (16 - width)
+        self >> shift & low_bits(width) as u16
     }
 
     #[inline(always)]
-    #[tactic(auto, using(crate::proofs::Shifts::mask_is))]
+    #[tactic(auto, using(crate::proofs::Shifts::mask_below))]
     fn bits_across(self, next: Self, shift: usize, width: usize) -> Self {
-        (self >> shift | next << (16 - shift)) & u16::MAX >> (16 - width)
+        (self >> shift | next << (16 - shift)) & low_bits(width) as u16
     }
 
     fn same(self, other: Self) -> bool {
