@@ -1,6 +1,6 @@
 -- Blocks of differences.
 use Rattle.std.proofs.Common.{◌≡◌, ℕ, ℤ, pos, zero, suc, ◌+◌, ◌-◌, ◌*◌, ◌/◌, ◌%◌, ◌^◌, ◌<◌, ◌≤◌, refl, ap, sym, ◌∙◌, arith, add-one, mul_comm, length-take}
-use Rattle.std.proofs.Common.{List, [], ◌∷◌, ◌++◌, Option, length, map, get_or, IsTrue, cond, ◌-ℤ◌, take, unwrap_or}
+use Rattle.std.proofs.Common.{List, [], ◌∷◌, ◌++◌, length, map, IsTrue, ◌-ℤ◌, take}
 use Rattle.std.proofs.Math.Nat.{mod-eq_of_lt, add-mod_right}
 use Rattle.std.specs.Prelude.{if◌then◌else◌, ◌==◌, false}
 use Rattle.std.proofs.lemmas.Bool.{ne_eqb}
@@ -11,12 +11,13 @@ use Rattle.std.proofs.lemmas.Nat.{div-mul-add, mod-mul-add}
 use Rattle.fl_types.specs.declared.dtype.PType.{PType}
 use Rattle.fl_types.specs.Bits.{table}
 use Rattle.fl_types.specs.Integers.{bits_of_type, fits, lanes_of_type, pattern_of, read_as, wrap}
-use Rattle.fl_codec.specs.Chunks.{chunk}
-use Rattle.fl_codec.specs.Filling.{Carry, filled, filled_from}
 use Rattle.fastlanes.specs.Layout.{pattern_at, place, segment, row_of, lane_of, IsWordWidth, bits_8, bits_16, bits_32, bits_64}
 use Rattle.fastlanes.specs.Delta.{Transposed, item_before, item_delta}
 use Rattle.fastlanes.proofs.Bijection.{position_placed, segment_read}
-use Rattle.fl_codec.specs.Deltas.{base_of, delta_of, encoded_delta}
+use Rattle.fl_codec.specs.Deltas.{base_of, bases_to, delta_of, deltas_to, encoded_delta}
+use Rattle.fl_codec.specs.Chunks.{chunks_of}
+use Rattle.fl_codec.specs.Parts.{compress_deltas, items_of_plain, solid}
+use Rattle.fl_plain.specs.Columns.{Plain}
 use Rattle.fl_codec.proofs.Congruence.{read_as-difference, read_as-pattern_of, read_as-zero}
 use Rattle.fl_codec.proofs.FillingLaws.{table_append}
 
@@ -123,6 +124,11 @@ deltas_of_chunk pattern ptype T lanes k item block words shape bits long here de
     ap (read_as ptype) word ∙ (delta_at ptype k (row_of lanes q) (lane_of lanes q) item block T lanes shape bits placed.1 placed.2 here ∙ (rw (block_no, place_no, same) refl))) in
     let more : 1024 * k + 1024 ≡ 1024 * (k + 1) = omega arith in
     ap (λ xs. xs ++ map (λ w. read_as ptype (pattern w)) words) is ∙ (ap (λ ys. table entry (1024 * k) ++ ys) chunk_words ∙ (table_append entry (1024 * k) 1024 ∙ ap (table entry) more))
+
+-- the bases and the deltas of all of a plain array's blocks
+pub compressed : (p : Plain) (ptype : PType) (k : ℕ) (bases deltas : List ℤ) (x y : Plain) → p.ptype ≡ ptype → k ≡ chunks_of (length (items_of_plain p)) → bases ≡ bases_to ptype (items_of_plain p) k → deltas ≡ deltas_to ptype (items_of_plain p) k
+    → x ≡ solid ptype bases → y ≡ solid ptype deltas → compress_deltas p ≡ (x, y)
+compressed p ptype k bases deltas x y same all bases_are deltas_are x_is y_is = rw (x_is, y_is, bases_are, deltas_are, all, same) refl
 
 pub few_lanes : (T lanes : ℕ) → IsWordWidth T lanes → lanes ≤ 1024
 few_lanes _ _ bits_8 = omega arith

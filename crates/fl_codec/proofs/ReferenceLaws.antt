@@ -7,13 +7,13 @@ use Rattle.std.proofs.lemmas.List.FromFn.{get_or-map-range_with_len, length-map-
 use Rattle.std.proofs.lemmas.Bool.{cases_lt, true≢false}
 use Rattle.std.proofs.lemmas.Bool.Decides.{Decides-int_eq}
 use Rattle.fl_types.specs.Bits.{table}
-use Rattle.std.proofs.Common.{IsTrue, is_none, length-take, length-drop, ◌-◌, ◌*◌, min, ◌/◌}
+use Rattle.std.proofs.Common.{append_assoc, subst, IsTrue, is_none, length-drop, ◌-◌, ◌*◌, min}
 use Rattle.std.proofs.lemmas.List.{get_or-map, length-map, map-append, map_more, take_all}
 use Rattle.fl_types.specs.Bits.{between}
 use Rattle.fl_types.specs.Validities.{covers, is_valid_at, items_of}
 use Rattle.fl_types.specs.declared.validity.Validity.{Validity}
 use Rattle.fl_plain.proofs.ItemLaws.{get_or-items_of, length-items_of}
-use Rattle.fl_plain.proofs.ListLaws.{all_at, all_fails, all_from, and_second, and_true}
+use Rattle.fl_plain.proofs.ListLaws.{all_fails, all_from, and_first, and_second, and_true}
 use Rattle.fl_codec.specs.Chunks.{chunk, chunks_of}
 use Rattle.fl_codec.specs.Filling.{either, first_some, last_some}
 use Rattle.fl_plain.specs.Columns.{Plain}
@@ -75,6 +75,22 @@ common-none (z ∷ zs) first other (suc i) h e f differs =
     let fails : int_eq z (get_or zs i other) ≡ false = ap (int_eq z) (sym f) ∙ (ap (λ x. int_eq x other) (sym e) ∙ differs) in
     rw (all_fails (int_eq z) zs i other (omega arith) fails) refl
 
+-- all are the first
+pub common-some : (zs : List ℤ) (first : ℤ) → 0 < length zs → first ≡ get_or zs 0 first → list_all (int_eq first) zs ≡ true → Some first ≡ common_reference zs
+common-some [] first h e all = absurd (omega arith)
+common-some (z ∷ zs) first h e all =
+    let others : list_all (int_eq z) zs ≡ true = subst (λ f. list_all (int_eq f) zs ≡ true) e (and_second (int_eq first z) (list_all (int_eq first) zs) all) in
+    rw others (ap (λ f. Some f) e)
+
+-- one more value that passes, of elements that are read
+pub all_read : {A : Type 0} (value : A → ℤ) (p : ℤ → Bool) (xs : List A) (y : A) (n : ℕ) → n < length xs → y ≡ get_or xs n y → list_all p (map value (take n xs)) ≡ true → p (value y) ≡ true → list_all p (map value (take (n + 1) xs)) ≡ true
+all_read value p [] y n h is before here = absurd (omega arith)
+all_read value p (x ∷ xs) y zero h is before here = and_true (p (value x)) true (subst (λ z. p (value z) ≡ true) is here) refl
+all_read value p (x ∷ xs) y (suc n) h is before here =
+    let next : suc n + 1 ≡ suc (n + 1) = omega arith in
+    rw next (and_true (p (value x)) (list_all p (map value (take (n + 1) xs))) (and_first (p (value x)) (list_all p (map value (take n xs))) before)
+    (all_read value p xs y n (omega arith) is (and_second (p (value x)) (list_all p (map value (take n xs))) before) here))
+
 -- ---- items that a loop reads
 -- there is an item for each slot
 pub length-items_read : {A B : Type 0} (f : A → B) (v : Validity) (xs : List A) → IsTrue (covers v (length xs)) → length (items_of v (map f xs)) ≡ length xs
@@ -104,6 +120,18 @@ table_push value f new old x n pushed before here = rw (pushed, map-append, befo
 -- one more element of a list that is mapped, seen through its values
 pub map_push : {A B C : Type 0} (value : A → B) (f : C → B) (xs : List C) (new old : List A) (x : A) (n : ℕ) (d : C) → n < length xs → new ≡ old ++ x ∷ [] → map value old ≡ map f (take n xs) → value x ≡ f (get_or xs n d) → map value new ≡ map f (take (n + 1) xs)
 map_push value f xs new old x n d h pushed before here = rw (pushed, map-append, before, here) (sym (map_more f xs n d h))
+
+-- one more value of words that are read, behind the values that stood before
+pub values_pushed : {A B W : Type 0} (value : A → B) (read : W → B) (words : List W) (start : List B) (new old : List A) (x : A) (w : W) (n : ℕ) → n < length words → w ≡ get_or words n w → new ≡ old ++ x ∷ [] → map value old ≡ start ++ map read (take n words) → value x ≡ read w
+    → map value new ≡ start ++ map read (take (n + 1) words)
+values_pushed value read words start new old x w n h is pushed before here =
+    rw (pushed, map-append, before, here, append_assoc) (ap (λ ys. start ++ ys) (ap (λ v. map read (take n words) ++ read v ∷ []) is ∙ sym (map_more read words n w h)))
+
+-- one more value of elements that are read, each mapped
+pub read_push : {A B : Type 0} (value : A → B) (f : B → B) (xs new old : List A) (x y : A) (n : ℕ) → n < length xs → y ≡ get_or xs n y → new ≡ old ++ x ∷ [] → map value old ≡ map f (map value (take n xs)) → value x ≡ f (value y)
+    → map value new ≡ map f (map value (take (n + 1) xs))
+read_push value f xs new old x y n h is pushed before here =
+    rw (pushed, map-append, before, here) (sym (ap (map f) (map_more value xs n y h ∙ ap (λ v. map value (take n xs) ++ value v ∷ []) (sym is)) ∙ map-append f (map value (take n xs)) (value y ∷ [])))
 
 -- the first least item from chunk k on
 pub first_least_at : (items : List (Option ℤ)) (k : ℕ) (x : Option ℤ) → k < chunks_of (length items) → least_valid (chunk k items) ≡ x → first_some (drop k (chunk_leasts items)) ≡ either x (first_some (drop (k + 1) (chunk_leasts items)))
@@ -162,3 +190,7 @@ references_of_plain value p v xs references common same slots e f = rw (f, e, sa
 -- the items of a plain array, as its parts are read
 pub same_items : {A : Type 0} (value : A → ℤ) (p : Plain) (v : Validity) (xs : List A) → v ≡ p.validity → map value xs ≡ p.slots → items_of v (map value xs) ≡ items_of_plain p
 same_items value p v xs same slots = rw (same, slots) refl
+
+-- a plain array's validity has a bit for each of its slots, as its parts are read
+pub covered_read : {A : Type 0} (value : A → ℤ) (p : Plain) (v : Validity) (xs : List A) → v ≡ p.validity → IsTrue (covers p.validity (length p.slots)) → map value xs ≡ p.slots → IsTrue (covers v (length xs))
+covered_read value p v xs same covered slots = rw (same, length_of_values value xs p.slots slots) covered

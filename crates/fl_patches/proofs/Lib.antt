@@ -2,6 +2,7 @@ pub mod Chunks
 pub mod Kept
 pub mod Narrowed
 pub mod Parts
+pub mod Picked
 pub mod Rising
 pub mod Selected
 pub mod Slices

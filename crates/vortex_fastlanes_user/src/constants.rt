@@ -1,6 +1,6 @@
 //! Arrays of copies.
 
-use crate::items::item_at;
+use crate::items::{item_at, last_plain};
 use std::alloc::Global;
 use std::test::Fail;
 use vortex_fastlanes::array::*;
@@ -25,136 +25,148 @@ fn are_sevens(array: &ArrayRef, alloc: Global, len: usize, plain: bool) -> bool 
     true
 }
 
-fn slices(array: &ArrayRef, alloc: Global) -> Result<bool, FastLanesError> {
-    if array.len() != 3 {
-        return Ok(false);
+/// An operation gave so many sevens, in an array that is plain or not.
+fn gave_sevens(
+    array: Result<ArrayRef, FastLanesError>,
+    alloc: Global,
+    len: usize,
+    plain: bool,
+) -> bool {
+    match array {
+        Ok(array) => are_sevens(&array, alloc, len, plain),
+        Err(_) => false,
     }
-    Ok(are_sevens(&array.slice(alloc, 1..3)?, alloc, 2, false))
 }
 
-fn copies(array: &ArrayRef, alloc: Global) -> Result<bool, FastLanesError> {
-    Ok(are_sevens(&array.try_clone(alloc)?, alloc, 3, false))
+fn slices(array: &ArrayRef, alloc: Global) -> bool {
+    if array.len() != 3 {
+        return false;
+    }
+    gave_sevens(array.slice(alloc, 1..3), alloc, 2, false)
 }
 
-fn decodes(array: &ArrayRef, alloc: Global) -> Result<bool, FastLanesError> {
-    Ok(are_sevens(&array.decode(alloc)?, alloc, 3, true))
-}
-
-fn takes(array: &ArrayRef, alloc: Global) -> Result<bool, FastLanesError> {
+/// What a take by the indices 2 and 0 gives.
+fn taken(array: &ArrayRef, alloc: Global) -> Result<ArrayRef, FastLanesError> {
     let indices = PrimitiveArray::from_options(alloc, &[Some(2u32), Some(0)])?.into_array();
-    Ok(are_sevens(&array.take(alloc, &indices)?, alloc, 2, true))
+    array.take(alloc, &indices)
 }
 
-fn takes_by_copies(array: &ArrayRef, alloc: Global) -> Result<bool, FastLanesError> {
+/// What a take by four copies of the index 1 gives.
+fn taken_by_copies(array: &ArrayRef, alloc: Global) -> Result<ArrayRef, FastLanesError> {
     let one = Scalar::primitive(PValue::U8(1), Nullability::NonNullable);
     let indices = ConstantArray::new(one, 4)?.into_array();
-    Ok(are_sevens(&array.take(alloc, &indices)?, alloc, 4, true))
+    array.take(alloc, &indices)
 }
 
-fn takes_ranges(array: &ArrayRef, alloc: Global) -> Result<bool, FastLanesError> {
-    Ok(are_sevens(
-        &array.take_ranges(alloc, &[(1, 2), (0, 3)])?,
-        alloc,
-        5,
-        true,
-    ))
+fn takes_ranges(array: &ArrayRef, alloc: Global) -> bool {
+    gave_sevens(array.take_ranges(alloc, &[(1, 2), (0, 3)]), alloc, 5, true)
 }
 
 #[test]
 fn selects_copies(rt: HostRuntime) -> Result<(), Fail> {
+    let alloc = rt.alloc();
     let array = sevens()?;
-    assert!(rt; slices(&array, rt.alloc())?);
-    assert!(rt; copies(&array, rt.alloc())?);
-    assert!(rt; decodes(&array, rt.alloc())?);
-    assert!(rt; takes(&array, rt.alloc())?);
-    assert!(rt; takes_by_copies(&array, rt.alloc())?);
-    assert!(rt; takes_ranges(&array, rt.alloc())?);
+    assert!(rt; slices(&array, alloc));
+    assert!(rt; gave_sevens(array.try_clone(alloc), alloc, 3, false));
+    assert!(rt; gave_sevens(array.decode(alloc), alloc, 3, true));
+    assert!(rt; gave_sevens(taken(&array, alloc), alloc, 2, true));
+    assert!(rt; gave_sevens(taken_by_copies(&array, alloc), alloc, 4, true));
+    assert!(rt; takes_ranges(&array, alloc));
     Ok(())
 }
 
-fn filters(
-    array: &ArrayRef,
-    alloc: Global,
-    mask: &Mask,
-    len: usize,
-    plain: bool,
-) -> Result<bool, FastLanesError> {
+fn filters(array: &ArrayRef, alloc: Global, mask: &Mask, len: usize, plain: bool) -> bool {
     if mask.len() != array.len() {
-        return Ok(false);
+        return false;
     }
-    Ok(are_sevens(&array.filter(alloc, mask)?, alloc, len, plain))
+    gave_sevens(array.filter(alloc, mask), alloc, len, plain)
 }
 
-fn casts(array: &ArrayRef, alloc: Global) -> Result<Option<PValue>, FastLanesError> {
-    let target = DType::Primitive(PType::U64, Nullability::NonNullable);
-    let cast = array.cast(alloc, target)?;
-    if cast.len() != 3 {
-        return Ok(None);
+/// The last of three items, or `None` of a null and where there are not three.
+fn last_item(array: &ArrayRef, alloc: Global) -> Option<PValue> {
+    if array.len() != 3 {
+        return None;
     }
-    Ok(item_at(&cast, alloc, 2))
+    item_at(array, alloc, 2)
+}
+
+fn casts(array: &ArrayRef, alloc: Global) -> Option<PValue> {
+    match array.cast(
+        alloc,
+        DType::Primitive(PType::U64, Nullability::NonNullable),
+    ) {
+        Ok(cast) => last_item(&cast, alloc),
+        Err(_) => None,
+    }
 }
 
 #[test]
 fn filters_and_casts_copies(rt: HostRuntime) -> Result<(), Fail> {
+    let alloc = rt.alloc();
     let array = sevens()?;
-    assert!(rt; filters(&array, rt.alloc(), &Mask::AllTrue(3), 3, false)?);
-    assert!(rt; filters(&array, rt.alloc(), &Mask::AllFalse(3), 0, true)?);
-    assert_eq!(rt; casts(&array, rt.alloc())?, Some(PValue::U64(7)));
+    assert!(rt; filters(&array, alloc, &Mask::AllTrue(3), 3, false));
+    assert!(rt; filters(&array, alloc, &Mask::AllFalse(3), 0, true));
+    assert_eq!(rt; casts(&array, alloc), Some(PValue::U64(7)));
     Ok(())
 }
 
-fn equals_seven(alloc: Global) -> Result<Option<bool>, FastLanesError> {
-    let nullable = Scalar::primitive(PValue::I16(7), Nullability::Nullable);
-    let array = ConstantArray::new(nullable, 3)?.into_array();
-    let seven = Scalar::primitive(PValue::I16(7), Nullability::NonNullable);
-    let tests = array.compare(alloc, CompareOperator::Eq, &seven)?;
+/// What three tests say of the last item.
+fn last_test(tests: &BoolArray) -> Option<bool> {
     if tests.len() != 3 {
-        return Ok(None);
+        return None;
     }
-    Ok(tests.get(2))
+    tests.get(2)
+}
+
+fn equals_seven(array: &ArrayRef, alloc: Global) -> Option<bool> {
+    let DType::Primitive(PType::I16, _) = array.dtype() else {
+        return None;
+    };
+    let seven = Scalar::primitive(PValue::I16(7), Nullability::NonNullable);
+    match array.compare(alloc, CompareOperator::Eq, &seven) {
+        Ok(tests) => last_test(&tests),
+        Err(_) => None,
+    }
 }
 
 /// What a range test of three copies of 7 by 7 and 9, both allowed, says of the last one.
-fn lies_between(alloc: Global) -> Result<Option<bool>, FastLanesError> {
-    let nullable = Scalar::primitive(PValue::I16(7), Nullability::Nullable);
-    let array = ConstantArray::new(nullable, 3)?.into_array();
+fn lies_between(array: &ArrayRef, alloc: Global) -> Option<bool> {
+    let DType::Primitive(PType::I16, _) = array.dtype() else {
+        return None;
+    };
     let lower = Scalar::primitive(PValue::I16(7), Nullability::NonNullable);
     let upper = Scalar::primitive(PValue::I16(9), Nullability::NonNullable);
     let options = BetweenOptions {
         lower_strict: StrictComparison::NonStrict,
         upper_strict: StrictComparison::NonStrict,
     };
-    let tests = array.between(alloc, &lower, &upper, &options)?;
-    if tests.len() != 3 {
-        return Ok(None);
+    match array.between(alloc, &lower, &upper, &options) {
+        Ok(tests) => last_test(&tests),
+        Err(_) => None,
     }
-    Ok(tests.get(2))
 }
 
-/// The last item of the plain array of the three copies.
-fn last_plain(array: &ArrayRef, alloc: Global) -> Result<Option<PValue>, FastLanesError> {
-    let plain = array.to_primitive(alloc)?;
-    if plain.len() != 3 {
-        return Ok(None);
-    }
-    Ok(plain.get(2))
+fn is_all_valid(array: &ArrayRef, alloc: Global) -> bool {
+    matches!(array.validity(alloc), Ok(Validity::AllValid))
 }
 
 /// Constant, sorted, and not strictly.
-fn orders(array: &ArrayRef, alloc: Global) -> Result<bool, FastLanesError> {
-    let rises = array.is_sorted(alloc, false)? && !array.is_sorted(alloc, true)?;
-    Ok(rises && array.is_constant(alloc)?)
+fn orders(array: &ArrayRef, alloc: Global) -> bool {
+    matches!(array.is_sorted(alloc, false), Ok(true))
+        && matches!(array.is_sorted(alloc, true), Ok(false))
+        && matches!(array.is_constant(alloc), Ok(true))
 }
 
 #[test]
 fn answers_on_copies(rt: HostRuntime) -> Result<(), Fail> {
+    let alloc = rt.alloc();
     let array = sevens()?;
-    assert!(rt; matches!(array.validity(rt.alloc())?, Validity::AllValid));
-    assert!(rt; orders(&array, rt.alloc())?);
-    assert_eq!(rt; last_plain(&array, rt.alloc())?, Some(PValue::I16(7)));
+    assert!(rt; is_all_valid(&array, alloc));
+    assert!(rt; orders(&array, alloc));
+    assert_eq!(rt; last_plain(&array, alloc), Some(PValue::I16(7)));
     assert!(rt; array.as_constant().is_some());
     assert!(rt; array.dtype() == DType::Primitive(PType::I16, Nullability::Nullable));
-    assert_eq!(rt; equals_seven(rt.alloc())?, Some(true));
-    assert_eq!(rt; lies_between(rt.alloc())?, Some(true));
+    assert_eq!(rt; equals_seven(&array, alloc), Some(true));
+    assert_eq!(rt; lies_between(&array, alloc), Some(true));
     Ok(())
 }

@@ -25,3 +25,19 @@ pub(crate) fn truth_at(array: &ArrayRef, alloc: Global, i: usize) -> Option<bool
         Err(_) => None,
     }
 }
+
+/// The last of three integers, or `None` of a null and where there are not three.
+fn last_of(plain: &PrimitiveArray) -> Option<PValue> {
+    if plain.len() != 3 {
+        return None;
+    }
+    plain.get(2)
+}
+
+/// The last of three integers of an array's plain array.
+pub(crate) fn last_plain(array: &ArrayRef, alloc: Global) -> Option<PValue> {
+    match array.to_primitive(alloc) {
+        Ok(plain) => last_of(&plain),
+        Err(_) => None,
+    }
+}

@@ -9,22 +9,28 @@ use vortex_fastlanes::bitpack_decompress::unpack_single_primitive;
 use vortex_fastlanes::*;
 
 /// The best width of 5, 6 and 7.
-fn best_width(array: &PrimitiveArray, alloc: Global) -> Result<u8, FastLanesError> {
-    let histogram = bit_width_histogram(alloc, array)?;
-    find_best_bit_width(array.ptype(), &histogram)
+fn best_width(array: &PrimitiveArray, alloc: Global) -> Option<u8> {
+    let histogram = bit_width_histogram(alloc, array).ok()?;
+    find_best_bit_width(array.ptype(), &histogram).ok()
+}
+
+/// An item of bytes packed at width 3.
+fn item_of(packed: &[u8], i: usize) -> Option<u8> {
+    if packed.len() < 384 || i >= 1024 {
+        return None;
+    }
+    Some(unpack_single_primitive(packed, 3, i))
 }
 
 /// An item of an array of bytes packed at width 3.
-fn packed_item(array: &PrimitiveArray, alloc: Global, i: usize) -> Result<u8, FastLanesError> {
-    if array.ptype() != PType::U8 || i >= 1024 {
-        return Ok(0);
+fn packed_item(array: &PrimitiveArray, alloc: Global, i: usize) -> Option<u8> {
+    if array.ptype() != PType::U8 {
+        return None;
     }
-    let packed = bitpack_unchecked(alloc, array, 3)?;
-    let bytes = packed.as_slice();
-    if bytes.len() < 384 {
-        return Ok(0);
+    match bitpack_unchecked(alloc, array, 3) {
+        Ok(packed) => item_of(packed.as_slice(), i),
+        Err(_) => None,
     }
-    Ok(unpack_single_primitive(bytes, 3, i))
 }
 
 /// How many words three bytes at width 3 have, and the first of them.
@@ -34,17 +40,20 @@ fn first_word(alloc: Global) -> Result<(usize, u8), FastLanesError> {
 }
 
 /// How many bases and deltas an array has.
-fn parts(array: &PrimitiveArray, alloc: Global) -> Result<(usize, usize), FastLanesError> {
-    let (bases, deltas) = delta_compress(alloc, array)?;
-    Ok((bases.len(), deltas.len()))
+fn parts(array: &PrimitiveArray, alloc: Global) -> Option<(usize, usize)> {
+    match delta_compress(alloc, array) {
+        Ok((bases, deltas)) => Some((bases.len(), deltas.len())),
+        Err(_) => None,
+    }
 }
 
 #[test]
 fn packs_a_few_bytes(rt: HostRuntime) -> Result<(), Fail> {
-    let array = PrimitiveArray::from_options(rt.alloc(), &[Some(5u8), Some(6), Some(7)])?;
-    assert!(rt; best_width(&array, rt.alloc())? == 3);
-    assert!(rt; packed_item(&array, rt.alloc(), 2)? == 7);
-    assert!(rt; parts(&array, rt.alloc())? == (128, 1024));
+    let alloc = rt.alloc();
+    let array = PrimitiveArray::from_options(alloc, &[Some(5u8), Some(6), Some(7)])?;
+    assert!(rt; best_width(&array, alloc) == Some(3));
+    assert!(rt; packed_item(&array, alloc, 2) == Some(7));
+    assert!(rt; parts(&array, alloc) == Some((128, 1024)));
     Ok(())
 }
 

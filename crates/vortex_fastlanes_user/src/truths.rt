@@ -14,28 +14,33 @@ fn truths(alloc: Global) -> Result<ArrayRef, FastLanesError> {
     Ok(BoolArray::new(bits, Validity::NonNullable)?.into_array())
 }
 
-fn slices(array: &ArrayRef, alloc: Global) -> Result<Option<bool>, FastLanesError> {
-    if array.len() != 3 {
-        return Ok(None);
+/// The truth value at an index of what an operation gave.
+fn truth_of(array: Result<ArrayRef, FastLanesError>, alloc: Global, i: usize) -> Option<bool> {
+    match array {
+        Ok(array) => truth_at(&array, alloc, i),
+        Err(_) => None,
     }
-    Ok(truth_at(&array.slice(alloc, 1..2)?, alloc, 0))
 }
 
-fn copies(array: &ArrayRef, alloc: Global) -> Result<Option<bool>, FastLanesError> {
-    Ok(truth_at(&array.try_clone(alloc)?, alloc, 2))
+fn slices(array: &ArrayRef, alloc: Global) -> Option<bool> {
+    if array.len() != 3 {
+        return None;
+    }
+    truth_of(array.slice(alloc, 1..2), alloc, 0)
 }
 
-fn decodes(array: &ArrayRef, alloc: Global) -> Result<Option<bool>, FastLanesError> {
-    Ok(truth_at(&array.decode(alloc)?, alloc, 1))
+fn allows_no_null(array: &ArrayRef, alloc: Global) -> bool {
+    matches!(array.validity(alloc), Ok(Validity::NonNullable))
 }
 
 #[test]
 fn keeps_truth_values(rt: HostRuntime) -> Result<(), Fail> {
-    let array = truths(rt.alloc())?;
-    assert_eq!(rt; slices(&array, rt.alloc())?, Some(false));
-    assert_eq!(rt; copies(&array, rt.alloc())?, Some(true));
-    assert_eq!(rt; decodes(&array, rt.alloc())?, Some(false));
-    assert!(rt; matches!(array.validity(rt.alloc())?, Validity::NonNullable));
+    let alloc = rt.alloc();
+    let array = truths(alloc)?;
+    assert_eq!(rt; slices(&array, alloc), Some(false));
+    assert_eq!(rt; truth_of(array.try_clone(alloc), alloc, 2), Some(true));
+    assert_eq!(rt; truth_of(array.decode(alloc), alloc, 1), Some(false));
+    assert!(rt; allows_no_null(&array, alloc));
     Ok(())
 }
 
@@ -54,12 +59,13 @@ fn cast_refused(array: &ArrayRef, alloc: Global) -> Option<FastLanesError> {
 
 #[test]
 fn refuses_operations(rt: HostRuntime) -> Result<(), Fail> {
-    let array = truths(rt.alloc())?;
-    assert_eq!(rt; array.take(rt.alloc(), &array).err(), REFUSED);
-    assert_eq!(rt; array.take_ranges(rt.alloc(), &[(9, 9)]).err(), REFUSED);
-    assert_eq!(rt; filter_refused(&array, rt.alloc()), REFUSED);
-    assert_eq!(rt; cast_refused(&array, rt.alloc()), REFUSED);
-    assert_eq!(rt; array.to_primitive(rt.alloc()).err(), REFUSED);
+    let alloc = rt.alloc();
+    let array = truths(alloc)?;
+    assert_eq!(rt; array.take(alloc, &array).err(), REFUSED);
+    assert_eq!(rt; array.take_ranges(alloc, &[(9, 9)]).err(), REFUSED);
+    assert_eq!(rt; filter_refused(&array, alloc), REFUSED);
+    assert_eq!(rt; cast_refused(&array, alloc), REFUSED);
+    assert_eq!(rt; array.to_primitive(alloc).err(), REFUSED);
     Ok(())
 }
 
@@ -85,10 +91,11 @@ fn between_refused(array: &ArrayRef, alloc: Global) -> Option<FastLanesError> {
 
 #[test]
 fn refuses_questions(rt: HostRuntime) -> Result<(), Fail> {
-    let array = truths(rt.alloc())?;
-    assert_eq!(rt; compare_refused(&array, rt.alloc()), REFUSED);
-    assert_eq!(rt; between_refused(&array, rt.alloc()), REFUSED);
-    assert_eq!(rt; array.is_sorted(rt.alloc(), false).err(), REFUSED);
-    assert_eq!(rt; array.is_constant(rt.alloc()).err(), REFUSED);
+    let alloc = rt.alloc();
+    let array = truths(alloc)?;
+    assert_eq!(rt; compare_refused(&array, alloc), REFUSED);
+    assert_eq!(rt; between_refused(&array, alloc), REFUSED);
+    assert_eq!(rt; array.is_sorted(alloc, false).err(), REFUSED);
+    assert_eq!(rt; array.is_constant(alloc).err(), REFUSED);
     Ok(())
 }

@@ -1,4 +1,4 @@
-use Rattle.std.proofs.Common.{◌≡◌, ◌+◌, ◌-◌, ◌*◌, ◌≤◌, ◌<◌, ◌++◌, ℕ, min, length, map, arith, ap, sym, ◌∙◌}
+use Rattle.std.proofs.Common.{◌≡◌, ◌+◌, ◌-◌, ◌*◌, ◌++◌, ℕ, length, map, arith, ap, sym, ◌∙◌}
 use Rattle.fastlanes.specs.Layout.{pattern_at}
 use Rattle.fl_types.specs.Bits.{table}
 use Rattle.fl_types.specs.Integers.{read_as}
@@ -43,3 +43,11 @@ returns-clause-items g c =
     let within = c.requires.offset in
     let all : length c.loop-j.values.items ≡ c.args.len = omega arith in
     c.loop-j.invariant.items ∙ ap (table (λ i. item (c.args.offset + i))) all
+
+pub returns-clause-long : goal.returns-clause-long
+returns-clause-long g c =
+    let ended = c.chunk_count-j-end.ensures in
+    let last = c.loop-j-test.false in
+    let so_far = c.loop-j.invariant.long in
+    let within = c.requires.offset in
+    omega arith

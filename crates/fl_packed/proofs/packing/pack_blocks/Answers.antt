@@ -1,4 +1,5 @@
-use Rattle.std.proofs.Common.{length, arith}
+use Rattle.std.proofs.Common.{◌≡◌, length, arith, ap, ◌∙◌}
+use Rattle.fl_patches.specs.PatchMaps.{chunk_count}
 use Rattle.fl_packed.specs.Widths.{blocks_of}
 use Rattle.fl_packed.proofs.Joined.{packed_more}
 use Rattle.fl_packed.proofs.packing.pack_blocks.Goals as goal
@@ -16,3 +17,17 @@ loop-j-preserved g c =
       each = packed_more g.T.Number.value g.T.NativePType.PTYPE g.T.Physical.FastLanes.T g.T.Physical.FastLanes.LANES (blocks_of c.args.widths) c.args.items.now c.chunk_of.result.now c.loop-j.bytes.items c.push_block.new.bytes.items c.loop-j.j (length c.loop-j.bytes.items) _ _ _ g.met.T.Physical.FastLanes.shape c.requires.joined (omega arith)
           so_far width c.chunk_of.ensures.chunk c.in_ok-push_block.ensures.before c.in_ok-push_block.ensures.packed c.loop-j.invariant.each;
     }
+
+pub returns-clause-long : goal.returns-clause-long
+returns-clause-long g c =
+    let last = c.loop-j-test.false in
+    let ended = c.chunk_count-j-end.ensures in
+    let reached = c.loop-j.auto.j-end in
+    let all : c.loop-j.j ≡ chunk_count (length c.args.items.now) = omega arith in
+    c.loop-j.invariant.long ∙ (ap (λ n. (blocks_of c.args.widths).start n) all ∙ c.requires.joined.last)
+
+pub returns-clause-each : goal.returns-clause-each
+returns-clause-each g c j h =
+    let last = c.loop-j-test.false in
+    let ended = c.chunk_count-j-end.ensures in
+    c.loop-j.invariant.each j (omega arith)

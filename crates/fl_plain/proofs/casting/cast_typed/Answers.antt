@@ -1,48 +1,33 @@
-use Rattle.std.proofs.Common.{◌≡◌, ◌<◌, IsTrue, None, true, map, length, refl, arith, take, option_map}
-use Rattle.std.proofs.lemmas.List.{length-map, take_all}
-use Rattle.std.specs.List.{list_all}
-use Rattle.fl_types.specs.Validities.{items_of, covers}
-use Rattle.fl_plain.specs.Columns.{option_all}
-use Rattle.fl_types.specs.Integers.{fits}
-use Rattle.fl_plain.proofs.CastLaws.{some_if}
-use Rattle.fl_plain.proofs.ItemLaws.{length-items_of}
-use Rattle.fl_plain.proofs.ListLaws.{all_more, taken_more}
+use Rattle.std.proofs.Common.{map, option_map, refl, take}
+use Rattle.fl_types.specs.Slots.{integers_of}
+use Rattle.fl_types.specs.Validities.{items_of, masked}
+use Rattle.fl_plain.proofs.GatherLaws.{covers_read, cast_more, cast_all, cast_fails, cast_nulls, items_all}
 use Rattle.fl_plain.proofs.casting.cast_typed.Goals as goal
 
 pub loop-i-preserved : goal.loop-i-preserved
 loop-i-preserved g c =
-    let i = c.loop-i.i in
-    let slots = map g.S.Number.value c.as_slice-items.result.now in
-    let items = items_of c.args.validity.now slots in
-    let covered : IsTrue (covers c.args.validity.now (length slots)) = rw c.as_slice-items.ensures c.requires.covers in
-    let each : length items ≡ length slots = length-items_of c.args.validity.now slots covered in
-    let all = length-map c.as_slice-items.result.now g.S.Number.value in
-    let within : i < length items = omega arith in
-    let x = option_map g.S.Number.value c.item_at.result in
-    let cast = some_if (option_all (fits g.T.NativePType.PTYPE) x) (option_map g.T.Number.value c.in-Some.item) x c.in-Some.ensures in
-    record {
-      even = c.in_ok-push.ensures.even;
-      fit = all_more (option_all (fits g.T.NativePType.PTYPE)) items i None within c.loop-i.invariant.fit (rw (← c.item_at.ensures) cast.0);
-      items = taken_more _ _ items _ x None i c.in_ok-push.ensures.items c.loop-i.invariant.items cast.1 c.item_at.ensures within;
-    }
+    let value = g.T.Number.value in
+    let more = cast_more g.S.Number.value c.as_slice-items.result.now (integers_of c.args.slots.now) c.args.validity.now g.T.NativePType.PTYPE c.loop-i.i (masked c.loop-i.cast.bits (map value c.loop-i.cast.slots.items)) (masked c.push.new.self.bits (map value c.push.new.self.slots.items)) (option_map value c.in-Some.item) (option_map g.S.Number.value c.item_at.result) c.as_slice-items.ensures c.requires.covers c.loop-i-test.true c.loop-i.invariant.fit c.loop-i.invariant.items c.in_ok-push.ensures.items c.in-Some.ensures c.item_at.ensures in
+    record { even = c.in_ok-push.ensures.even; fit = more.0; items = more.1 }
+
+pub returns-in_default : goal.returns-in_default
+returns-in_default g c = cast_fails g.S.Number.value c.as_slice-items.result.now (integers_of c.args.slots.now) c.args.validity.now g.T.NativePType.PTYPE c.args.nullability c.loop-i.i (option_map g.S.Number.value c.item_at.result) c.as_slice-items.ensures c.requires.covers c.loop-i-test.true c.in_default.ensures c.item_at.ensures
 
 pub finish-requires-clause-nulls : goal.finish-requires-clause-nulls
-finish-requires-clause-nulls g c =
-    let slots = map g.S.Number.value c.as_slice-items.result.now in
-    let items = items_of c.args.validity.now slots in
-    let covered : IsTrue (covers c.args.validity.now (length slots)) = rw c.as_slice-items.ensures c.requires.covers in
-    let each : length items ≡ length slots = length-items_of c.args.validity.now slots covered in
-    let all = length-map c.as_slice-items.result.now g.S.Number.value in
-    let full : take c.loop-i.i items ≡ items = take_all c.loop-i.i items (omega arith) in
-    rw (c.loop-i.invariant.items, full, c.as_slice-items.ensures) c.requires.nulls
+finish-requires-clause-nulls g c = cast_nulls g.S.Number.value c.as_slice-items.result.now (integers_of c.args.slots.now) c.args.validity.now c.args.nullability c.loop-i.i (masked c.loop-i.cast.bits (map g.T.Number.value c.loop-i.cast.slots.items)) c.as_slice-items.ensures c.requires.covers c.loop-i-test.false c.loop-i.invariant.items c.requires.nulls
 
 pub returns : goal.returns
 returns g c =
+    let zs = integers_of c.args.slots.now in
     let slots = map g.S.Number.value c.as_slice-items.result.now in
-    let items = items_of c.args.validity.now slots in
-    let covered : IsTrue (covers c.args.validity.now (length slots)) = rw c.as_slice-items.ensures c.requires.covers in
-    let each : length items ≡ length slots = length-items_of c.args.validity.now slots covered in
-    let all = length-map c.as_slice-items.result.now g.S.Number.value in
-    let full : take c.loop-i.i items ≡ items = take_all c.loop-i.i items (omega arith) in
-    let fit : list_all (option_all (fits g.T.NativePType.PTYPE)) items ≡ true = rw full at c.loop-i.invariant.fit in
-    rw (c.finish.ensures, c.loop-i.invariant.items, full, ← c.as_slice-items.ensures, fit) refl
+    let cast = masked c.loop-i.cast.bits (map g.T.Number.value c.loop-i.cast.slots.items) in
+    cast_all g.T.NativePType.PTYPE c.args.nullability cast (take c.loop-i.i (items_of c.args.validity.now slots)) (items_of c.args.validity.now zs) c.finish.result c.finish.ensures c.loop-i.invariant.items (items_all g.S.Number.value c.as_slice-items.result.now zs c.args.validity.now c.loop-i.i c.as_slice-items.ensures c.requires.covers c.loop-i-test.false) c.loop-i.invariant.fit
+
+pub item_at-requires-clause-covers : goal.item_at-requires-clause-covers
+item_at-requires-clause-covers g c = covers_read g.S.Number.value c.as_slice-items.result.now (integers_of c.args.slots.now) c.args.validity.now c.as_slice-items.ensures c.requires.covers
+
+pub loop-i-init : goal.loop-i-init
+loop-i-init g c = record { even = c.in_ok-cast.ensures.even; fit = refl; items = c.in_ok-cast.ensures.items }
+
+pub item_at-requires-clause-range : goal.item_at-requires-clause-range
+item_at-requires-clause-range g c = c.loop-i-test.true

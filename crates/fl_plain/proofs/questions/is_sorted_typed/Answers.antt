@@ -1,27 +1,24 @@
-use Rattle.std.proofs.Common.{◌≡◌, ◌<◌, ◌+◌, ◌-◌, IsTrue, None, map, length, sym, arith}
-use Rattle.std.proofs.lemmas.List.{length-map}
-use Rattle.fl_types.specs.Validities.{items_of, covers}
+use Rattle.std.proofs.Common.{map, None, option_map}
+use Rattle.fl_types.specs.Slots.{integers_of}
+use Rattle.fl_types.specs.Validities.{items_of}
 use Rattle.fl_plain.specs.Questions.{in_order}
-use Rattle.fl_plain.proofs.ItemLaws.{length-items_of}
-use Rattle.fl_plain.proofs.QuestionLaws.{next_fails, next_holds}
+use Rattle.fl_plain.proofs.GatherLaws.{covers_read, pairs_more, pairs_fail, pairs_all}
 use Rattle.fl_plain.proofs.questions.is_sorted_typed.Goals as goal
 
+pub loop-i-preserved : goal.loop-i-preserved
+loop-i-preserved g c = pairs_more (in_order c.args.strict) (items_of c.args.validity.now (map g.T.Number.value c.as_slice-items.result.now)) None c.loop-i.i (option_map g.T.Number.value c.item_at.result) (option_map g.T.Number.value c.item_at-in-loop-i.result) c.loop-i.auto.i c.loop-i.invariant c.if-not-is_in_order.ensures c.item_at.ensures c.item_at-in-loop-i.ensures
+
 pub returns-then-not-is_in_order : goal.returns-then-not-is_in_order
-returns-then-not-is_in_order g c =
-    let slots = map g.T.Number.value c.as_slice-items.result.now in
-    let items = items_of c.args.validity.now slots in
-    let covered : IsTrue (covers c.args.validity.now (length slots)) = rw c.as_slice-items.ensures c.requires.covers in
-    let each : length items ≡ length slots = length-items_of c.args.validity.now slots covered in
-    let all = length-map c.as_slice-items.result.now g.T.Number.value in
-    let next : c.loop-i.i - 1 + 1 ≡ c.loop-i.i = omega arith in
-    let within : c.loop-i.i - 1 + 1 < length items = omega arith in
-    rw (← c.as_slice-items.ensures) (sym (next_fails (in_order c.args.strict) items (c.loop-i.i - 1) None within (rw (next, ← c.item_at.ensures, ← c.item_at-in-loop-i.ensures) (sym c.if-not-is_in_order.ensures))))
+returns-then-not-is_in_order g c = pairs_fail (in_order c.args.strict) g.T.Number.value c.as_slice-items.result.now (integers_of c.args.slots.now) c.args.validity.now c.loop-i.i (option_map g.T.Number.value c.item_at.result) (option_map g.T.Number.value c.item_at-in-loop-i.result) c.as_slice-items.ensures c.requires.covers c.loop-i.auto.i c.loop-i-test.true c.if-not-is_in_order.ensures c.item_at.ensures c.item_at-in-loop-i.ensures
 
 pub returns : goal.returns
-returns g c =
-    let slots = map g.T.Number.value c.as_slice-items.result.now in
-    let items = items_of c.args.validity.now slots in
-    let covered : IsTrue (covers c.args.validity.now (length slots)) = rw c.as_slice-items.ensures c.requires.covers in
-    let each : length items ≡ length slots = length-items_of c.args.validity.now slots covered in
-    let all = length-map c.as_slice-items.result.now g.T.Number.value in
-    rw (← c.as_slice-items.ensures) (sym (next_holds (in_order c.args.strict) items None (λ k h. c.loop-i.invariant k (omega arith))))
+returns g c = pairs_all (in_order c.args.strict) g.T.Number.value c.as_slice-items.result.now (integers_of c.args.slots.now) c.args.validity.now c.loop-i.i c.as_slice-items.ensures c.requires.covers c.loop-i-test.false c.loop-i.invariant
+
+pub item_at-requires-clause-covers : goal.item_at-requires-clause-covers
+item_at-requires-clause-covers g c = covers_read g.T.Number.value c.as_slice-items.result.now (integers_of c.args.slots.now) c.args.validity.now c.as_slice-items.ensures c.requires.covers
+
+pub item_at-requires-in-loop-i-clause-covers : goal.item_at-requires-in-loop-i-clause-covers
+item_at-requires-in-loop-i-clause-covers g c = covers_read g.T.Number.value c.as_slice-items.result.now (integers_of c.args.slots.now) c.args.validity.now c.as_slice-items.ensures c.requires.covers
+
+pub item_at-requires-in-loop-i-clause-range : goal.item_at-requires-in-loop-i-clause-range
+item_at-requires-in-loop-i-clause-range g c = c.loop-i-test.true

@@ -1,32 +1,21 @@
-use Rattle.std.proofs.Common.{◌≡◌, ◌<◌, IsTrue, None, map, length, sym, arith, option_map, unsigned_abs}
-use Rattle.std.proofs.lemmas.List.{length-map, map_more}
-use Rattle.fl_types.specs.Validities.{items_of, covers}
-use Rattle.fl_plain.specs.Operations.{is_in_range}
-use Rattle.fl_plain.proofs.ItemLaws.{length-items_of}
-use Rattle.fl_plain.proofs.ListLaws.{all_more}
-use Rattle.fl_plain.proofs.SelectionLaws.{all_positions}
+use Rattle.std.proofs.Common.{option_map}
+use Rattle.fl_types.specs.Slots.{integers_of}
+use Rattle.fl_plain.proofs.GatherLaws.{covers_read, positions_more, positions_fail, positions_end}
 use Rattle.fl_plain.proofs.selection.positions_typed.Goals as goal
 
 pub loop-i-preserved : goal.loop-i-preserved
 loop-i-preserved g c =
-    let i = c.loop-i.i in
-    let slots = map g.T.Number.value c.as_slice-indices.result.now in
-    let items = items_of c.args.validity.now slots in
-    let covered : IsTrue (covers c.args.validity.now (length slots)) = rw c.as_slice-indices.ensures c.requires.covers in
-    let each : length items ≡ length slots = length-items_of c.args.validity.now slots covered in
-    let all = length-map c.as_slice-indices.result.now g.T.Number.value in
-    let within : i < length items = omega arith in
-    let more = map_more (option_map unsigned_abs) items i None within in
-    record {
-      range = all_more (is_in_range c.args.len) items i None within c.loop-i.invariant.range (rw (← c.item_at-index.ensures) (sym c.if-not-names_item.ensures));
-      items = cc (c.in_ok-push.ensures.items, c.position_of.ensures, c.item_at-index.ensures, c.loop-i.invariant.items);
-    }
+    let more = positions_more g.T.Number.value c.as_slice-indices.result.now (integers_of c.args.slots.now) c.args.validity.now c.args.len c.loop-i.i c.loop-i.positions.items c.push.new.self.items c.position_of.result (option_map g.T.Number.value c.item_at-index.result) c.as_slice-indices.ensures c.requires.covers c.loop-i-test.true c.loop-i.invariant.range c.loop-i.invariant.items c.in_ok-push.ensures.items c.if-not-names_item.ensures c.position_of.ensures c.item_at-index.ensures in
+    record { range = more.0; items = more.1 }
+
+pub returns-then-not-names_item : goal.returns-then-not-names_item
+returns-then-not-names_item g c = positions_fail g.T.Number.value c.as_slice-indices.result.now (integers_of c.args.slots.now) c.args.validity.now c.args.len c.loop-i.i (option_map g.T.Number.value c.item_at-index.result) c.as_slice-indices.ensures c.requires.covers c.loop-i-test.true c.if-not-names_item.ensures c.item_at-index.ensures
 
 pub returns : goal.returns
-returns g c =
-    let slots = map g.T.Number.value c.as_slice-indices.result.now in
-    let items = items_of c.args.validity.now slots in
-    let covered : IsTrue (covers c.args.validity.now (length slots)) = rw c.as_slice-indices.ensures c.requires.covers in
-    let each : length items ≡ length slots = length-items_of c.args.validity.now slots covered in
-    let all = length-map c.as_slice-indices.result.now g.T.Number.value in
-    rw (← c.as_slice-indices.ensures) (all_positions c.args.len items _ c.loop-i.i (omega arith) c.loop-i.invariant.range c.loop-i.invariant.items)
+returns g c = positions_end g.T.Number.value c.as_slice-indices.result.now (integers_of c.args.slots.now) c.args.validity.now c.args.len c.loop-i.i c.loop-i.positions.items c.as_slice-indices.ensures c.requires.covers c.loop-i-test.false c.loop-i.invariant.range c.loop-i.invariant.items
+
+pub item_at-index-requires-clause-covers : goal.item_at-index-requires-clause-covers
+item_at-index-requires-clause-covers g c = covers_read g.T.Number.value c.as_slice-indices.result.now (integers_of c.args.slots.now) c.args.validity.now c.as_slice-indices.ensures c.requires.covers
+
+pub item_at-index-requires-clause-range : goal.item_at-index-requires-clause-range
+item_at-index-requires-clause-range g c = c.loop-i-test.true

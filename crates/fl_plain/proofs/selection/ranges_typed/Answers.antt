@@ -1,9 +1,10 @@
-use Rattle.std.proofs.Common.{◌≡◌, ◌∙◌, map, length, sym, ap, take, is_some}
+use Rattle.std.proofs.Common.{◌≡◌, ◌∙◌, refl, get_or, map, length, sym, ap, take, is_some}
 use Rattle.fl_types.specs.Validities.{items_of, masked}
 use Rattle.std.proofs.lemmas.List.{length-map}
 use Rattle.fl_plain.specs.Operations.{range_fits}
-use Rattle.fl_types.specs.Slots.{integers_of}
+use Rattle.fl_types.specs.Slots.{integers_of, ptype_of}
 use Rattle.fl_plain.proofs.ListLaws.{all_at, all_ranges}
+use Rattle.fl_plain.proofs.GatherLaws.{covers_read, ranges_more, ranges_all}
 use Rattle.fl_plain.proofs.SelectionLaws.{stands}
 use Rattle.fl_plain.proofs.selection.ranges_typed.Goals as goal
 
@@ -18,3 +19,18 @@ finish-requires-clause-nulls g c =
     let slots = integers_of c.args.slots.now in
     let items = items_of c.args.validity.now slots in
     stands c.args.validity.now slots c.nullability.result (masked c.loop-range.taken.bits (map g.T.Number.value c.loop-range.taken.slots.items)) c.nullability.ensures (λ h. rw c.loop-range.invariant.items (all_ranges is_some items (take c.loop-range.range-index c.args.ranges.now) h))
+
+pub loop-range-init : goal.loop-range-init
+loop-range-init g c = record { even = c.in_ok-taken.ensures.even; items = c.in_ok-taken.ensures.items }
+
+pub loop-range-preserved : goal.loop-range-preserved
+loop-range-preserved g c = record {
+  even = c.in_ok-push_range.ensures.even;
+  items = ranges_more c.args.validity.now (map g.T.Number.value c.as_slice-items.result.now) (integers_of c.args.slots.now) c.args.ranges.now c.loop-range.range-index (get_or c.args.ranges.now c.loop-range.range-index (0, 0)) (masked c.loop-range.taken.bits (map g.T.Number.value c.loop-range.taken.slots.items)) (masked c.push_range.new.gathered.bits (map g.T.Number.value c.push_range.new.gathered.slots.items)) c.as_slice-items.ensures c.in_ok-push_range.ensures.items c.loop-range.invariant.items refl c.loop-range-test.true;
+}
+
+pub push_range-requires-clause-covers : goal.push_range-requires-clause-covers
+push_range-requires-clause-covers g c = covers_read g.T.Number.value c.as_slice-items.result.now (integers_of c.args.slots.now) c.args.validity.now c.as_slice-items.ensures c.requires.covers
+
+pub returns : goal.returns
+returns g c = ranges_all c.args.validity.now (integers_of c.args.slots.now) c.args.ranges.now c.loop-range.range-index g.T.NativePType.PTYPE (ptype_of c.args.slots.now) c.nullability.result (masked c.loop-range.taken.bits (map g.T.Number.value c.loop-range.taken.slots.items)) c.finish.result c.finish.ensures c.requires.same c.nullability.ensures c.loop-range.invariant.items c.loop-range-test.false

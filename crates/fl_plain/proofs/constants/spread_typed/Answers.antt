@@ -1,0 +1,23 @@
+use Rattle.std.proofs.Common.{map, option_map, option_and_then, None, refl}
+use Rattle.fl_types.specs.Validities.{masked}
+use Rattle.fl_types.specs.Values.{integer_of}
+use Rattle.fl_plain.proofs.GatherLaws.{mapped_more, spread_all, nulls_kept, gathered_all}
+use Rattle.fl_plain.proofs.constants.spread_typed.Goals as goal
+
+pub loop-position-preserved : goal.loop-position-preserved
+loop-position-preserved g c = record {
+  even = c.in_ok-push.ensures.even;
+  items = mapped_more (option_and_then (λ i. option_map g.T.Number.value c.typed_value-value.result)) (masked c.loop-position.taken.bits (map g.T.Number.value c.loop-position.taken.slots.items)) (masked c.push.new.self.bits (map g.T.Number.value c.push.new.self.slots.items)) c.args.positions.now c.loop-position.position-index None (option_map g.T.Number.value c.value_where.result) c.in_ok-push.ensures.items c.loop-position.invariant.items c.value_where.ensures c.loop-position-test.true;
+}
+
+pub finish-requires-clause-nulls : goal.finish-requires-clause-nulls
+finish-requires-clause-nulls g c =
+    let value = g.T.Number.value in
+    let taken = masked c.loop-position.taken.bits (map value c.loop-position.taken.slots.items) in
+    nulls_kept c.args.nullability taken (map (option_and_then (λ i. option_map integer_of c.args.value)) c.args.positions.now) (spread_all value c.typed_value-value.result c.args.value taken c.args.positions.now c.loop-position.position-index c.typed_value-value.ensures c.loop-position.invariant.items c.loop-position-test.false) c.requires.nulls
+
+pub returns : goal.returns
+returns g c =
+    let value = g.T.Number.value in
+    let taken = masked c.loop-position.taken.bits (map value c.loop-position.taken.slots.items) in
+    gathered_all g.T.NativePType.PTYPE g.T.NativePType.PTYPE c.args.nullability taken (map (option_and_then (λ i. option_map integer_of c.args.value)) c.args.positions.now) c.finish.result c.finish.ensures refl (spread_all value c.typed_value-value.result c.args.value taken c.args.positions.now c.loop-position.position-index c.typed_value-value.ensures c.loop-position.invariant.items c.loop-position-test.false)

@@ -1,0 +1,33 @@
+use Rattle.std.proofs.Common.{map, option_map}
+use Rattle.fl_types.specs.Slots.{integers_of, ptype_of}
+use Rattle.fl_types.specs.Validities.{items_of, masked}
+use Rattle.fl_plain.specs.Selections.{item_at_position, items_at}
+use Rattle.fl_plain.proofs.GatherLaws.{covers_read, mapped_all, nulls_kept, gathered_all, position_below, taken_item_more}
+use Rattle.fl_plain.proofs.selection.take_typed.Goals as goal
+
+pub loop-position-preserved : goal.loop-position-preserved
+loop-position-preserved g c = record {
+  even = c.in_ok-push.ensures.even;
+  items = taken_item_more c.args.validity.now (map g.T.Number.value c.as_slice-items.result.now) (integers_of c.args.slots.now) c.args.positions.now c.loop-position.position-index (masked c.loop-position.taken.bits (map g.T.Number.value c.loop-position.taken.slots.items)) (masked c.push.new.self.bits (map g.T.Number.value c.push.new.self.slots.items)) (option_map g.T.Number.value c.item_at_position.result) c.as_slice-items.ensures c.in_ok-push.ensures.items c.loop-position.invariant.items c.item_at_position.ensures c.loop-position-test.true;
+}
+
+pub item_at_position-requires-clause-below : goal.item_at_position-requires-clause-below
+item_at_position-requires-clause-below g c = position_below g.T.Number.value c.as_slice-items.result.now (integers_of c.args.slots.now) c.args.positions.now c.loop-position.position-index c.as_slice-items.ensures c.requires.below c.loop-position-test.true
+
+pub finish-requires-clause-nulls : goal.finish-requires-clause-nulls
+finish-requires-clause-nulls g c =
+    let items = items_of c.args.validity.now (integers_of c.args.slots.now) in
+    let taken = masked c.loop-position.taken.bits (map g.T.Number.value c.loop-position.taken.slots.items) in
+    nulls_kept c.args.nullability taken (items_at items c.args.positions.now) (mapped_all (item_at_position items) taken c.args.positions.now c.loop-position.position-index c.loop-position.invariant.items c.loop-position-test.false) c.requires.nulls
+
+pub returns : goal.returns
+returns g c =
+    let items = items_of c.args.validity.now (integers_of c.args.slots.now) in
+    let taken = masked c.loop-position.taken.bits (map g.T.Number.value c.loop-position.taken.slots.items) in
+    gathered_all g.T.NativePType.PTYPE (ptype_of c.args.slots.now) c.args.nullability taken (items_at items c.args.positions.now) c.finish.result c.finish.ensures c.requires.same (mapped_all (item_at_position items) taken c.args.positions.now c.loop-position.position-index c.loop-position.invariant.items c.loop-position-test.false)
+
+pub item_at_position-requires-clause-covers : goal.item_at_position-requires-clause-covers
+item_at_position-requires-clause-covers g c = covers_read g.T.Number.value c.as_slice-items.result.now (integers_of c.args.slots.now) c.args.validity.now c.as_slice-items.ensures c.requires.covers
+
+pub loop-position-init : goal.loop-position-init
+loop-position-init g c = record { even = c.in_ok-taken.ensures.even; items = c.in_ok-taken.ensures.items }
