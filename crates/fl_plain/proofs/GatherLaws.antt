@@ -3,7 +3,7 @@ use Rattle.std.proofs.Common.{◌≡◌, ℕ, ℤ, ◌+◌, ◌-◌, ◌<◌, �
 use borrow.Author.Count.{below_more}
 use Rattle.std.specs.List.{list_all, flat_map}
 use Rattle.fl_types.specs.Bits.{between}
-use Rattle.std.proofs.lemmas.List.{map-append, map_more, take_all, length-map, replicate_more, take_more, flat_map_more, get_or-map}
+use Rattle.std.proofs.lemmas.List.{map-append, map_more, take_all, length-map, replicate_more, take_more, flat_map_more, get_or-map, append_assoc}
 use Rattle.fl_types.specs.Integers.{fits}
 use Rattle.fl_types.specs.Refusals.{Answers}
 use Rattle.fl_types.specs.Types.{can_be_null}
@@ -16,14 +16,14 @@ use Rattle.fl_types.specs.declared.dtype.Nullability.{Nullability}
 use Rattle.fl_types.specs.declared.error.FastLanesError.TheVariants.{CastOutOfRange, IndexOutOfBounds}
 use Rattle.fl_types.specs.declared.validity.Validity.{Validity}
 use Rattle.fl_plain.specs.Columns.{Plain, column_of_plain, option_all}
-use Rattle.fl_plain.specs.Operations.{cast_items, is_in_range, kept}
+use Rattle.fl_plain.specs.Operations.{cast_items, is_in_range, kept, range_fits}
 use Rattle.fl_plain.specs.Questions.{each_next}
 use Rattle.fl_plain.specs.Selections.{is_below_length, are_below_length, item_at_position, items_at, positions_in}
 use Rattle.fl_plain.proofs.CastLaws.{some_if}
 use Rattle.fl_plain.proofs.ItemLaws.{length-items_of, map_read}
-use Rattle.fl_plain.proofs.ListLaws.{all_at, all_fails, all_first, all_kept, all_more, kept_no, kept_yes, taken_more}
+use Rattle.fl_plain.proofs.ListLaws.{all_at, all_fails, all_first, all_kept, all_more, between_more, kept_no, kept_yes, taken_more}
 use Rattle.fl_plain.proofs.QuestionLaws.{next_fails, next_holds}
-use Rattle.fl_plain.proofs.SelectionLaws.{all_positions, stands}
+use Rattle.fl_plain.proofs.SelectionLaws.{all_positions, range_within, stands}
 use Rattle.std.proofs.lemmas.Option.{get_or_from_slice_get}
 
 -- one more item of a list that is mapped
@@ -236,6 +236,14 @@ pub ranges_all : (v : Validity) (zs : List ℤ) (ranges : List (ℕ × ℕ)) (i 
 ranges_all v zs ranges i t u n ys array made same nullable taken full =
     let all : take i ranges ≡ ranges = take_all i ranges full in
     rw (made, taken, all, nullable, same) refl
+
+-- one more item of a range
+pub range_more : {A : Type 0} (f : A → ℤ) (xs : List A) (v : Validity) (start len k : ℕ) (before old new : List (Option ℤ)) (y : Option ℤ) → IsTrue (covers v (length xs)) → IsTrue (range_fits (length xs) (start, len)) → k < len
+    → new ≡ old ++ y ∷ [] → old ≡ before ++ between start (start + k) (items_of v (map f xs)) → y ≡ get_or (items_of v (map f xs)) (start + k) None → new ≡ before ++ between start (start + (k + 1)) (items_of v (map f xs))
+range_more f xs v start len k before old new y covered range below added so read =
+    let long : length (items_of v (map f xs)) ≡ length xs = length-items_of v (map f xs) (rw length-map covered) ∙ length-map xs f in
+    let reach = range_within (length xs) start len k range below in
+    rw (added, so, between_more (items_of v (map f xs)) start k None (omega arith), read) (append_assoc before (between start (start + k) (items_of v (map f xs))) (get_or (items_of v (map f xs)) (start + k) None ∷ []))
 
 -- an item, as a list of the values has it
 pub value_read : {A : Type 0} (f : A → ℤ) (xs : List A) (i : ℕ) (x : A) → x ≡ get_or xs i x → i < length xs → get_or (map f xs) i (pos 0) ≡ f x

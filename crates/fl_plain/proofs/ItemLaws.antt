@@ -193,6 +193,11 @@ pub is_some-option_map : {A B : Type 0} (f : A → B) (x : Option A) → is_some
 is_some-option_map f None = refl
 is_some-option_map f (Some x) = refl
 
+-- the value of an item, 0 for a null
+pub slot_value : {A : Type 0} (f : A → ℤ) (item : Option A) (other slot : A) → slot ≡ unwrap_or item other → f other ≡ pos 0 → f slot ≡ unwrap_or (option_map f item) (pos 0)
+slot_value f None other slot e z = ap f e ∙ z
+slot_value f (Some x) other slot e z = ap f e
+
 rereads : (t : PType) (zs : List ℤ) → list_all (fits t) zs ≡ true → map (λ z. read_as t (pattern_of t z)) zs ≡ zs
 rereads t [] fit = refl
 rereads t (z ∷ zs) fit =

@@ -20,11 +20,11 @@ use fl_types::{
 };
 use std::alloc::Global;
 
-/// The value in another type, or `None` where the type doesn't have it.
-fn cast_value<S: NativePType, T: NativePType>(value: S) -> Option<T>
-    ensures { option_map T.value result ≡ (if fits T.PTYPE (S.value value) then Some (S.value value) else None) }
+/// The value of this type, or `None` where the type doesn't have it.
+fn cast_value<T: NativePType>(value: i128) -> Option<T>
+    ensures { option_map T.value result ≡ (if fits T.PTYPE value then Some value else None) }
 {
-    T::from_i128(value.as_i128())
+    T::from_i128(value)
 }
 
 /// The item in another type, or `None` where the type doesn't have it.
@@ -32,7 +32,7 @@ fn cast_item<S: NativePType, T: NativePType>(item: Option<S>) -> Option<Option<T
     ensures { option_map (option_map T.value) result ≡ (if option_all (fits T.PTYPE) (option_map S.value item) then Some (option_map S.value item) else None) }
 {
     match item {
-        Some(value) => match cast_value(value) {
+        Some(value) => match cast_value(value.as_i128()) {
             Some(cast) => Some(Some(cast)),
             None => None,
         },

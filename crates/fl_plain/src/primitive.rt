@@ -1,6 +1,6 @@
 //! Plain arrays of integers.
 
-ghost use Rattle.std.specs.Prelude.{◌≡◌, ◌≤◌, ◌<◌, ℤ, map, length, IfOk, IfSome, IsTrue, Ok, Some, None, option_map, pos, slice_index_or, unwrap_or};
+ghost use Rattle.std.specs.Prelude.{◌≡◌, ◌≤◌, ◌<◌, ℤ, map, length, IfOk, IfSome, IsTrue, Ok, Some, None, option_map, slice_index_or};
 ghost use Rattle.std.specs.List.{list_all};
 ghost use Rattle.fl_types.specs.Bits.{between};
 ghost use Rattle.fl_types.specs.Slots.{integers_of, ptype_of};
@@ -69,7 +69,7 @@ impl PrimitiveArray {
         let mut slots = Vec::with_capacity(alloc, options.len())?;
         let mut bits = BitList::new(alloc);
         for option in options {
-            slots.push(slot_of(*option))?;
+            slots.push(option.unwrap_or(T::zero()))?;
             bits.push(option.is_some())?;
         }
         PrimitiveArray::new(slots, Validity::Array(bits))
@@ -257,16 +257,6 @@ fn value_typed<T: NativePType>(slots: &Slots, i: usize) -> PValue
 {
     let items = T::as_slice(slots);
     items[i].into_pvalue()
-}
-
-/// The integer that stands for an item, 0 for a null.
-fn slot_of<T: NativePType>(item: Option<T>) -> T
-    ensures { T.value result ≡ unwrap_or (option_map T.value item) (pos 0) }
-{
-    match item {
-        Some(value) => value,
-        None => T::zero(),
-    }
 }
 
 /// Every slot lies in the type's range.

@@ -11,13 +11,6 @@ use fastlanes::FastLanes;
 use fl_types::{FastLanesError, NativePType, PType, Slots};
 use std::alloc::{AllocError, Global};
 
-/// The value whose pattern is that of another one.
-fn reread<P: FastLanes, S: NativePType<Physical = P>, T: NativePType<Physical = P>>(value: S) -> T
-    ensures { T.value result ≡ read_as T.PTYPE (pattern_of S.PTYPE (S.value value)) }
-{
-    T::from_physical(value.to_physical())
-}
-
 /// The values whose patterns are those of these values.
 fn reread_all<P: FastLanes, S: NativePType<Physical = P>, T: NativePType<Physical = P>>(
     alloc: Global,
@@ -27,7 +20,7 @@ fn reread_all<P: FastLanes, S: NativePType<Physical = P>, T: NativePType<Physica
 {
     let mut read = Vec::with_capacity(alloc, items.len())?;
     for item in items {
-        read.push(reread::<P, S, T>(*item))?;
+        read.push(T::from_physical(item.to_physical()))?;
     }
     Ok(read)
 }

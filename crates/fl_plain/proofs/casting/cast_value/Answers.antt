@@ -6,9 +6,9 @@ use Rattle.fl_plain.proofs.casting.cast_value.Goals as goal
 
 pub returns : goal.returns
 returns g c =
-    let z = c.as_i128.result in
+    let z = c.args.value in
     let fit : FitsSigned w128 z = search rules in
-    rw (← c.as_i128.ensures) (checked g.T.Number.value g.T.Number.fits g.T.NativePType.PTYPE z c.from_i128.result
+    checked g.T.Number.value g.T.Number.fits g.T.NativePType.PTYPE z c.from_i128.result
     (λ f. sym (g.met.T.NativePType.wraps_law z) ∙ g.met.T.Integral.wrap_law z f)
     (λ e. subst g.T.Number.fits (g.met.T.NativePType.wraps_law z ∙ e) (g.met.T.Integral.wrap_fits_law z))
-    (simp to_z-of_z at c.from_i128.ensures))
+    (simp to_z-of_z at c.from_i128.ensures)

@@ -1,6 +1,6 @@
 use Rattle.std.proofs.Common.{◌≡◌, ◌∙◌, ◌+◌, ◌++◌, ◌∷◌, [], map, take, option_map, is_some, unwrap_or, pos, refl, ap, arith}
 use Rattle.std.proofs.lemmas.List.{take_all, map_push, length_push}
-use Rattle.fl_plain.proofs.ItemLaws.{new_options, map_read, is_some-option_map}
+use Rattle.fl_plain.proofs.ItemLaws.{new_options, map_read, is_some-option_map, slot_value}
 use Rattle.fl_plain.proofs.primitive.PrimitiveArray.from_options.Goals as goal
 
 pub returns : goal.returns
@@ -20,10 +20,12 @@ loop-option-preserved g c =
     let more : map (option_map value) (take (i + 1) options) ≡ seen ++ x ∷ [] = map_read (option_map value) options i c.option-item.result c.loop-option-test.true c.option-item.is in
     let new_bits = map_push (λ item. is_some item) seen x in
     let new_slots = map_push (λ item. unwrap_or item (pos 0)) seen x in
-    let pushed = map_push value c.loop-option.slots.items c.slot_of.result in
+    let pushed = map_push value c.loop-option.slots.items c.unwrap_or.result in
     let bit : c.is_some.result ≡ is_some x = c.is_some.ensures ∙ is_some-option_map value c.option-item.result in
+    let zero : value c.zero.result ≡ pos 0 = ap value c.zero.ensures ∙ g.met.T.Zero.zero_law (g.met.T.Integral.exact_law) in
+    let slot : value c.unwrap_or.result ≡ unwrap_or x (pos 0) = slot_value value c.option-item.result c.zero.result c.unwrap_or.result c.unwrap_or.ensures zero in
     record {
       each = rw c.in_ok-push-2.ensures.ok (length_push c.loop-option.bits c.is_some.result ∙ ap (λ n. n + 1) c.loop-option.invariant.each);
       bits = rw (c.in_ok-push-2.ensures.ok, more, new_bits, bit, c.loop-option.invariant.bits) refl;
-      slots = rw (c.in_ok-push.ensures.items, more, new_slots, pushed, c.slot_of.ensures, c.loop-option.invariant.slots) refl;
+      slots = rw (c.in_ok-push.ensures.items, more, new_slots, pushed, slot, c.loop-option.invariant.slots) refl;
     }
