@@ -22,6 +22,7 @@ use fl_plain::{ConstantArray, PrimitiveArray, item_at};
 use fl_types::{
     FastLanesError, NativePType, Nullability, PValue, Scalar, Validity, match_each_integer_ptype,
 };
+use num_traits::{WrappingAdd, WrappingSub};
 use std::alloc::{AllocError, Global};
 
 /// A column less one reference.
@@ -142,7 +143,7 @@ fn common_reference<T: NativePType>(references: &[T]) -> Option<T>
 }
 
 /// The slot of an item less a reference, 0 of a null.
-fn difference<T: NativePType>(item: Option<T>, reference: T) -> T
+fn difference<T: NativePType + WrappingSub>(item: Option<T>, reference: T) -> T
     ensures { T.value result ≡ minus_reference T.PTYPE (T.value reference) (option_map T.value item) }
 {
     match item {
@@ -152,14 +153,14 @@ fn difference<T: NativePType>(item: Option<T>, reference: T) -> T
 }
 
 /// A slot plus a reference, modulo 2 to the type's bits.
-fn sum<T: NativePType>(slot: T, reference: T) -> T
+fn sum<T: NativePType + WrappingAdd>(slot: T, reference: T) -> T
     ensures { T.value result ≡ wrap T.PTYPE (T.value slot +ℤ T.value reference) }
 {
     slot.wrapping_add(&reference)
 }
 
 /// The slots of the items less a reference.
-fn differences<T: NativePType>(
+fn differences<T: NativePType + WrappingSub>(
     alloc: Global,
     items: &[T],
     validity: &Validity,
@@ -177,7 +178,7 @@ fn differences<T: NativePType>(
 }
 
 /// The slots of the items, each less the reference of its chunk.
-fn chunked_differences<T: NativePType>(
+fn chunked_differences<T: NativePType + WrappingSub>(
     alloc: Global,
     items: &[T],
     validity: &Validity,
@@ -197,7 +198,7 @@ fn chunked_differences<T: NativePType>(
 }
 
 /// The array less one reference.
-fn less_reference<T: NativePType>(
+fn less_reference<T: NativePType + WrappingSub>(
     alloc: Global,
     array: &PrimitiveArray,
     reference: T,
@@ -212,7 +213,7 @@ fn less_reference<T: NativePType>(
 }
 
 /// The array less the references of its chunks.
-fn less_references<T: NativePType>(
+fn less_references<T: NativePType + WrappingSub>(
     alloc: Global,
     array: &PrimitiveArray,
     references: Vec<T>,
@@ -227,7 +228,7 @@ fn less_references<T: NativePType>(
     Ok(Frame::Chunked(child, solid(references)))
 }
 
-fn encode_typed<T: NativePType>(
+fn encode_typed<T: NativePType + WrappingSub>(
     alloc: Global,
     array: &PrimitiveArray,
 ) -> Result<GlobalFrame, FastLanesError>
@@ -273,7 +274,7 @@ fn nulls_typed<T: NativePType>(len: usize) -> Frame
     Frame::Nulls(child, reference)
 }
 
-fn encode_chunks<T: NativePType>(
+fn encode_chunks<T: NativePType + WrappingSub>(
     alloc: Global,
     array: &PrimitiveArray,
 ) -> Result<Frame, FastLanesError>
@@ -287,7 +288,7 @@ fn encode_chunks<T: NativePType>(
     }
 }
 
-fn encode_chunked_typed<T: NativePType>(
+fn encode_chunked_typed<T: NativePType + WrappingSub>(
     alloc: Global,
     array: &PrimitiveArray,
 ) -> Result<Frame, FastLanesError>
@@ -315,7 +316,11 @@ pub fn encode_chunked(alloc: Global, array: &PrimitiveArray) -> Result<Frame, Fa
 }
 
 /// The slots plus a reference.
-fn sums<T: NativePType>(alloc: Global, slots: &[T], reference: T) -> Result<Vec<T>, AllocError>
+fn sums<T: NativePType + WrappingAdd>(
+    alloc: Global,
+    slots: &[T],
+    reference: T,
+) -> Result<Vec<T>, AllocError>
     ensures { IfOk result (λ v. map T.value v.items ≡ map (λ z. wrap T.PTYPE (z +ℤ T.value reference)) (map T.value slots.now)) }
 {
     let mut sums = Vec::with_capacity(alloc, slots.len())?;
@@ -326,7 +331,7 @@ fn sums<T: NativePType>(alloc: Global, slots: &[T], reference: T) -> Result<Vec<
 }
 
 /// The slots, each plus the reference of its chunk.
-fn chunked_sums<T: NativePType>(
+fn chunked_sums<T: NativePType + WrappingAdd>(
     alloc: Global,
     slots: &[T],
     references: &[T],
@@ -344,7 +349,7 @@ fn chunked_sums<T: NativePType>(
     Ok(sums)
 }
 
-fn decode_typed<T: NativePType>(
+fn decode_typed<T: NativePType + WrappingAdd>(
     alloc: Global,
     child: &PrimitiveArray,
     reference: PValue,
@@ -373,7 +378,7 @@ pub fn decode(
     match_each_integer_ptype!(child.ptype(), decode_typed(alloc, child, reference))
 }
 
-fn decode_chunked_typed<T: NativePType>(
+fn decode_chunked_typed<T: NativePType + WrappingAdd>(
     alloc: Global,
     child: &PrimitiveArray,
     references: &PrimitiveArray,

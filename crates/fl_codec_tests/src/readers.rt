@@ -83,12 +83,11 @@ fn reads_ones<'a, T: BitPacked>(
     if bytes.len() != 128 {
         return Ok(false);
     }
-    let one = T::one();
     let single: T = unpack_single_primitive(bytes, 1, 5);
     let strategy = BitPackingStrategy;
     let mut chunks = UnpackedChunks::try_new_with_strategy(strategy, bytes, 1, 0, 1024, scratch)?;
     chunks.decode_into(items);
-    Ok(single == one && items[0] == one && items[1023] == one)
+    Ok(single.as_i128() == 1 && items[0].as_i128() == 1 && items[1023].as_i128() == 1)
 }
 
 fn unsigned_ones_are_read() -> Result<bool, FastLanesError> {

@@ -13,10 +13,13 @@ use crate::dtype::PType;
 use crate::scalar::PValue;
 use crate::slots::Slots;
 use fastlanes::FastLanes;
-use num_traits::{PrimInt, WrappingAdd, WrappingSub};
+use num_traits::{Integral, Zero};
 
 /// An integer type of columns. Contracts see a value as its integer, `T.value x`.
-pub trait NativePType: PrimInt + WrappingAdd + WrappingSub {
+///
+/// It stands on what every function over the eight types uses. A function that needs more asks for
+/// it beside, as in `T: NativePType + WrappingSub`.
+pub trait NativePType: Copy + Integral + Zero {
     /// The type's name.
     const PTYPE: PType;
 

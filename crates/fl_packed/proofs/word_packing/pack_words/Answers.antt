@@ -1,7 +1,30 @@
-use Rattle.std.proofs.Common.{◌≡◌, ◌+◌, ◌*◌, ◌∙◌, length, arith, ap}
+use Rattle.std.proofs.Common.{◌≡◌, ◌+◌, ◌*◌, ◌≤◌, ◌∙◌, length, vec_capacity, vec_len, rules, arith, ap}
 use Rattle.fl_patches.specs.PatchMaps.{chunk_count}
 use Rattle.fl_packed.proofs.WordLaws.{words_made, words_packed_more}
 use Rattle.fl_packed.proofs.word_packing.pack_words.Goals as goal
+
+pub push_block-requires : goal.push_block-requires
+push_block-requires g c =
+    let lanes = g.T.Physical.FastLanes.LANES in
+    let j = c.loop-j.j in
+    let size = c.args.width * lanes in
+    let all = chunk_count (length c.args.items.now) in
+    let test = c.loop-j-test.true in
+    let end = c.chunk_count-j-end.ensures in
+    let auto = c.loop-j.auto in
+    let below : j + 1 ≤ all = omega arith in
+    let blocks : size * (j + 1) ≤ size * all = grind arith in
+    let next : size * (j + 1) ≡ size * j + size = grind arith in
+    let total = c.requires.total in
+    let reserved = c.loop-j.invariant.room in
+    let long = c.loop-j.invariant.long in
+    let room : vec_len c.loop-j.packed + c.args.width * lanes ≤ vec_capacity c.loop-j.packed = omega arith in
+    let few = c.chunk_of-chunk.ensures.few in
+    let words = c.loop-j.invariant.words in
+    let bits = c.requires.width in
+    let type = g.met.T.NativePType.width_law in
+    let width : c.args.width ≤ g.T.Physical.FastLanes.T = omega arith in
+    (search rules, (width, (few, (words, room))))
 
 pub loop-j-preserved : goal.loop-j-preserved
 loop-j-preserved g c =
