@@ -17,8 +17,8 @@ use num_traits::{Integral, Zero};
 
 /// An integer type of columns. Contracts see a value as its integer, `T.value x`.
 ///
-/// It stands on what every function over the eight types uses. A function that needs more asks for
-/// it beside, as in `T: NativePType + WrappingSub`.
+/// It stands on few traits, since each is a parameter of all that is proved of a function over it.
+/// A function that needs more asks for it beside, as in `T: NativePType + WrappingSub`.
 pub trait NativePType: Copy + Integral + Zero {
     /// The type's name.
     const PTYPE: PType;
