@@ -1,5 +1,5 @@
 -- Deltas give their columns back.
-use Rattle.std.proofs.Common.{◌≡◌, ℕ, ℤ, pos, zero, suc, ◌+◌, ◌-◌, ◌*◌, ◌/◌, ◌%◌, ◌<◌, ◌≤◌, ◌+ℤ◌, ◌-ℤ◌, Bool, true, false, cond, List, [], ◌∷◌, length, take, drop, get_or, Option, Some, None, unwrap_or, IsTrue, subst, refl, ap, sym, ◌∙◌, arith, add-one}
+use Rattle.std.proofs.Common.{◌≡◌, ℕ, ℤ, pos, zero, suc, ◌+◌, ◌-◌, ◌*◌, ◌/◌, ◌%◌, ◌<◌, ◌≤◌, ◌+ℤ◌, ◌-ℤ◌, Bool, true, false, cond, List, [], ◌∷◌, length, take, drop, get_or, Option, Some, None, unwrap_or, IsTrue, refl, ap, sym, ◌∙◌, arith}
 use Rattle.std.specs.List.{list_all}
 use Rattle.std.specs.Prelude.{if◌then◌else◌, ◌==◌}
 use Rattle.std.proofs.lemmas.Bool.{ne_eqb}
@@ -8,13 +8,13 @@ use Rattle.std.proofs.lemmas.Nat.{div-mul-add, mod-mul-add}
 use Rattle.std.proofs.lemmas.List.FromFn.{fill_by_all}
 use Rattle.std.proofs.Math.Nat.{mul-le-mul_left}
 use Rattle.std.proofs.Common.{mul_comm}
-use Rattle.fastlanes.specs.Layout.{place, segment, segment_lane, segment_row, row_of, lane_of, IsWordWidth, bits_8, bits_16, bits_32, bits_64}
+use Rattle.fastlanes.specs.Layout.{place, segment, segment_lane, segment_row, IsWordWidth, bits_8, bits_16, bits_32, bits_64}
 use Rattle.fastlanes.proofs.Bijection.{place_read, segment_placed}
 use Rattle.fl_types.specs.declared.dtype.PType.{PType}
 use Rattle.fl_types.specs.declared.dtype.PType.TheVariants.{U8, U16, U32, U64, I8, I16, I32, I64}
 use Rattle.fl_types.specs.declared.dtype.DType.TheVariants.{Primitive}
 use Rattle.fl_types.specs.declared.validity.Validity.{Validity}
-use Rattle.fl_types.specs.Bits.{between, table}
+use Rattle.fl_types.specs.Bits.{between}
 use Rattle.fl_types.specs.Integers.{bits_of_type, fits, lanes_of_type, wrap}
 use Rattle.fl_types.specs.Validities.{covers, is_valid_at, items_of, nullability_of}
 use Rattle.fl_plain.specs.Columns.{Plain, column_of_plain, option_all}
@@ -23,8 +23,8 @@ use Rattle.fl_plain.proofs.ListLaws.{all_at, all_first, all_from, all_rest, and_
 use Rattle.fl_codec.specs.Chunks.{chunk, chunks_of}
 use Rattle.fl_codec.specs.Deltas.{base_of, block_integer, delta_bases, delta_column, delta_deltas, delta_integer, delta_of, lane_sum}
 use Rattle.fl_codec.specs.Filling.{Carry, FillMode, Reset, carried_to, either, fill_start, filled, filled_from, last_some}
-use Rattle.fl_codec.specs.Parts.{compress_deltas, items_of_plain}
-use Rattle.fl_codec.proofs.DeltaLaws.{place_first, some_rows}
+use Rattle.fl_codec.specs.Parts.{compress_deltas}
+use Rattle.fl_codec.proofs.DeltaLaws.{some_rows}
 use Rattle.fl_codec.proofs.FillingLaws.{filled-carry, filled-reset, filled_next, get_or-chunk}
 use Rattle.fl_codec.proofs.FrameRoundTrips.{fitting, wrap-wrap_left, wrap-wrap_right}
 use Rattle.fl_codec.proofs.ReferenceLaws.{get_or-table}

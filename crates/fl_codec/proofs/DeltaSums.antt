@@ -1,5 +1,5 @@
 -- Blocks of differences, summed.
-use Rattle.std.proofs.Common.{◌≡◌, ℕ, ℤ, pos, zero, suc, ◌+◌, ◌*◌, ◌/◌, ◌%◌, ◌^◌, ◌<◌, ◌≤◌, ◌+ℤ◌, List, length, map, get_or, refl, ap, sym, ◌∙◌, arith, add-one}
+use Rattle.std.proofs.Common.{◌≡◌, ℕ, ℤ, pos, zero, suc, ◌+◌, ◌*◌, ◌%◌, ◌^◌, ◌<◌, ◌≤◌, ◌+ℤ◌, List, length, map, get_or, refl, ap, sym, ◌∙◌, arith}
 use Rattle.std.proofs.Common.{take, drop, length-take, length-drop}
 use Rattle.std.proofs.lemmas.List.{take-map, drop-map, get_or-take, get_or-drop}
 use Rattle.fastlanes.specs.Layout.{place, segment, segment_lane, segment_row, IsWordWidth}

@@ -1,12 +1,12 @@
 -- Filled lists, chunk by chunk.
-use Rattle.std.proofs.Common.{◌≡◌, subst, ℕ, ℤ, pos, zero, suc, ◌+◌, ◌-◌, ◌*◌, ◌/◌, ◌%◌, ◌<◌, ◌≤◌, List, [], ◌∷◌, ◌++◌, length, take, drop, get_or, Option, Some, None, unwrap_or, IsTrue, refl, ap, sym, ◌∙◌, inl, inr, arith, append_assoc, length-take, length-drop}
+use Rattle.std.proofs.Common.{◌≡◌, subst, ℕ, ℤ, pos, zero, suc, ◌+◌, ◌-◌, ◌*◌, ◌/◌, ◌<◌, ◌≤◌, List, [], ◌∷◌, ◌++◌, length, take, drop, get_or, Option, Some, None, unwrap_or, refl, ap, sym, ◌∙◌, inl, inr, arith, length-take}
 use Rattle.std.proofs.Math.Seq.{take-add}
 use Rattle.std.proofs.lemmas.Bool.{cases_lt, cases_eq}
-use Rattle.std.proofs.lemmas.List.{append-nil, get_or-drop, get_or-take, get_or-append_right, get_or_append_left, get_or_past, take_all}
+use Rattle.std.proofs.lemmas.List.{get_or-drop, get_or-take, get_or-append_right, get_or_append_left, get_or_past, take_all}
 use Rattle.std.proofs.Common.{length-append}
 use Rattle.std.proofs.lemmas.List.FromFn.{fill_by_all}
-use Rattle.fl_types.specs.Bits.{between, table}
-use Rattle.fl_codec.specs.Chunks.{chunk, chunks_of}
+use Rattle.fl_types.specs.Bits.{table}
+use Rattle.fl_codec.specs.Chunks.{chunk}
 use Rattle.fl_codec.specs.Filling.{Carry, Reset, carried_to, either, filled, filled_from, last_some}
 use Rattle.fl_codec.proofs.ReferenceLaws.{get_or-table, last_more, length-table, unwrap_or-either}
 

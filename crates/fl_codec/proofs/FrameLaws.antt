@@ -1,5 +1,5 @@
 -- Least items, and the references of chunks.
-use Rattle.std.proofs.Common.{◌≡◌, ℕ, ℤ, zero, suc, ◌+◌, ◌-◌, ◌<◌, ◌≤◌, ◌&&◌, subst, lit<, length-append, if◌then◌else◌, Bool, true, false, List, [], ◌∷◌, ◌++◌, length, map, get_or, Option, Some, None, refl, ap, sym, ◌∙◌, arith, int_le, int_lt, find, filter_map}
+use Rattle.std.proofs.Common.{◌≡◌, ℕ, ℤ, zero, suc, ◌+◌, ◌-◌, ◌<◌, ◌≤◌, ◌&&◌, subst, lit<, length-append, if◌then◌else◌, Bool, true, false, List, [], ◌∷◌, ◌++◌, length, get_or, Option, Some, None, refl, ap, sym, ◌∙◌, arith, int_le, int_lt, find}
 use Rattle.std.specs.List.{list_all}
 use Rattle.std.proofs.lemmas.Int.{ints}
 use Rattle.std.proofs.lemmas.List.Elements.{filter_map-append}
@@ -7,7 +7,7 @@ use Rattle.std.proofs.lemmas.Bool.{true≢false}
 use Rattle.std.proofs.lemmas.List.{append-nil, get_or_push, get_or_append_left}
 use Rattle.fl_types.specs.Bits.{between}
 use Rattle.fl_plain.proofs.ListLaws.{all_at, and_first, and_second, and_true, between_more, list_all-append}
-use Rattle.fl_codec.specs.Frames.{least_valid, lesser, valid_items}
+use Rattle.fl_codec.specs.Frames.{lesser, valid_items}
 
 int_le-refl : (z : ℤ) → int_le z z ≡ true
 int_le-refl z = grind (arith, ints)

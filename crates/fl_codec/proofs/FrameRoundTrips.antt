@@ -1,7 +1,7 @@
 -- Frames of reference give their columns back.
-use Rattle.std.proofs.Common.{◌≡◌, ℕ, ℤ, pos, ◌+◌, ◌/◌, ◌^◌, ◌<◌, ◌+ℤ◌, ◌-ℤ◌, Bool, true, false, cond, List, [], ◌∷◌, length, map, replicate, get_or, Option, Some, None, option_map, unwrap_or, Result, Ok, Err, IsTrue, subst, refl, ap, sym, ◌∙◌, arith}
+use Rattle.std.proofs.Common.{◌≡◌, ℕ, ℤ, pos, ◌+◌, ◌/◌, ◌^◌, ◌<◌, ◌+ℤ◌, ◌-ℤ◌, Bool, true, false, cond, List, [], ◌∷◌, length, map, replicate, get_or, Option, Some, None, Ok, IsTrue, subst, refl, ap, sym, ◌∙◌, arith}
 use Rattle.std.specs.List.{list_all}
-use Rattle.std.specs.Prelude.{is_none, is_some, nat_lt, ◌&&◌, zero, suc, if◌then◌else◌}
+use Rattle.std.specs.Prelude.{is_none, nat_lt, ◌&&◌, zero, suc, if◌then◌else◌}
 use Rattle.std.proofs.lemmas.Bool.Decides.{Decides-int_eq}
 use Rattle.std.proofs.lemmas.Int.{ints}
 use Rattle.std.proofs.lemmas.List.{get_or-map, length-map}
@@ -9,24 +9,20 @@ use Rattle.std.proofs.lemmas.List.FromFn.{fill_by_all}
 use Rattle.fl_types.specs.declared.dtype.PType.{PType}
 use Rattle.fl_types.specs.declared.dtype.Nullability.TheVariants.{Nullable}
 use Rattle.fl_types.specs.declared.dtype.DType.TheVariants.{Primitive}
-use Rattle.fl_types.specs.declared.error.FastLanesError.{FastLanesError}
 use Rattle.fl_types.specs.declared.validity.Validity.{Validity}
-use Rattle.fl_types.specs.declared.validity.Validity.TheVariants as valid
 use Rattle.fl_types.specs.Bits.{table}
-use Rattle.fl_types.specs.Integers.{bits_of_type, fits, pattern_of, read_as, wrap}
+use Rattle.fl_types.specs.Integers.{bits_of_type, fits, pattern_of, wrap}
 use Rattle.fl_types.specs.Validities.{covers, is_valid_at, items_of, nullability_of}
 use Rattle.fl_types.proofs.Patterns.{pattern_read}
-use Rattle.fl_plain.specs.Columns.{Column, Plain, column_of_plain}
+use Rattle.fl_plain.specs.Columns.{Plain, column_of_plain}
 use Rattle.fl_plain.proofs.ItemLaws.{get_or-items_of, length-items_of, nullable_by_item}
 use Rattle.fl_plain.proofs.ListLaws.{all_at, and_first, and_second}
 use Rattle.std.proofs.lemmas.Bool.{ltb-true}
 use Rattle.fl_types.proofs.BitLists.{same_tables}
-use Rattle.fl_codec.specs.Chunks.{chunks_of}
 use Rattle.fl_codec.specs.Frames.{chunk_references, chunked_slots, common_reference, global_frame, least_valid, minus_reference, plus_reference}
 use Rattle.fl_codec.specs.FrameValues.{column_of_frame, column_of_one_reference}
-use Rattle.fl_codec.specs.Parts.{FrameParts, Nulls, OneReference, Whole, encode_chunked, encode_global, items_of_plain, less_chunk_leasts, less_common, less_least, less_reference, less_references}
+use Rattle.fl_codec.specs.Parts.{FrameParts, OneReference, encode_chunked, encode_global, items_of_plain, less_chunk_leasts, less_common, less_least, less_reference, less_references}
 use Rattle.fl_codec.proofs.Congruence.{IsPattern, IsPattern-add, pattern_is, pattern_small, read_as-IsPattern}
-use Rattle.fl_codec.proofs.FrameColumns.{items_of-table}
 use Rattle.fl_codec.proofs.ReferenceLaws.{get_or-table, length-table}
 
 -- ---- sums that wrap

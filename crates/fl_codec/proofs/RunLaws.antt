@@ -1,6 +1,6 @@
 -- Runs of a chunk.
 use Rattle.std.proofs.Common.{◌≡◌, ℕ, ℤ, zero, suc, ◌+◌, ◌-◌, ◌*◌, ◌/◌, ◌%◌, ◌<◌, ◌≤◌, Bool, true, false, not, cond, List, [], ◌∷◌, ◌++◌, length, map, take, get_or, Option, IsTrue, refl, ap, sym, ◌∙◌, arith, add-one, subst, length-take, lit<}
-use Rattle.std.specs.Prelude.{nat_eq, filter, flat_map}
+use Rattle.std.specs.Prelude.{nat_eq, filter}
 use Rattle.std.specs.List.{range_with_len}
 use Rattle.std.specs.Ordering.{int_eq}
 use Rattle.std.proofs.lemmas.Bool.Decides.{Decides-int_eq, Decides-eqb, same_from_decides}

@@ -1,8 +1,7 @@
 -- Runs give their columns back.
 use Rattle.std.proofs.Common.{◌≡◌, ℕ, ℤ, pos, zero, suc, ◌+◌, ◌-◌, ◌*◌, ◌/◌, ◌%◌, ◌<◌, ◌≤◌, Bool, true, false, cond, List, [], ◌∷◌, ◌++◌, length, map, take, get_or, replicate, Option, Some, None, option_map, unwrap_or, unsigned_abs, IsTrue, subst, refl, ap, sym, ◌∙◌, inl, inr, arith, add-one, length-append}
 use Rattle.std.specs.List.{list_all, range_with_len}
-use Rattle.std.specs.Prelude.{nat_le, nat_lt, flat_map, not, ◌&&◌, ◌||◌, ◌==◌, if◌then◌else◌}
-use Rattle.std.specs.Ordering.{int_eq}
+use Rattle.std.specs.Prelude.{nat_le, nat_lt, flat_map, ◌&&◌, ◌||◌, ◌==◌}
 use Rattle.std.proofs.lemmas.Bool.{cases_lt, eq-eqb, eqb-true, le-leb, le-ltb, lt-ltb, not-false}
 use Rattle.std.proofs.lemmas.Bool.Decides.{Decides-int_eq}
 use Rattle.std.proofs.lemmas.List.{append-nil, get_or-map, get_or_append_left, get_or_push, length-map, map-id}
@@ -16,15 +15,15 @@ use Rattle.fl_types.specs.declared.validity.Validity.{Validity}
 use Rattle.fl_types.specs.declared.validity.Validity.TheVariants as valid
 use Rattle.fl_types.specs.Bits.{table}
 use Rattle.fl_types.specs.Validities.{covers, is_valid_at, items_of, nullability_of}
-use Rattle.fl_plain.specs.Columns.{Plain, column_of_plain, numbers_of, option_all}
+use Rattle.fl_plain.specs.Columns.{Plain, column_of_plain, numbers_of}
 use Rattle.fl_plain.proofs.ItemLaws.{get_or-items_of, length-items_of}
 use Rattle.fl_plain.proofs.ListLaws.{all_from, and_true}
 use Rattle.fl_codec.specs.Chunks.{chunk, chunks_of}
 use Rattle.fl_codec.proofs.FillingLaws.{get_or-chunk, length-chunk}
 use Rattle.fl_codec.specs.Filling.{Reset, filled}
-use Rattle.fl_codec.specs.Parts.{encode_runs, items_of_plain, solid}
+use Rattle.fl_codec.specs.Parts.{encode_runs, solid}
 use Rattle.fl_codec.specs.Runs.{chunk_values, differs_next, indices_to, offsets_to, run_index, run_validity, values_to}
-use Rattle.fl_codec.specs.RunColumns.{are_run_indices, are_run_offsets, chunk_end, chunk_start, is_chunk_of_runs, is_run_index, run_column, run_count, run_item, run_offsets_of, runs_refusal}
+use Rattle.fl_codec.specs.RunColumns.{are_run_indices, are_run_offsets, chunk_end, chunk_start, is_chunk_of_runs, is_run_index, run_column, run_count, run_item, runs_refusal}
 use Rattle.fl_codec.proofs.DeltaRoundTrips.{filled-valid}
 use Rattle.fl_codec.proofs.ReferenceLaws.{get_or-table, length-table}
 use Rattle.fl_codec.proofs.RunLaws.{counted_next, counted_zero, covers-run_validity, values_more, values_next, values_up_to}

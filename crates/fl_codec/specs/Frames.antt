@@ -1,5 +1,5 @@
 -- Columns that are kept less a reference.
-use Rattle.std.specs.Prelude.{◌+◌, ◌*◌, ◌/◌, ◌+ℤ◌, ◌-ℤ◌, ℕ, ℤ, pos, Bool, List, [], ◌∷◌, length, map, take, Option, Some, None, option_map, unwrap_or, slice_index_or, int_le, int_lt, is_none, find, filter_map, if◌then◌else◌}
+use Rattle.std.specs.Prelude.{◌+◌, ◌/◌, ◌+ℤ◌, ◌-ℤ◌, ℕ, ℤ, pos, List, [], ◌∷◌, length, map, take, Option, Some, None, option_map, unwrap_or, slice_index_or, int_le, int_lt, find, filter_map, if◌then◌else◌}
 use Rattle.std.specs.List.{list_all}
 use Rattle.std.specs.Ordering.{int_eq}
 use Rattle.fl_types.specs.declared.dtype.PType.{PType}

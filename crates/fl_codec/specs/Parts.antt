@@ -1,5 +1,5 @@
 -- The parts that encoders make of plain arrays.
-use Rattle.std.specs.Prelude.{◌*◌, ◌&&◌, ℕ, ℤ, pos, Bool, List, length, map, Option, Some, None, Result, Ok, Err, nat_lt, is_none, if◌then◌else◌}
+use Rattle.std.specs.Prelude.{◌*◌, ◌&&◌, ℕ, ℤ, pos, List, length, map, Option, Some, None, Result, Ok, Err, nat_lt, is_none, if◌then◌else◌}
 use Rattle.std.specs.List.{list_all}
 use Rattle.fl_types.specs.declared.dtype.PType.{PType}
 use Rattle.fl_types.specs.declared.dtype.PType.TheVariants.{U16, U64}

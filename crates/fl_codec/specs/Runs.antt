@@ -6,7 +6,6 @@ use Rattle.fastlanes.specs.Runs.{counted}
 use Rattle.fl_types.specs.declared.validity.Validity.{Validity}
 use Rattle.fl_types.specs.declared.validity.Validity.TheVariants as valid
 use Rattle.fl_types.specs.Bits.{table}
-use Rattle.fl_codec.specs.Chunks.{chunks_of}
 use Rattle.fl_codec.specs.Filling.{Reset, filled}
 
 -- item t + 1 of chunk k differs from item t

@@ -18,8 +18,8 @@ use crate::filled::fill_chunk;
 use crate::plain::{solid, under_validity};
 use fastlanes::round_trips::all_in_range;
 use fastlanes::{FL_CHUNK_SIZE, FastLanes, delta, transpose, undelta, untranspose};
-use fl_plain::PrimitiveArray;
-use fl_types::{FastLanesError, NativePType, Validity, match_each_integer_ptype};
+use fl_plain::{PhysicalPType, PrimitiveArray};
+use fl_types::{FastLanesError, Validity, match_each_integer_ptype};
 use std::alloc::{AllocError, Global};
 
 /// The first words of a block, one for each lane.
@@ -45,7 +45,7 @@ fn encode_block<W: FastLanes>(block: &mut [W; FL_CHUNK_SIZE], stored: &mut [W; F
 }
 
 /// Adds the values of these patterns.
-pub(crate) fn push_values<T: NativePType>(
+pub(crate) fn push_values<T: PhysicalPType>(
     patterns: &[T::Physical],
     values: &mut Vec<T>,
 ) -> Result<(), AllocError>
@@ -58,7 +58,7 @@ pub(crate) fn push_values<T: NativePType>(
 }
 
 /// Adds the bases and the deltas of chunk `k`, and gives its last item.
-fn push_chunk<T: NativePType>(
+fn push_chunk<T: PhysicalPType>(
     array: &PrimitiveArray,
     k: usize,
     last: T,
@@ -83,7 +83,7 @@ fn push_chunk<T: NativePType>(
     Ok(last)
 }
 
-fn compress_typed<T: NativePType>(
+fn compress_typed<T: PhysicalPType>(
     alloc: Global,
     array: &PrimitiveArray,
 ) -> Result<(PrimitiveArray, PrimitiveArray), FastLanesError>
@@ -127,7 +127,7 @@ pub fn delta_compress(
 }
 
 /// Writes the patterns of these values, at most a block of them.
-pub(crate) fn put_patterns<T: NativePType>(values: &[T], block: &mut [T::Physical; FL_CHUNK_SIZE])
+pub(crate) fn put_patterns<T: PhysicalPType>(values: &[T], block: &mut [T::Physical; FL_CHUNK_SIZE])
     requires { length values.now ≤ 1024 }
     ensures block { (i : ℕ) → i < length values.now → pattern_at T.Physical.pattern block.new i ≡ pattern_of T.PTYPE (slice_index_or (map T.value values.now) i (pos 0)) }
     ensures whole { length block.new ≡ 1024 }
@@ -152,7 +152,7 @@ fn decode_block<W: FastLanes>(
 }
 
 /// Writes the items of block `j`.
-fn read_block<T: NativePType>(
+fn read_block<T: PhysicalPType>(
     bases: &[T],
     deltas: &[T],
     j: usize,
@@ -175,7 +175,7 @@ fn read_block<T: NativePType>(
 }
 
 /// Adds the items of a block from `low` to below `high`.
-pub(crate) fn push_block<T: NativePType>(
+pub(crate) fn push_block<T: PhysicalPType>(
     block: &[T::Physical; FL_CHUNK_SIZE],
     low: usize,
     high: usize,
@@ -190,7 +190,7 @@ pub(crate) fn push_block<T: NativePType>(
     push_values(&words[low..high], values)
 }
 
-fn decompress_typed<T: NativePType>(
+fn decompress_typed<T: PhysicalPType>(
     alloc: Global,
     bases: &[T],
     deltas: &[T],
@@ -219,7 +219,7 @@ fn decompress_typed<T: NativePType>(
     Ok(values)
 }
 
-fn decode_typed<T: NativePType>(
+fn decode_typed<T: PhysicalPType>(
     alloc: Global,
     bases: &PrimitiveArray,
     deltas: &PrimitiveArray,

@@ -9,12 +9,13 @@ ghost use Rattle.fl_codec.specs.Filling.{filled_from, last_some};
 
 use crate::chunks::item_in_chunk;
 use fastlanes::FL_CHUNK_SIZE;
-use fl_types::{NativePType, Validity};
+use fl_plain::PhysicalPType;
+use fl_types::Validity;
 
 /// Writes the patterns of chunk `k` of a column to `block`, and gives its last item. A null, and
 /// each position past the end of a short chunk, repeats the item before it, the first of them
 /// `before`.
-pub fn fill_chunk<T: NativePType>(
+pub fn fill_chunk<T: PhysicalPType>(
     items: &[T],
     validity: &Validity,
     k: usize,

@@ -20,7 +20,7 @@ use crate::delta::{push_block, push_values, put_patterns};
 use crate::filled::fill_chunk;
 use crate::plain::{solid, with_validity};
 use fastlanes::{FL_CHUNK_SIZE, FastLanes, rle_decode, rle_encode};
-use fl_plain::{PrimitiveArray, item_at};
+use fl_plain::{PhysicalPType, PrimitiveArray, item_at};
 use fl_types::{BitList, FastLanesError, NativePType, PValue, Validity, match_each_integer_ptype};
 use std::alloc::{AllocError, Global};
 
@@ -37,7 +37,7 @@ pub struct Runs {
 }
 
 /// Adds the run values and the indices of chunk `k`, which begins anew.
-fn push_runs<T: NativePType>(
+fn push_runs<T: PhysicalPType>(
     array: &PrimitiveArray,
     k: usize,
     block: &mut [T::Physical; FL_CHUNK_SIZE],
@@ -95,7 +95,7 @@ fn padded_validity(
     }
 }
 
-fn encode_typed<T: NativePType>(
+fn encode_typed<T: PhysicalPType>(
     alloc: Global,
     array: &PrimitiveArray,
 ) -> Result<Runs, FastLanesError>
@@ -232,7 +232,7 @@ fn put_numbers(indices: &PrimitiveArray, k: usize, numbers: &mut [u16; FL_CHUNK_
 }
 
 /// Writes the items of chunk `k`, and its first run value under a null.
-fn read_chunk<T: NativePType>(
+fn read_chunk<T: PhysicalPType>(
     values: &[T],
     indices: &PrimitiveArray,
     offsets: &PrimitiveArray,
@@ -259,7 +259,7 @@ fn read_chunk<T: NativePType>(
 }
 
 /// The items from `offset` on, and a run value in place of each null.
-fn decode_items<T: NativePType>(
+fn decode_items<T: PhysicalPType>(
     alloc: Global,
     values: &[T],
     indices: &PrimitiveArray,
@@ -301,7 +301,7 @@ fn decode_items<T: NativePType>(
     Ok(items)
 }
 
-fn decode_typed<T: NativePType>(
+fn decode_typed<T: PhysicalPType>(
     alloc: Global,
     values: &PrimitiveArray,
     indices: &PrimitiveArray,

@@ -8,7 +8,7 @@ ghost use Rattle.fl_types.specs.Integers.{bits_of_type};
 ghost use Rattle.fl_packed.specs.Blocks.{block_item, pattern_in, value_at};
 
 use fastlanes::{FL_CHUNK_SIZE, FastLanes, Work, pack_bytes, unpack_bytes};
-use fl_types::NativePType;
+use fl_plain::PhysicalPType;
 
 /// A type whose values have so many bits.
 pub trait BitCount {
@@ -20,7 +20,7 @@ pub trait BitCount {
 
 /// An integer type whose columns are packed in blocks of 1024 items. A signed integer is packed by
 /// its pattern.
-pub trait BitPacked: NativePType + BitCount {
+pub trait BitPacked: PhysicalPType + BitCount {
     /// Unpacks a block of `128 * width` bytes. The bits of an item from `width` on are 0.
     fn unpack_block(width: usize, block: &[u8], items: &mut [Self; FL_CHUNK_SIZE], work: &mut Work)
         requires width { width ≤ Self.Physical.T }
@@ -47,7 +47,7 @@ pub trait BitPacked: NativePType + BitCount {
 }
 
 /// Unpacks a block of patterns, and reads each as the type.
-fn unpack_patterns<T: NativePType>(
+fn unpack_patterns<T: PhysicalPType>(
     width: usize,
     block: &[u8],
     items: &mut [T; FL_CHUNK_SIZE],
@@ -69,7 +69,10 @@ fn unpack_patterns<T: NativePType>(
 }
 
 /// Writes the patterns of at most 1024 integers, and behind them 0.
-pub(crate) fn put_patterns<T: NativePType>(items: &[T], patterns: &mut [T::Physical; FL_CHUNK_SIZE])
+pub(crate) fn put_patterns<T: PhysicalPType>(
+    items: &[T],
+    patterns: &mut [T::Physical; FL_CHUNK_SIZE],
+)
     requires { length items.now ≤ 1024 }
     ensures patterns { (i : ℕ) → i < 1024 → pattern_at T.Physical.pattern patterns.new i ≡ pattern_in T.PTYPE (map T.value items.now) i }
     ensures whole { length patterns.new ≡ 1024 }
@@ -83,7 +86,7 @@ pub(crate) fn put_patterns<T: NativePType>(items: &[T], patterns: &mut [T::Physi
 }
 
 /// Packs the patterns of at most 1024 integers, behind which stands 0.
-fn pack_patterns<T: NativePType>(width: usize, items: &[T], block: &mut [u8])
+fn pack_patterns<T: PhysicalPType>(width: usize, items: &[T], block: &mut [u8])
     requires width { width ≤ T.Physical.T }
     requires few { length items.now ≤ 1024 }
     requires room { length block.old ≡ 128 * width }

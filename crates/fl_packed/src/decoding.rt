@@ -17,7 +17,7 @@ use crate::patching::put_patches;
 use crate::unpack_iter::{BitPackingStrategy, block_at, count_fits, part_of, unpack_part};
 use fastlanes::{FL_CHUNK_SIZE, FastLanes, Work, unpack_single};
 use fl_patches::Patches;
-use fl_plain::PrimitiveArray;
+use fl_plain::{PhysicalPType, PrimitiveArray};
 use fl_types::{FastLanesError, NativePType, PType, Validity, match_each_integer_ptype};
 use std::alloc::{AllocError, Global};
 
@@ -40,7 +40,7 @@ pub struct PackedColumn<'a> {
 
 /// The item at `index` of a packed block of `128 * width` bytes, read without its neighbours. It reads
 /// at most two words, and none at width 0.
-pub fn unpack_block_item<T: NativePType>(
+pub fn unpack_block_item<T: PhysicalPType>(
     width: usize,
     block: &[u8],
     index: usize,
@@ -60,7 +60,7 @@ pub fn unpack_block_item<T: NativePType>(
 /// Item `i` of a column that was packed at one width, without patches. It reads at most two words.
 ///
 /// The width is at most the type's bits, and the block of the item lies in the bytes.
-pub fn unpack_single_primitive<T: NativePType>(packed: &[u8], width: usize, i: usize) -> T
+pub fn unpack_single_primitive<T: PhysicalPType>(packed: &[u8], width: usize, i: usize) -> T
     requires width { width ≤ bits_of_type T.PTYPE }
     requires room { 128 * width * (i / 1024 + 1) ≤ length packed.now }
     ensures { T.value result ≡ item_of_blocks T.PTYPE (even_blocks width) packed.now i }
@@ -131,7 +131,7 @@ fn unpack_counted<T: BitPacked>(
 }
 
 /// So many zeros: what stands in blocks at width 0.
-fn zeros<T: NativePType>(alloc: Global, len: usize) -> Result<Vec<T>, AllocError>
+fn zeros<T: PhysicalPType>(alloc: Global, len: usize) -> Result<Vec<T>, AllocError>
     ensures long { IfOk result (λ v. length v.items ≡ len) }
     ensures items { IfOk result (λ v. (i : ℕ) → i < len → value_at T.value v.items i ≡ read_as T.PTYPE 0) }
 {

@@ -12,11 +12,12 @@ use crate::blocks::chunk_count;
 use crate::packing::chunk_of;
 use fastlanes::round_trips::all_in_range;
 use fastlanes::{FL_CHUNK_SIZE, FastLanes, pack};
-use fl_types::{FastLanesError, NativePType};
+use fl_plain::PhysicalPType;
+use fl_types::FastLanesError;
 use std::alloc::{AllocError, Global};
 
 /// Adds words, for which there is room, as integers of the type.
-fn push_words<T: NativePType>(words: &[T::Physical], packed: &mut Vec<T>)
+fn push_words<T: PhysicalPType>(words: &[T::Physical], packed: &mut Vec<T>)
     requires { vec_len packed.old + length words.now ≤ vec_capacity packed.old }
     ensures words { map T.value packed.new.items ≡ map T.value packed.old.items ++ map (λ w. read_as T.PTYPE (T.Physical.pattern w)) words.now }
     ensures capacity { vec_capacity packed.new ≡ vec_capacity packed.old }
@@ -28,7 +29,7 @@ fn push_words<T: NativePType>(words: &[T::Physical], packed: &mut Vec<T>)
 
 /// Packs at most 1024 integers, behind which stands 0, and adds the block's words, for which there is
 /// room. A block is lent for the integers' patterns, and one for the words.
-fn push_block<T: NativePType>(
+fn push_block<T: PhysicalPType>(
     width: usize,
     items: &[T],
     patterns: &mut [T::Physical; FL_CHUNK_SIZE],
@@ -53,7 +54,7 @@ fn push_block<T: NativePType>(
 }
 
 /// The words of the packed low bits of these integers, of which there are `total`.
-fn pack_words<T: NativePType>(
+fn pack_words<T: PhysicalPType>(
     alloc: Global,
     items: &[T],
     width: usize,
@@ -79,7 +80,7 @@ fn pack_words<T: NativePType>(
 ///
 /// Each block of 1024 integers, also a short last one, has `width` words for each of its lanes, of
 /// which there are 1024 divided by the type's bits. So no integers make no words, nor does width 0.
-pub fn bitpack_primitive<T: NativePType>(
+pub fn bitpack_primitive<T: PhysicalPType>(
     alloc: Global,
     items: &[T],
     width: u8,

@@ -7,6 +7,7 @@ pub mod constant;
 mod constants;
 mod gathered;
 pub mod laws;
+pub mod physical;
 pub mod primitive;
 mod questions;
 mod rereading;
@@ -14,5 +15,6 @@ mod selection;
 
 pub use crate::bools::BoolArray;
 pub use crate::constant::ConstantArray;
+pub use crate::physical::PhysicalPType;
 pub use crate::primitive::PrimitiveArray;
 pub use crate::selection::item_at;

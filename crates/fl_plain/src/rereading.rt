@@ -6,13 +6,14 @@ ghost use Rattle.fl_types.specs.Integers.{bits_of_type, other_sign, pattern_of, 
 ghost use Rattle.fl_types.specs.Refusals.{Answers};
 ghost use Rattle.fl_plain.specs.Columns.{reread_plain};
 
+use crate::physical::PhysicalPType;
 use crate::primitive::PrimitiveArray;
 use fastlanes::FastLanes;
-use fl_types::{FastLanesError, NativePType, PType, Slots};
+use fl_types::{FastLanesError, PType, Slots};
 use std::alloc::{AllocError, Global};
 
 /// The values whose patterns are those of these values.
-fn reread_all<P: FastLanes, S: NativePType<Physical = P>, T: NativePType<Physical = P>>(
+fn reread_all<P: FastLanes, S: PhysicalPType<Physical = P>, T: PhysicalPType<Physical = P>>(
     alloc: Global,
     items: &[S],
 ) -> Result<Vec<T>, AllocError>

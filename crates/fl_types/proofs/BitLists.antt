@@ -1,11 +1,9 @@
 -- Bits in words, and lists of them.
-use Rattle.std.proofs.Common.{◌≡◌, ℕ, ◌+◌, ◌-◌, ◌*◌, ◌/◌, ◌%◌, ◌^◌, ◌<◌, ◌≤◌, ◌==◌, List, [], ◌∷◌, ◌++◌, Bool, true, ◌&&◌, length, get_or, set, drop, slice_get, ◌≢◌, Some, false, Result, Ok, Err, IfOk, IfErr, refl, ◌∙◌, ap, sym, subst, pow_pos, add_comm, lit<, inl, inr, arith}
+use Rattle.std.proofs.Common.{◌≡◌, ℕ, ◌+◌, ◌-◌, ◌*◌, ◌/◌, ◌%◌, ◌^◌, ◌<◌, ◌≤◌, ◌==◌, List, [], ◌∷◌, ◌++◌, Bool, true, ◌&&◌, length, get_or, set, drop, slice_get, ◌≢◌, Some, false, Result, Ok, Err, IfOk, IfErr, refl, ◌∙◌, ap, sym, subst, inl, inr, arith}
 use Rattle.std.proofs.lemmas.Bool.{cases_lt, cases_eq}
-use Rattle.std.proofs.Math.Nat.{div-add-mod, mul_comm, one-mul, mod-eq_of_lt, mod-lt}
-use Rattle.std.proofs.Math.Pow.{pow-lt}
-use Rattle.std.proofs.lemmas.Nat.Bits.{bit_at_cat_low, bit_at_cat_high}
-use Rattle.std.specs.Int.{bit_at}
-use Rattle.fastlanes.specs.Layout.{bit_value}
+use Rattle.std.proofs.lemmas.Nat.Bits.{bit_at-zero, bit_at_set_same, bit_at_set_other, bit_at_clear_same, bit_at_clear_other}
+use Rattle.std.specs.Int.{bit_not, w64}
+use Rattle.std.specs.Int.Bits.{bit_or, bit_and}
 use Rattle.std.proofs.lemmas.List.{get_or_append_left, get_or_push, get_or-set_same, get_or-set_other, get_or-take, get_or-drop, length-take, length-drop, drop_more}
 use Rattle.std.proofs.lemmas.List.FromFn.{length-map-range_with_len, get_or-map-range_with_len, map-range_with_len_more, fill_by_all}
 use Rattle.std.proofs.lemmas.Option.{slice_get-get_or, slice_get_within, get_or_from_slice_get}
@@ -28,27 +26,40 @@ pub get_first_bits : (words : List ℕ) (n i : ℕ) → i < n → slice_get (fir
 unfolding first_bits
 get_first_bits words n i h = get_table (is_set words) n i h
 
-lowest_bit : (on : Bool) → (bit_at (bit_value on) 0 == 1) ≡ on
-lowest_bit true = refl
-lowest_bit false = refl
-
-bit_of_word_low : (word t : ℕ) (on : Bool) (j : ℕ) → word < 2 ^ t → j < t → bit_of_word (word + bit_value on * 2 ^ t) j ≡ bit_of_word word j
+-- a bit that is put into a word
+pub bit_set : (word at : ℕ) → at < 64 → bit_of_word (bit_or word (1 * 2 ^ at % 18446744073709551616)) at ≡ true
 unfolding bit_of_word
-bit_of_word_low word t on j room h = rw (add_comm word (bit_value on * 2 ^ t)) (ap (λ b. b == 1) (bit_at_cat_low (bit_value on) t word j h))
+bit_set word at h = ap (λ b. b == 1) (bit_at_set_same w64 word at h)
 
-bit_of_word_top : (word t : ℕ) (on : Bool) → word < 2 ^ t → bit_of_word (word + bit_value on * 2 ^ t) t ≡ on
+-- and the others
+pub bit_kept : (word at j : ℕ) → at < 64 → j ≢ at → bit_of_word (bit_or word (1 * 2 ^ at % 18446744073709551616)) j ≡ bit_of_word word j
 unfolding bit_of_word
-bit_of_word_top word t on room =
-    let at_zero : t - t ≡ 0 = omega arith in
-    rw (add_comm word (bit_value on * 2 ^ t)) (ap (λ b. b == 1) (bit_at_cat_high (bit_value on) t word t room (omega arith) ∙ ap (bit_at (bit_value on)) at_zero) ∙ lowest_bit on)
+bit_kept word at j h e = ap (λ b. b == 1) (bit_at_set_other w64 word at h j e)
+
+pub ruleset set_bits = (bit_set, bit_kept)
+
+-- a bit that is taken out of a word
+bit_cleared : (word at : ℕ) → at < 64 → bit_of_word (bit_and word (bit_not w64 (1 * 2 ^ at % 18446744073709551616))) at ≡ false
+unfolding bit_of_word
+bit_cleared word at h = ap (λ b. b == 1) (bit_at_clear_same w64 word at h)
+
+-- and the others
+bit_left : (word at j : ℕ) → at < 64 → j < 64 → j ≢ at → bit_of_word (bit_and word (bit_not w64 (1 * 2 ^ at % 18446744073709551616))) j ≡ bit_of_word word j
+unfolding bit_of_word
+bit_left word at j h k e = ap (λ b. b == 1) (bit_at_clear_other w64 word at h j k e)
+
+-- no bit of 0 is set
+pub no_bit : (j : ℕ) → bit_of_word 0 j ≡ false
+unfolding bit_of_word
+no_bit j = ap (λ b. b == 1) (bit_at-zero j)
 
 -- one more bit: what holds of each bit below, and of the new one
-pub bits_more : (P : ℕ → Bool → Type 0) (word t : ℕ) (on : Bool) → word < 2 ^ t → ((j : ℕ) → j < t → P j (bit_of_word word j)) → P t on
-    → (j : ℕ) → j < t + 1 → P j (bit_of_word (word + bit_value on * 2 ^ t) j)
-bits_more P word t on room below here j h =
-    elim (cases_lt j t) [
-      | inl k ↦ subst (P j) (sym (bit_of_word_low word t on j room k)) (below j k)
-      | inr k ↦ let same : t ≡ j = omega arith in subst (λ i. P i (bit_of_word (word + bit_value on * 2 ^ t) i)) same (subst (P t) (sym (bit_of_word_top word t on room)) here)
+pub bits_more : (P : ℕ → Bool → Type 0) (old new t : ℕ) (on : Bool) → ((j : ℕ) → j < t → P j (bit_of_word old j)) → ((j : ℕ) → j ≢ t → bit_of_word new j ≡ bit_of_word old j) → bit_of_word new t ≡ on → P t on
+    → (j : ℕ) → j < t + 1 → P j (bit_of_word new j)
+bits_more P old new t on below same top here j h =
+    elim (cases_eq j t) [
+      | inl e ↦ subst (λ i. P i (bit_of_word new i)) (sym e) (subst (P t) (sym top) here)
+      | inr other ↦ subst (P j) (sym (same j other)) (below j (omega arith))
     ]
 
 -- bit i of words to which one was added
@@ -95,18 +106,12 @@ first_bits_more old new n bit same here =
     map-range_with_len_more (is_set new) 0 n n (omega arith) ∙ (ap (λ xs. xs ++ is_set new n ∷ []) (same_tables (is_set new) (is_set old) n same) ∙ ap (λ b. table (is_set old) n ++ b ∷ []) here)
 
 -- a bit in a word of its own
-pub bit_in_new_word : (words : List ℕ) (word n : ℕ) (bit : Bool) → length words ≡ (n + 63) / 64 → n % 64 ≡ 0 → word ≡ 0 + bit_value bit * 2 ^ 0
+pub bit_in_new_word : (words : List ℕ) (word n : ℕ) (bit : Bool) → length words ≡ (n + 63) / 64 → n % 64 ≡ 0 → bit_of_word word 0 ≡ bit
     → first_bits (words ++ word ∷ []) (n + 1) ≡ first_bits words n ++ bit ∷ []
 bit_in_new_word words word n bit len zero_rest is =
     first_bits_more words (words ++ word ∷ []) n bit (λ i h. is_set_below words word i (omega arith))
     (let from : n - 64 * length words ≡ 0 = omega arith in
-    is_set_last words word n (omega arith) (omega arith) ∙ (rw (from, is) (bit_of_word_top 0 0 bit (lit< tt))))
-
-low_bits : (word at j : ℕ) → j < at → bit_of_word (word % 2 ^ at) j ≡ bit_of_word word j
-unfolding bit_of_word
-low_bits word at j h =
-    let parts : word / 2 ^ at * 2 ^ at + word % 2 ^ at ≡ word = rw (mul_comm (word / 2 ^ at) (2 ^ at)) (div-add-mod word (2 ^ at)) in
-    ap (λ b. b == 1) (sym (bit_at_cat_low (word / 2 ^ at) at (word % 2 ^ at) j h) ∙ ap (λ w. bit_at w j) parts)
+    is_set_last words word n (omega arith) (omega arith) ∙ (rw from is))
 
 is_set_in : (words : List ℕ) (word k i : ℕ) → k < length words → i / 64 ≡ k → is_set (set words k word) i ≡ bit_of_word word (i % 64)
 unfolding is_set
@@ -121,22 +126,25 @@ unfolding is_set
 is_set_at words i k e = rw e refl
 
 -- a bit above those of the last word
-pub bit_in_last_word : (words : List ℕ) (n at : ℕ) (bit : Bool) → length words ≡ (n + 63) / 64 → n % 64 ≡ at → 0 < at
-    → get_or words (n / 64) 0 % 2 ^ at < 2 ^ at
-    → first_bits (set words (n / 64) (get_or words (n / 64) 0 % 2 ^ at + bit_value bit * 2 ^ at)) (n + 1) ≡ first_bits words n ++ bit ∷ []
-bit_in_last_word words n at bit len rest some room =
+pub bit_in_last_word : (words : List ℕ) (n at : ℕ) (bit : Bool) (word new : ℕ) → length words ≡ (n + 63) / 64 → n % 64 ≡ at → 0 < at → word ≡ get_or words (n / 64) 0
+    → bit_of_word new at ≡ bit → ((j : ℕ) → j ≢ at → bit_of_word new j ≡ bit_of_word (bit_and word (bit_not w64 (1 * 2 ^ at % 18446744073709551616))) j)
+    → first_bits (set words (n / 64) new) (n + 1) ≡ first_bits words n ++ bit ∷ []
+bit_in_last_word words n at bit word new len rest some here top same =
     let k = n / 64 in
-    let word = get_or words k 0 in
-    let new = word % 2 ^ at + bit_value bit * 2 ^ at in
     let within : k < length words = omega arith in
     first_bits_more words (set words k new) n bit
     (λ i h. elim (cases_eq (i / 64) k) [
-      | inl same ↦
+      | inl e ↦
           let below : i % 64 < at = omega arith in
-          is_set_in words new k i within same ∙ (bit_of_word_low (word % 2 ^ at) at bit (i % 64) room below ∙ (low_bits word at (i % 64) below ∙ sym (is_set_at words i k same)))
+          let away : i % 64 ≢ at = omega arith in
+          is_set_in words new k i within e ∙ (same (i % 64) away ∙ (bit_left word at (i % 64) (omega arith) (omega arith) away ∙ (ap (λ w. bit_of_word w (i % 64)) here ∙ sym (is_set_at words i k e))))
       | inr other ↦ is_set_out words new k i other
     ])
-    (is_set_in words new k n within refl ∙ (rw rest (bit_of_word_top (word % 2 ^ at) at bit room)))
+    (is_set_in words new k n within refl ∙ (rw rest top))
+
+-- the bit behind them is not set
+pub last_bit_cleared : (word n at : ℕ) → n % 64 ≡ at → bit_of_word (bit_and word (bit_not w64 (1 * 2 ^ at % 18446744073709551616))) at ≡ false
+last_bit_cleared word n at rest = bit_cleared word at (omega arith)
 
 -- a part of a list, by its items
 pub table_between : {A : Type 0} (xs : List A) (start end : ℕ) (d : A) → start ≤ end → end ≤ length xs → table (λ i. get_or xs (start + i) d) (end - start) ≡ between start end xs
@@ -149,22 +157,6 @@ table_between xs start end d order range =
 pub made_of : {E : Type 0} (f : ℕ → Bool) (n : ℕ) (r : Result (List Bool) E) → IfOk r (λ b. length b ≡ n) → IfOk r (λ b. (i : ℕ) → i < n → get_or b i false ≡ f i) → IfOk r (λ b. b ≡ table f n)
 made_of f n (Ok b) len bits = fill_by_all f b n false len bits
 made_of f n (Err e) len bits = tt
-
--- a word with one bit
-pub one_bit : (r : ℕ) → r < 64 → 1 * 2 ^ r % 18446744073709551616 ≡ 2 ^ r
-one_bit r h = let fits : 2 ^ r < 2 ^ 64 = pow-lt h in rw one-mul (mod-eq_of_lt fits)
-
-pub two_to_positive : (r : ℕ) → 0 < 2 ^ r
-two_to_positive r = pow_pos r
-
--- the same, as the code computes it
-pub bit_put_in_last_word : (words : List ℕ) (n at : ℕ) (bit : Bool) (word new : ℕ) → length words ≡ (n + 63) / 64 → n % 64 ≡ at → 0 < at → word ≡ get_or words (n / 64) 0
-    → new ≡ word % (1 * 2 ^ at % 18446744073709551616) + bit_value bit * 2 ^ at
-    → first_bits (set words (n / 64) new) (n + 1) ≡ first_bits words n ++ bit ∷ []
-bit_put_in_last_word words n at bit word new len rest some here is =
-    let small : at < 64 = omega arith in
-    let e : new ≡ get_or words (n / 64) 0 % 2 ^ at + bit_value bit * 2 ^ at = is ∙ (rw (one_bit at small, here) refl) in
-    rw e (bit_in_last_word words n at bit len rest some (mod-lt (get_or words (n / 64) 0) (two_to_positive at)))
 
 -- the list that a closure made, or a refusal
 pub answered : (f : ℕ → Bool) (n : ℕ) (r : Result (List Bool) FastLanesError) → IfOk r (λ b. length b ≡ n) → IfOk r (λ b. (i : ℕ) → i < n → get_or b i false ≡ f i) → IfErr r (λ e. e ≡ OutOfMemory) → Answers (λ b. b) r (Ok (table f n))

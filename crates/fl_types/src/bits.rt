@@ -1,17 +1,15 @@
 //! Lists of truth values.
 
-ghost use Rattle.std.specs.Prelude.{◌≡◌, ◌<◌, ◌≤◌, ◌+◌, ◌^◌, ◌*◌, ◌/◌, ℕ, Bool, [], ◌∷◌, ◌++◌, length, slice_get, slice_index, slice_index_or, false, Some, IfOk, IfErr, OnOk, OnErr, Ok};
+ghost use Rattle.std.specs.Prelude.{◌≡◌, ◌≢◌, ◌<◌, ◌≤◌, ◌+◌, ◌^◌, ◌*◌, ◌/◌, ℕ, Bool, [], ◌∷◌, ◌++◌, length, slice_get, slice_index, slice_index_or, false, Some, IfOk, IfErr, OnOk, OnErr, Ok};
 ghost use Rattle.std.specs.Bool.{beq};
 ghost use Rattle.std.specs.Cmp.{bool_eq_equiv, partial_equiv_from_equiv};
 ghost use Rattle.std.specs.Cmp.Lexicographic.{lists_equiv, lists_per, pointwise};
 ghost use Rattle.std.specs.Int.{bit_at};
-ghost use Rattle.fastlanes.specs.Layout.{bit_value};
 ghost use Rattle.fl_types.specs.Bits.{between, bit_of_word, first_bits, is_set, table, true_count};
 ghost use Rattle.fl_types.specs.Refusals.{Answers};
 ghost use Rattle.fl_types.specs.declared.error.FastLanesError.TheVariants.{OutOfMemory};
 
 use crate::error::FastLanesError;
-use fastlanes::FastLanes;
 use std::alloc::{AllocError, Global};
 use std::marker::Model;
 
@@ -165,6 +163,17 @@ fn bit_of(words: &[u64], i: usize) -> bool
     words[i / 64] >> (i % 64) & 1 == 1
 }
 
+/// The word with bit `at`, which is not set, as `on` says.
+#[tactic(auto, using(crate::proofs::BitLists::set_bits))]
+fn with_bit(word: u64, at: usize, on: bool) -> u64
+    requires within { at < 64 }
+    requires clear { bit_of_word word at ≡ false }
+    ensures bit { bit_of_word result at ≡ on }
+    ensures others { (j : ℕ) → j ≢ at → bit_of_word result j ≡ bit_of_word word j }
+{
+    if on { word | 1 << at } else { word }
+}
+
 /// The word whose lowest bits are the answers of `bit` at `start` to `start + count - 1`.
 fn word_of<F: Fn(usize) -> bool>(start: usize, count: usize, bit: &F) -> u64
     requires count { count ≤ 64 }
@@ -172,9 +181,9 @@ fn word_of<F: Fn(usize) -> bool>(start: usize, count: usize, bit: &F) -> u64
     requires callable { (j : ℕ) → j < count → F.pre bit.now (start + j) }
     ensures { (j : ℕ) → j < count → F.post bit.now (start + j) (bit_of_word result j) }
 {
-    let mut word = 0u64;
+    let mut word = 0;
     for j in 0..count {
-        word = word.with_bit(j, bit(start + j));
+        word = with_bit(word, j, bit(start + j));
     }
     word
 }
@@ -188,12 +197,12 @@ fn push_bit(words: &mut Vec<u64>, len: usize, bit: bool) -> Result<(), AllocErro
 {
     match len % 64 {
         0 => {
-            words.push(0u64.with_bit(0, bit))?;
+            words.push(with_bit(0, 0, bit))?;
             Ok(())
         }
         at => {
             let word = words[len / 64];
-            words[len / 64] = (word % (1 << at)).with_bit(at, bit);
+            words[len / 64] = with_bit(word & !(1 << at), at, bit);
             Ok(())
         }
     }

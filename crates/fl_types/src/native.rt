@@ -12,29 +12,21 @@ ghost use Rattle.fl_types.specs.Integers.{bits_of_type, fits, pattern_of, pos_in
 use crate::dtype::PType;
 use crate::scalar::PValue;
 use crate::slots::Slots;
-use fastlanes::FastLanes;
-use num_traits::{Integral, Zero};
+use num_traits::Integral;
 
 /// An integer type of columns. Contracts see a value as its integer, `T.value x`.
 ///
 /// It stands on few traits, since each is a parameter of all that is proved of a function over it.
 /// A function that needs more asks for it beside, as in `T: NativePType + WrappingSub`.
-pub trait NativePType: Copy + Integral + Zero {
+pub trait NativePType: Copy + Integral {
     /// The type's name.
     const PTYPE: PType;
 
     ghost PTYPE: { PType };
 
-    /// The unsigned type of the same width, whose values are the bit patterns.
-    type Physical: FastLanes;
-
-    /// The bit pattern of the value.
-    fn to_physical(self) -> Self::Physical
-        ensures { Self.Physical.pattern result ≡ pattern_of PTYPE (Self.value self) };
-
-    /// The value of a bit pattern.
-    fn from_physical(pattern: Self::Physical) -> Self
-        ensures { Self.value result ≡ read_as PTYPE (Self.Physical.pattern pattern) };
+    /// The value 0.
+    fn zero() -> Self
+        ensures { Self.value result ≡ pos 0 };
 
     /// The value as an `i128`, which holds every integer of the eight types.
     fn as_i128(self) -> i128
@@ -71,33 +63,22 @@ pub trait NativePType: Copy + Integral + Zero {
     // Sums and differences wrap as the type does.
     ghost wraps_law: { (z : ℤ) → Self.wrap z ≡ wrap PTYPE z };
 
-    // The patterns have the type's bits.
-    ghost width_law: { Self.Physical.T ≡ bits_of_type PTYPE };
-
     // Values of one integer are equal.
     ghost one_value: { (x y : Self) → Self.value x ≡ Self.value y → x ≡ y };
 }
 
-#[tactic(auto, using(crate::proofs::Maps::maps, crate::proofs::Patterns::patterns))]
+#[tactic(auto, using(crate::proofs::Maps::maps))]
 impl NativePType for u8 {
     const PTYPE: PType = PType::U8;
 
     ghost PTYPE = { types.U8 };
 
-    type Physical = u8;
-
     ghost wraps_law = { λ z. refl };
-
-    ghost width_law = { refl };
 
     ghost one_value = { pos_injective };
 
-    fn to_physical(self) -> u8 {
-        self
-    }
-
-    fn from_physical(pattern: u8) -> u8 {
-        pattern
+    fn zero() -> u8 {
+        0
     }
 
     fn as_i128(self) -> i128 {
@@ -136,26 +117,18 @@ impl NativePType for u8 {
     }
 }
 
-#[tactic(auto, using(crate::proofs::Maps::maps, crate::proofs::Patterns::patterns))]
+#[tactic(auto, using(crate::proofs::Maps::maps))]
 impl NativePType for u16 {
     const PTYPE: PType = PType::U16;
 
     ghost PTYPE = { types.U16 };
 
-    type Physical = u16;
-
     ghost wraps_law = { λ z. refl };
-
-    ghost width_law = { refl };
 
     ghost one_value = { pos_injective };
 
-    fn to_physical(self) -> u16 {
-        self
-    }
-
-    fn from_physical(pattern: u16) -> u16 {
-        pattern
+    fn zero() -> u16 {
+        0
     }
 
     fn as_i128(self) -> i128 {
@@ -194,26 +167,18 @@ impl NativePType for u16 {
     }
 }
 
-#[tactic(auto, using(crate::proofs::Maps::maps, crate::proofs::Patterns::patterns))]
+#[tactic(auto, using(crate::proofs::Maps::maps))]
 impl NativePType for u32 {
     const PTYPE: PType = PType::U32;
 
     ghost PTYPE = { types.U32 };
 
-    type Physical = u32;
-
     ghost wraps_law = { λ z. refl };
-
-    ghost width_law = { refl };
 
     ghost one_value = { pos_injective };
 
-    fn to_physical(self) -> u32 {
-        self
-    }
-
-    fn from_physical(pattern: u32) -> u32 {
-        pattern
+    fn zero() -> u32 {
+        0
     }
 
     fn as_i128(self) -> i128 {
@@ -252,26 +217,18 @@ impl NativePType for u32 {
     }
 }
 
-#[tactic(auto, using(crate::proofs::Maps::maps, crate::proofs::Patterns::patterns))]
+#[tactic(auto, using(crate::proofs::Maps::maps))]
 impl NativePType for u64 {
     const PTYPE: PType = PType::U64;
 
     ghost PTYPE = { types.U64 };
 
-    type Physical = u64;
-
     ghost wraps_law = { λ z. refl };
-
-    ghost width_law = { refl };
 
     ghost one_value = { pos_injective };
 
-    fn to_physical(self) -> u64 {
-        self
-    }
-
-    fn from_physical(pattern: u64) -> u64 {
-        pattern
+    fn zero() -> u64 {
+        0
     }
 
     fn as_i128(self) -> i128 {
@@ -310,26 +267,18 @@ impl NativePType for u64 {
     }
 }
 
-#[tactic(auto, using(crate::proofs::Maps::maps, crate::proofs::Patterns::patterns))]
+#[tactic(auto, using(crate::proofs::Maps::maps))]
 impl NativePType for i8 {
     const PTYPE: PType = PType::I8;
 
     ghost PTYPE = { types.I8 };
 
-    type Physical = u8;
-
     ghost wraps_law = { λ z. refl };
-
-    ghost width_law = { refl };
 
     ghost one_value = { λ x y e. e };
 
-    fn to_physical(self) -> u8 {
-        self.cast_unsigned()
-    }
-
-    fn from_physical(pattern: u8) -> i8 {
-        pattern.cast_signed()
+    fn zero() -> i8 {
+        0
     }
 
     fn as_i128(self) -> i128 {
@@ -368,26 +317,18 @@ impl NativePType for i8 {
     }
 }
 
-#[tactic(auto, using(crate::proofs::Maps::maps, crate::proofs::Patterns::patterns))]
+#[tactic(auto, using(crate::proofs::Maps::maps))]
 impl NativePType for i16 {
     const PTYPE: PType = PType::I16;
 
     ghost PTYPE = { types.I16 };
 
-    type Physical = u16;
-
     ghost wraps_law = { λ z. refl };
-
-    ghost width_law = { refl };
 
     ghost one_value = { λ x y e. e };
 
-    fn to_physical(self) -> u16 {
-        self.cast_unsigned()
-    }
-
-    fn from_physical(pattern: u16) -> i16 {
-        pattern.cast_signed()
+    fn zero() -> i16 {
+        0
     }
 
     fn as_i128(self) -> i128 {
@@ -426,26 +367,18 @@ impl NativePType for i16 {
     }
 }
 
-#[tactic(auto, using(crate::proofs::Maps::maps, crate::proofs::Patterns::patterns))]
+#[tactic(auto, using(crate::proofs::Maps::maps))]
 impl NativePType for i32 {
     const PTYPE: PType = PType::I32;
 
     ghost PTYPE = { types.I32 };
 
-    type Physical = u32;
-
     ghost wraps_law = { λ z. refl };
-
-    ghost width_law = { refl };
 
     ghost one_value = { λ x y e. e };
 
-    fn to_physical(self) -> u32 {
-        self.cast_unsigned()
-    }
-
-    fn from_physical(pattern: u32) -> i32 {
-        pattern.cast_signed()
+    fn zero() -> i32 {
+        0
     }
 
     fn as_i128(self) -> i128 {
@@ -484,26 +417,18 @@ impl NativePType for i32 {
     }
 }
 
-#[tactic(auto, using(crate::proofs::Maps::maps, crate::proofs::Patterns::patterns))]
+#[tactic(auto, using(crate::proofs::Maps::maps))]
 impl NativePType for i64 {
     const PTYPE: PType = PType::I64;
 
     ghost PTYPE = { types.I64 };
 
-    type Physical = u64;
-
     ghost wraps_law = { λ z. refl };
-
-    ghost width_law = { refl };
 
     ghost one_value = { λ x y e. e };
 
-    fn to_physical(self) -> u64 {
-        self.cast_unsigned()
-    }
-
-    fn from_physical(pattern: u64) -> i64 {
-        pattern.cast_signed()
+    fn zero() -> i64 {
+        0
     }
 
     fn as_i128(self) -> i128 {

@@ -6,7 +6,7 @@ use Rattle.fl_codec.proofs.delta.decode_typed.Goals as goal
 
 pub decompress_typed-requires-clause-bases : goal.decompress_typed-requires-clause-bases
 decompress_typed-requires-clause-bases g c =
-    let lanes = lanes_is g.T.NativePType.PTYPE g.T.Physical.FastLanes.T g.T.Physical.FastLanes.LANES g.met.T.Physical.FastLanes.shape g.met.T.NativePType.width_law in
+    let lanes = lanes_is g.T.NativePType.PTYPE g.T.Physical.FastLanes.T g.T.Physical.FastLanes.LANES g.met.T.Physical.FastLanes.shape g.met.T.PhysicalPType.width_law in
     let long = length_of_values g.T.Number.value c.as_slice.result.now c.args.bases.now.slots c.as_slice.ensures in
     rw (lanes, long) (rw c.requires.bases_typed at c.requires.bases)
 

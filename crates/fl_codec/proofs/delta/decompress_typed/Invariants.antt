@@ -1,4 +1,4 @@
-use Rattle.std.proofs.Common.{◌≡◌, ◌+◌, ◌-◌, ◌*◌, min, ◌≤◌, length, map}
+use Rattle.std.proofs.Common.{◌≡◌, ◌+◌, ◌-◌, ◌*◌, min, length, map}
 use Rattle.fl_types.specs.Bits.{table}
 use Rattle.fl_codec.specs.Deltas.{delta_integer}
 use Rattle.fl_codec.proofs.delta.decompress_typed.Given as goal

@@ -1,4 +1,4 @@
-use Rattle.std.proofs.Common.{◌≡◌, ◌<◌, length, arith, ap, sym, ◌∙◌}
+use Rattle.std.proofs.Common.{◌<◌, length, arith, ap, ◌∙◌}
 use Rattle.fastlanes.specs.Layout.{pattern_at, segment}
 use Rattle.fastlanes.proofs.Patterns.{pattern_at_take}
 use Rattle.fl_codec.proofs.DeltaLaws.{encoded_here, first_stored, segment_inside, some_rows}

@@ -1,4 +1,4 @@
-use Rattle.std.proofs.Common.{◌≡◌, ◌+◌, ◌-◌, ◌≤◌, ℕ, length, take, drop, arith, ap, ◌∙◌, length-take, length-drop}
+use Rattle.std.proofs.Common.{◌≡◌, ◌+◌, ◌-◌, length, take, drop, arith, ap, ◌∙◌, length-take, length-drop}
 use Rattle.fastlanes.specs.Layout.{pattern_at}
 use Rattle.fastlanes.proofs.Patterns.{pattern_at_take, pattern_at_drop}
 use Rattle.fl_types.specs.Integers.{read_as}

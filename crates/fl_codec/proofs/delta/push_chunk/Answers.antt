@@ -1,9 +1,8 @@
-use Rattle.std.proofs.Common.{◌≡◌, ◌+◌, ◌*◌, ◌<◌, ◌≤◌, ◌++◌, ◌^◌, ℕ, IsTrue, length, map, take, unwrap_or, arith, subst, ap, sym, ◌∙◌}
+use Rattle.std.proofs.Common.{◌<◌, ◌++◌, ℕ, IsTrue, map, unwrap_or, arith, subst, ap, sym, ◌∙◌}
 use Rattle.fastlanes.specs.Layout.{pattern_at}
 use Rattle.fl_types.specs.Integers.{fits, pattern_of, read_as}
 use Rattle.fl_codec.specs.Chunks.{chunk}
-use Rattle.fl_codec.specs.Deltas.{bases_to, deltas_to}
-use Rattle.fl_codec.specs.Filling.{Carry, carried_to, filled, filled_from, last_some}
+use Rattle.fl_codec.specs.Filling.{Carry, filled, filled_from, last_some}
 use Rattle.fl_codec.specs.Parts.{items_of_plain}
 use Rattle.fl_codec.proofs.DeltaLaws.{bases_of_chunk, deltas_of_chunk, few_lanes}
 use Rattle.fl_codec.proofs.FillingLaws.{carried_more, filled-carry}
@@ -28,7 +27,7 @@ returns-clause-bases g c =
     let long = c.encode_block.ensures.stored in
     c.in_ok-push_values.ensures ∙ (ap (λ ws. map value c.args.bases.now.items ++ map (λ w. read_as ptype (pattern w)) ws) c.first_row.ensures.row
     ∙ bases_of_chunk pattern ptype g.T.Physical.FastLanes.T g.T.Physical.FastLanes.LANES k (filled Carry items) (pattern_at pattern c.fill_chunk-last.new.block) c.encode_block.new.stored
-    g.met.T.Physical.FastLanes.shape g.met.T.NativePType.width_law (let few = few_lanes g.T.Physical.FastLanes.T g.T.Physical.FastLanes.LANES g.met.T.Physical.FastLanes.shape in omega arith)
+    g.met.T.Physical.FastLanes.shape g.met.T.PhysicalPType.width_law (let few = few_lanes g.T.Physical.FastLanes.T g.T.Physical.FastLanes.LANES g.met.T.Physical.FastLanes.shape in omega arith)
     (λ q h. c.fill_chunk-last.ensures.block q h ∙ ap (pattern_of ptype) (filled_at q h))
     (λ q h. subst (λ z. IsTrue (fits ptype z)) (filled_at q h) (c.fill_chunk-last.ensures.fits q h))
     c.encode_block.ensures.bases (map value c.args.bases.now.items) c.requires.bases)
@@ -44,6 +43,6 @@ returns-clause-deltas g c =
     let filled_at = λ (q : ℕ) (h : q < 1024). ap (λ xs. filled_from (value c.args.last) (chunk k xs) q) here ∙ (ap (λ b. filled_from b (chunk k items) q) c.requires.last ∙ sym (filled-carry items k q h)) in
     c.in_ok-push_values-2.ensures
     ∙ deltas_of_chunk pattern ptype g.T.Physical.FastLanes.T g.T.Physical.FastLanes.LANES k (filled Carry items) (pattern_at pattern c.fill_chunk-last.new.block) c.encode_block.new.block
-    g.met.T.Physical.FastLanes.shape g.met.T.NativePType.width_law c.encode_block.ensures.whole
+    g.met.T.Physical.FastLanes.shape g.met.T.PhysicalPType.width_law c.encode_block.ensures.whole
     (λ q h. c.fill_chunk-last.ensures.block q h ∙ ap (pattern_of ptype) (filled_at q h))
     c.encode_block.ensures.deltas (map value c.args.deltas.now.items) c.requires.deltas

@@ -1,8 +1,7 @@
-use Rattle.std.proofs.Common.{◌≡◌, ◌+◌, ◌-◌, ◌*◌, ◌/◌, ◌%◌, ◌≤◌, ◌<◌, ℕ, pos, get_or, length, map, arith, ap, sym, ◌∙◌}
+use Rattle.std.proofs.Common.{◌≡◌, ◌+◌, ◌*◌, ◌/◌, ◌%◌, ◌≤◌, ℕ, pos, get_or, length, map, arith, ap, ◌∙◌}
 use Rattle.fastlanes.specs.Layout.{pattern_at}
 use Rattle.fastlanes.proofs.Patterns.{pattern_at_take}
 use Rattle.fl_types.specs.Integers.{pattern_of}
-use Rattle.fl_codec.specs.Deltas.{block_integer}
 use Rattle.fl_codec.proofs.DeltaSums.{block_of_sums, patterns_of_part}
 use Rattle.fl_codec.proofs.delta.read_block.Goals as goal
 
@@ -23,5 +22,5 @@ returns-clause-items g c q h =
     let deltas = patterns_of_part value ptype (pattern_at pattern c.put_patterns-2.new.block) c.args.deltas.now (1024 * j) 1024 _ (omega arith) (let room = c.requires.deltas in omega arith) c.put_patterns-2.ensures.block in
     let block_no : (1024 * j + q) / 1024 ≡ j = omega arith in
     let place_no : (1024 * j + q) % 1024 ≡ q = omega arith in
-    rw (block_no, place_no) (block_of_sums ptype T lanes j base delta (pattern_at pattern c.first_row.result.now) (pattern_at pattern c.put_patterns-2.new.block) (pattern_at pattern c.decode_block.new.block) g.met.T.Physical.FastLanes.shape g.met.T.NativePType.width_law
+    rw (block_no, place_no) (block_of_sums ptype T lanes j base delta (pattern_at pattern c.first_row.result.now) (pattern_at pattern c.put_patterns-2.new.block) (pattern_at pattern c.decode_block.new.block) g.met.T.Physical.FastLanes.shape g.met.T.PhysicalPType.width_law
     (λ l p. ap (λ ws. pattern_at pattern ws l) c.first_row.ensures.row ∙ (pattern_at_take pattern c.put_patterns.new.block lanes l p ∙ (bases l (rw named p) ∙ ap (λ n. pattern_of ptype (base (j * n + l))) named))) deltas c.decode_block.ensures.items q h)

@@ -1,5 +1,4 @@
-use Rattle.std.proofs.Common.{◌≡◌, ◌<◌, ℕ, ℤ, IsTrue, length, length-set, map, option_map, unwrap_or, take, arith, subst, sym, ap, ◌∙◌, inl, inr}
-use Rattle.std.proofs.lemmas.Bool.{cases_eq}
+use Rattle.std.proofs.Common.{◌≡◌, ◌<◌, IsTrue, length, length-set, map, option_map, unwrap_or, take, arith, subst, ap, ◌∙◌}
 use Rattle.fastlanes.proofs.Patterns.{pattern_filled}
 use Rattle.fl_types.specs.Integers.{fits, pattern_of}
 use Rattle.fl_types.specs.Validities.{items_of}

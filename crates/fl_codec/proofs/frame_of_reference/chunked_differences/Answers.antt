@@ -1,5 +1,4 @@
-use Rattle.std.proofs.Common.{◌≡◌, ◌/◌, ℕ, ℤ, pos, None, map, get_or, length, arith, ap, sym, ◌∙◌, option_map}
-use Rattle.std.proofs.lemmas.List.{get_or-map}
+use Rattle.std.proofs.Common.{◌≡◌, ◌/◌, ℕ, ℤ, pos, None, map, get_or, length, arith, ap, ◌∙◌, option_map}
 use Rattle.fl_types.specs.Bits.{table}
 use Rattle.fl_types.specs.Validities.{items_of}
 use Rattle.fl_codec.specs.Frames.{minus_reference}

@@ -1,5 +1,4 @@
-use Rattle.std.proofs.Common.{map, ◌∙◌, ap, sym}
-use Rattle.fl_codec.specs.Frames.{chunked_sums}
+use Rattle.std.proofs.Common.{map}
 use Rattle.fl_codec.proofs.FrameColumns.{chunked_column}
 use Rattle.fl_codec.proofs.frame_of_reference.decode_chunked_typed.Goals as goal
 

@@ -1,5 +1,4 @@
-use Rattle.std.proofs.Common.{◌+ℤ◌, map, ◌∙◌, ap, sym}
-use Rattle.fl_types.specs.Integers.{wrap}
+use Rattle.std.proofs.Common.{map}
 use Rattle.fl_codec.proofs.FrameColumns.{global_column}
 use Rattle.fl_codec.proofs.frame_of_reference.decode_typed.Goals as goal
 

@@ -1,6 +1,6 @@
 use Rattle.std.proofs.Common.{Ok, Some, None, map, refl, ap, sym, subst}
 use Rattle.fl_types.specs.Refusals.{Answers}
-use Rattle.fl_codec.specs.Parts.{Whole, frame_parts, FrameParts}
+use Rattle.fl_codec.specs.Parts.{frame_parts, FrameParts}
 use Rattle.fl_codec.proofs.FrameColumns.{whole_ok}
 use Rattle.fl_codec.proofs.ReferenceLaws.{references_of_plain}
 use Rattle.fl_codec.proofs.frame_of_reference.encode_chunks.Goals as goal

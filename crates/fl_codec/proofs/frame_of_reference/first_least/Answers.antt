@@ -1,7 +1,6 @@
-use Rattle.std.proofs.Common.{◌≡◌, ◌<◌, ◌≤◌, None, map, get_or, length, arith, ap, sym, ◌∙◌, option_map, drop}
+use Rattle.std.proofs.Common.{◌≤◌, map, length, arith, sym, ◌∙◌}
 use Rattle.fl_types.specs.Validities.{items_of}
 use Rattle.fl_codec.specs.Chunks.{chunk, chunks_of}
-use Rattle.fl_codec.specs.Filling.{either, first_some}
 use Rattle.fl_codec.specs.Frames.{chunk_leasts, least_valid}
 use Rattle.fl_codec.proofs.ReferenceLaws.{first_least_at, first_past, length-items_read, length-table}
 use Rattle.fl_codec.proofs.frame_of_reference.first_least.Goals as goal

@@ -1,10 +1,10 @@
-use Rattle.std.proofs.Common.{◌≡◌, ◌<◌, ◌-◌, IsTrue, map, length, arith, option_map, sym, ◌∙◌, ap}
+use Rattle.std.proofs.Common.{◌≡◌, ◌<◌, IsTrue, map, length, arith, option_map, sym}
 use Rattle.std.proofs.lemmas.List.{length-map}
 use Rattle.fl_types.specs.Bits.{between}
 use Rattle.fl_types.specs.Validities.{covers, items_of}
 use Rattle.fl_plain.proofs.ItemLaws.{length-items_of}
 use Rattle.fl_codec.specs.Frames.{valid_items}
-use Rattle.fl_codec.proofs.FrameLaws.{IsLeast, find-least, least_between_more, valid_none}
+use Rattle.fl_codec.proofs.FrameLaws.{find-least, least_between_more, valid_none}
 use Rattle.fl_codec.proofs.frame_of_reference.least_between.Goals as goal
 
 pub loop-i-init : goal.loop-i-init

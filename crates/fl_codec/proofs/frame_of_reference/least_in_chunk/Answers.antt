@@ -1,4 +1,4 @@
-use Rattle.std.proofs.Common.{◌*◌, map, arith, ap, sym, ◌∙◌}
+use Rattle.std.proofs.Common.{map, ap, ◌∙◌}
 use Rattle.fl_types.specs.Validities.{items_of}
 use Rattle.fl_codec.specs.Frames.{least_valid}
 use Rattle.fl_codec.proofs.ReferenceLaws.{chunk_reached, length-items_read}

@@ -1,4 +1,4 @@
-use Rattle.std.proofs.Common.{◌≡◌, ◌+◌, ◌*◌, ◌<◌, ◌≤◌, ℕ, None, true, false, get_or, length, map, option_map, arith, ap, sym, ◌∙◌}
+use Rattle.std.proofs.Common.{◌≡◌, ◌<◌, None, true, false, get_or, option_map, arith, ap, sym, ◌∙◌}
 use Rattle.fl_plain.proofs.ItemLaws.{length-items_of}
 use Rattle.fl_plain.proofs.ListLaws.{all_fails, all_from}
 use Rattle.fl_codec.specs.Chunks.{chunk}

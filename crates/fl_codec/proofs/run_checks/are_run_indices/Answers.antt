@@ -1,4 +1,4 @@
-use Rattle.std.proofs.Common.{◌≡◌, ◌<◌, ◌≤◌, ◌∙◌, false, length, arith, ap, sym}
+use Rattle.std.proofs.Common.{◌<◌, ◌∙◌, length, arith, ap, sym}
 use Rattle.std.specs.List.{list_all}
 use Rattle.fl_plain.specs.Columns.{column_of_plain, numbers_of}
 use Rattle.fl_codec.specs.Chunks.{chunk}

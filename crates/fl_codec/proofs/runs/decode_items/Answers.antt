@@ -1,4 +1,4 @@
-use Rattle.std.proofs.Common.{◌≡◌, ◌+◌, ◌-◌, ◌*◌, ◌≤◌, ◌<◌, ◌++◌, ℕ, min, length, map, arith, ap, sym, ◌∙◌}
+use Rattle.std.proofs.Common.{◌≡◌, ◌+◌, ◌-◌, ◌*◌, ◌++◌, ℕ, length, map, arith, ap, sym, ◌∙◌}
 use Rattle.fastlanes.specs.Layout.{pattern_at}
 use Rattle.fl_types.specs.Bits.{table}
 use Rattle.fl_types.specs.Integers.{read_as}

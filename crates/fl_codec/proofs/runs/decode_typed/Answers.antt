@@ -1,7 +1,6 @@
-use Rattle.std.proofs.Common.{◌≡◌, ◌+◌, ◌*◌, ◌≤◌, ◌<◌, ℕ, IsTrue, Ok, length, map, arith, subst, ap, sym, ◌∙◌}
+use Rattle.std.proofs.Common.{◌≡◌, ◌+◌, ◌<◌, IsTrue, Ok, length, map, arith, subst, ap, sym, ◌∙◌}
 use Rattle.std.proofs.lemmas.List.{length-map}
 use Rattle.fl_types.specs.Validities.{covers, validity_between}
-use Rattle.fl_codec.specs.Chunks.{chunks_of}
 use Rattle.fl_codec.specs.Parts.{RunParts, items_of_plain}
 use Rattle.fl_codec.specs.RunColumns.{IsChunk, run_offsets_of}
 use Rattle.fl_codec.proofs.RunDecoding.{covers_shown, decoded, sound}

@@ -1,10 +1,10 @@
-use Rattle.std.proofs.Common.{◌≡◌, ◌≤◌, ◌*◌, ◌/◌, ◌%◌, ◌++◌, ◌∷◌, [], ℕ, IsTrue, length, map, arith, subst, ap, sym, ◌∙◌, Ok}
+use Rattle.std.proofs.Common.{◌≡◌, ◌≤◌, ◌*◌, ◌/◌, ◌%◌, ◌++◌, ◌∷◌, [], IsTrue, length, map, arith, subst, ap, sym, ◌∙◌, Ok}
 use Rattle.std.proofs.lemmas.List.{length-map}
 use Rattle.fl_types.specs.Validities.{covers}
 use Rattle.fl_codec.specs.Chunks.{chunks_of}
 use Rattle.fl_codec.specs.Filling.{Reset, filled}
 use Rattle.fl_codec.specs.Parts.{items_of_plain}
-use Rattle.fl_codec.specs.Runs.{indices_to, offsets_to, run_index, run_validity, values_to}
+use Rattle.fl_codec.specs.Runs.{offsets_to, run_index, run_validity, values_to}
 use Rattle.fl_codec.proofs.ReferenceLaws.{length-table, table_more}
 use Rattle.fl_codec.proofs.RunLaws.{covers-run_validity, ok_same, runs_made}
 use Rattle.fl_codec.proofs.runs.encode_typed.Goals as goal

@@ -1,4 +1,4 @@
-use Rattle.std.proofs.Common.{◌≡◌, ◌<◌, Some, None, length, arith, ◌∙◌}
+use Rattle.std.proofs.Common.{◌<◌, Some, None, length, arith, ◌∙◌}
 use Rattle.fl_types.specs.Values.{integer_of}
 use Rattle.fl_plain.specs.Columns.{column_of_plain}
 use Rattle.fl_codec.proofs.RunDecoding.{numbers_at}

@@ -1,10 +1,10 @@
-use Rattle.std.proofs.Common.{◌≡◌, ◌+◌, ◌*◌, ◌≤◌, ◌<◌, ◌++◌, ℕ, ℤ, pos, IsTrue, length, map, take, arith, rules, subst, ap, sym, ◌∙◌}
+use Rattle.std.proofs.Common.{◌<◌, ◌++◌, ℕ, IsTrue, map, take, rules, subst, ap, sym, ◌∙◌}
 use Rattle.fastlanes.specs.Layout.{pattern_at}
 use Rattle.fl_types.specs.Integers.{fits, pattern_of, read_as}
 use Rattle.fl_codec.specs.Chunks.{chunk}
 use Rattle.fl_codec.specs.Filling.{Reset, filled, filled_from}
 use Rattle.fl_codec.specs.Parts.{items_of_plain}
-use Rattle.fl_codec.specs.Runs.{indices_to, values_to}
+use Rattle.fl_codec.specs.Runs.{values_to}
 use Rattle.fl_codec.proofs.FillingLaws.{filled-reset}
 use Rattle.fl_codec.proofs.ReferenceLaws.{same_items}
 use Rattle.fl_codec.proofs.RunLaws.{indices_of_chunk, values_more, values_of_chunk}
@@ -18,8 +18,7 @@ returns-clause-values g c =
     let k = c.args.k in
     let items = items_of_plain c.args.array.now in
     let here = same_items value c.args.array.now c.validity.result.now c.as_slice.result.now c.validity.ensures.value c.as_slice.ensures in
-    let zero = ap value c.zero.ensures ∙ g.met.T.Zero.zero_law g.met.T.Integral.exact_law in
-    let filled_at = λ (q : ℕ) (h : q < 1024). ap (λ xs. filled_from (value c.zero.result) (chunk k xs) q) here ∙ (ap (λ b. filled_from b (chunk k items) q) zero ∙ sym (filled-reset items k q h)) in
+    let filled_at = λ (q : ℕ) (h : q < 1024). ap (λ xs. filled_from (value c.zero.result) (chunk k xs) q) here ∙ (ap (λ b. filled_from b (chunk k items) q) c.zero.ensures ∙ sym (filled-reset items k q h)) in
     c.in_ok-push_values.ensures ∙ (ap (λ xs. xs ++ map (λ w. read_as ptype (pattern w)) (take c.rle_encode-count.result c.rle_encode-count.new.values)) c.requires.values
     ∙ (ap (λ ys. values_to items k ++ ys) (values_of_chunk pattern ptype (filled Reset items) k (pattern_at pattern c.fill_chunk.new.block) c.rle_encode-count.new.values c.rle_encode-count.result (let few = c.rle_encode-count.ensures.few in let long = c.told-runs in search rules) c.rle_encode-count.ensures.count
     (λ q h. c.fill_chunk.ensures.block q h ∙ ap (pattern_of ptype) (filled_at q h))
@@ -35,8 +34,7 @@ returns-clause-indices g c =
     let k = c.args.k in
     let items = items_of_plain c.args.array.now in
     let here = same_items value c.args.array.now c.validity.result.now c.as_slice.result.now c.validity.ensures.value c.as_slice.ensures in
-    let zero = ap value c.zero.ensures ∙ g.met.T.Zero.zero_law g.met.T.Integral.exact_law in
-    let filled_at = λ (q : ℕ) (h : q < 1024). ap (λ xs. filled_from (value c.zero.result) (chunk k xs) q) here ∙ (ap (λ b. filled_from b (chunk k items) q) zero ∙ sym (filled-reset items k q h)) in
+    let filled_at = λ (q : ℕ) (h : q < 1024). ap (λ xs. filled_from (value c.zero.result) (chunk k xs) q) here ∙ (ap (λ b. filled_from b (chunk k items) q) c.zero.ensures ∙ sym (filled-reset items k q h)) in
     c.in_ok-extend_from_slice.ensures.items ∙ (ap (λ xs. xs ++ c.rle_encode-count.new.indices) c.requires.indices
     ∙ indices_of_chunk ptype items k (pattern_at pattern c.fill_chunk.new.block) c.rle_encode-count.new.indices c.rle_encode-count.array_long
     (λ q h. c.fill_chunk.ensures.block q h ∙ ap (pattern_of ptype) (filled_at q h))

@@ -1,13 +1,12 @@
-use Rattle.std.proofs.Common.{◌≡◌, ◌+◌, ◌-◌, ◌*◌, ◌/◌, ◌<◌, ◌≤◌, ℕ, ℤ, pos, None, get_or, length, map, take, drop, unsigned_abs, unwrap_or, arith, ap, sym, ◌∙◌}
-use Rattle.std.proofs.Common.{length-take, length-drop}
+use Rattle.std.proofs.Common.{◌≡◌, ◌+◌, ◌-◌, ◌*◌, ◌/◌, ◌<◌, ◌≤◌, pos, None, get_or, length, map, take, unsigned_abs, unwrap_or, arith, ap, sym, ◌∙◌}
 use Rattle.std.proofs.lemmas.List.{length-map}
 use Rattle.fastlanes.specs.Layout.{pattern_at}
 use Rattle.fastlanes.proofs.Patterns.{pattern_at_take}
-use Rattle.fl_types.specs.Integers.{fits, pattern_of, read_as}
+use Rattle.fl_types.specs.Integers.{fits, read_as}
 use Rattle.fl_plain.specs.Columns.{column_of_plain, numbers_of}
 use Rattle.fl_plain.proofs.ListLaws.{all_at}
 use Rattle.fl_codec.specs.Parts.{items_of_plain}
-use Rattle.fl_codec.specs.RunColumns.{chunk_end, chunk_start, run_count, run_integer}
+use Rattle.fl_codec.specs.RunColumns.{chunk_end, chunk_start, run_count}
 use Rattle.fl_codec.proofs.Congruence.{read_as-pattern_of}
 use Rattle.fl_codec.proofs.DeltaSums.{patterns_of_part}
 use Rattle.fl_codec.proofs.RunDecoding.{index_below}

@@ -22,7 +22,7 @@ push_block-requires g c =
     let few = c.chunk_of-chunk.ensures.few in
     let words = c.loop-j.invariant.words in
     let bits = c.requires.width in
-    let type = g.met.T.NativePType.width_law in
+    let type = g.met.T.PhysicalPType.width_law in
     let width : c.args.width ≤ g.T.Physical.FastLanes.T = omega arith in
     (search rules, (width, (few, (words, room))))
 
@@ -49,5 +49,5 @@ pub returns : goal.returns
 returns g c =
     let lanes = g.T.Physical.FastLanes.LANES in
     let ended : c.loop-j.j ≡ chunk_count (length c.args.items.now) = let end = c.chunk_count-j-end.ensures in let last = c.loop-j-test.false in let auto = c.loop-j.auto in omega arith in
-    words_made g.T.Number.value g.T.NativePType.PTYPE g.T.Physical.FastLanes.T lanes c.args.width c.args.items.now c.loop-j.packed.items g.met.T.Physical.FastLanes.shape g.met.T.NativePType.width_law (c.loop-j.invariant.long ∙ ap (λ n. c.args.width * lanes * n) ended)
+    words_made g.T.Number.value g.T.NativePType.PTYPE g.T.Physical.FastLanes.T lanes c.args.width c.args.items.now c.loop-j.packed.items g.met.T.Physical.FastLanes.shape g.met.T.PhysicalPType.width_law (c.loop-j.invariant.long ∙ ap (λ n. c.args.width * lanes * n) ended)
     (rw ended at c.loop-j.invariant.each)

@@ -22,8 +22,7 @@ loop-option-preserved g c =
     let new_slots = map_push (λ item. unwrap_or item (pos 0)) seen x in
     let pushed = map_push value c.loop-option.slots.items c.unwrap_or.result in
     let bit : c.is_some.result ≡ is_some x = c.is_some.ensures ∙ is_some-option_map value c.option-item.result in
-    let zero : value c.zero.result ≡ pos 0 = ap value c.zero.ensures ∙ g.met.T.Zero.zero_law (g.met.T.Integral.exact_law) in
-    let slot : value c.unwrap_or.result ≡ unwrap_or x (pos 0) = slot_value value c.option-item.result c.zero.result c.unwrap_or.result c.unwrap_or.ensures zero in
+    let slot : value c.unwrap_or.result ≡ unwrap_or x (pos 0) = slot_value value c.option-item.result c.zero.result c.unwrap_or.result c.unwrap_or.ensures c.zero.ensures in
     record {
       each = rw c.in_ok-push-2.ensures.ok (length_push c.loop-option.bits c.is_some.result ∙ ap (λ n. n + 1) c.loop-option.invariant.each);
       bits = rw (c.in_ok-push-2.ensures.ok, more, new_bits, bit, c.loop-option.invariant.bits) refl;
