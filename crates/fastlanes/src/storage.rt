@@ -10,7 +10,7 @@ pub(crate) trait Storage<W: FastLanes> {
     ghost use Rattle.std.specs.Prelude.{List};
 
     /// What the words are kept in.
-    type Unit: Copy;
+    type Unit;
 
     /// How many words so many units hold.
     ghost count: { ℕ → ℕ };

@@ -9,6 +9,7 @@ use fl_packed::decoding::unpack_single_primitive;
 use fl_packed::unpack_iter::{
     BitPacked, BitPackingStrategy, UnpackStrategy, UnpackedChunks, UnpackedItems,
 };
+use fl_plain::PhysicalPType;
 use fl_types::*;
 use std::alloc::Global;
 use std::cell::Cell;
@@ -72,7 +73,7 @@ fn a_reader_is_refused(rt: HostRuntime) -> Result<(), Fail> {
 }
 
 /// Whether full bytes at width 1 are ones of a type, read alone and by a reader.
-fn reads_ones<'a, T: BitPacked>(
+fn reads_ones<'a, T: BitPacked + PhysicalPType>(
     bytes: &'a [u8],
     scratch: &'a mut [T; 1024],
     items: &mut [T; 1024],

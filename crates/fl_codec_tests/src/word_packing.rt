@@ -7,6 +7,7 @@ use crate::columns::TYPES;
 use crate::packing::bytes_of_rising;
 use fastlanes::FastLanes;
 use fl_packed::word_packing::bitpack_primitive;
+use fl_plain::PhysicalPType;
 use fl_types::*;
 use std::alloc::Global;
 use std::test::Fail;
@@ -38,7 +39,7 @@ fn have_spans<T: NativePType>(words: &[T], spans: &[(usize, i128)]) -> bool {
 }
 
 /// Whether items at a width make these spans of words.
-fn make<T: NativePType>(
+fn make<T: PhysicalPType>(
     alloc: Global,
     items: &[T],
     width: u8,

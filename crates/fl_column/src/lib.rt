@@ -3,7 +3,7 @@
 #![tactic(auto)]
 
 pub use fl_patches::Patches;
-pub use fl_plain::{BoolArray, ConstantArray, PrimitiveArray};
+pub use fl_plain::{BoolArray, ConstantArray, PhysicalPType, PrimitiveArray};
 pub use fl_types::{
     BetweenOptions, BitList, CompareOperator, DType, FastLanesError, Mask, NativePType,
     Nullability, PType, PValue, Scalar, Slots, StrictComparison, Validity,

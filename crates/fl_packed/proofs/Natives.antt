@@ -21,6 +21,28 @@ lanes_is ptype _ _ bits_16 e = rw (← e) refl
 lanes_is ptype _ _ bits_32 e = rw (← e) refl
 lanes_is ptype _ _ bits_64 e = rw (← e) refl
 
+-- the bits of a type are those of a word
+pub word_width : (ptype : PType) → IsWordWidth (bits_of_type ptype) (lanes_of_type ptype)
+word_width U8 = bits_8
+word_width U16 = bits_16
+word_width U32 = bits_32
+word_width U64 = bits_64
+word_width I8 = bits_8
+word_width I16 = bits_16
+word_width I32 = bits_32
+word_width I64 = bits_64
+
+-- the pattern 0 is the integer 0
+pub zero_read : (ptype : PType) → read_as ptype 0 ≡ pos 0
+zero_read U8 = refl
+zero_read U16 = refl
+zero_read U32 = refl
+zero_read U64 = refl
+zero_read I8 = refl
+zero_read I16 = refl
+zero_read I32 = refl
+zero_read I64 = refl
+
 -- the bytes of a word, times the lanes
 pub block_size : (T lanes width : ℕ) → IsWordWidth T lanes → 128 * width ≡ width * lanes * (T / 8)
 block_size _ _ width bits_8 = omega arith

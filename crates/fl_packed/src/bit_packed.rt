@@ -4,11 +4,12 @@ ghost use Rattle.std.specs.Prelude.{◌≡◌, ◌+◌, ◌*◌, ◌<◌, ◌≤
 ghost use Rattle.std.specs.Mem.{type_size};
 ghost use Rattle.std.proofs.Common.{refl};
 ghost use Rattle.fastlanes.specs.Layout.{Packed, pattern_at, word_at};
-ghost use Rattle.fl_types.specs.Integers.{bits_of_type};
+ghost use Rattle.fl_types.specs.Integers.{bits_of_type, lanes_of_type};
 ghost use Rattle.fl_packed.specs.Blocks.{block_item, pattern_in, value_at};
 
 use fastlanes::{FL_CHUNK_SIZE, FastLanes, Work, pack_bytes, unpack_bytes};
 use fl_plain::PhysicalPType;
+use fl_types::NativePType;
 
 /// A type whose values have so many bits.
 pub trait BitCount {
@@ -20,10 +21,10 @@ pub trait BitCount {
 
 /// An integer type whose columns are packed in blocks of 1024 items. A signed integer is packed by
 /// its pattern.
-pub trait BitPacked: PhysicalPType + BitCount {
+pub trait BitPacked: NativePType + BitCount {
     /// Unpacks a block of `128 * width` bytes. The bits of an item from `width` on are 0.
     fn unpack_block(width: usize, block: &[u8], items: &mut [Self; FL_CHUNK_SIZE], work: &mut Work)
-        requires width { width ≤ Self.Physical.T }
+        requires width { width ≤ bits_of_type Self.PTYPE }
         requires block { length block.now ≡ 128 * width }
         ensures items { (i : ℕ) → i < 1024 → value_at Self.value items.new i ≡ block_item Self.PTYPE width block.now i }
         ensures whole { length items.new ≡ 1024 }
@@ -33,10 +34,10 @@ pub trait BitPacked: PhysicalPType + BitCount {
     /// Packs the low `width` bits of at most 1024 integers, behind which stands 0, into the
     /// `128 * width` bytes of a block.
     fn pack_block(width: usize, items: &[Self], block: &mut [u8])
-        requires width { width ≤ Self.Physical.T }
+        requires width { width ≤ bits_of_type Self.PTYPE }
         requires few { length items.now ≤ 1024 }
         requires room { length block.old ≡ 128 * width }
-        ensures { Packed Self.Physical.T Self.Physical.LANES width (pattern_in Self.PTYPE (map Self.value items.now)) (word_at Self.Physical.T block.new) };
+        ensures { Packed (bits_of_type Self.PTYPE) (lanes_of_type Self.PTYPE) width (pattern_in Self.PTYPE (map Self.value items.now)) (word_at (bits_of_type Self.PTYPE) block.new) };
 
     /// An integer takes at most eight bytes, so that blocks of them fit in memory.
     fn fits_in_memory()

@@ -131,12 +131,12 @@ fn unpack_counted<T: BitPacked>(
 }
 
 /// So many zeros: what stands in blocks at width 0.
-fn zeros<T: PhysicalPType>(alloc: Global, len: usize) -> Result<Vec<T>, AllocError>
+fn zeros<T: NativePType>(alloc: Global, len: usize) -> Result<Vec<T>, AllocError>
     ensures long { IfOk result (λ v. length v.items ≡ len) }
     ensures items { IfOk result (λ v. (i : ℕ) → i < len → value_at T.value v.items i ≡ read_as T.PTYPE 0) }
 {
     let mut items = Vec::new(alloc);
-    items.resize(len, T::from_physical(T::Physical::zero()))?;
+    items.resize(len, T::zero())?;
     Ok(items)
 }
 

@@ -3,7 +3,7 @@
 ghost use Rattle.std.specs.Prelude.{◌≡◌, ◌+◌, ◌-◌, ◌*◌, ◌<◌, ◌≤◌, ◌^◌, ℕ, ℤ, IfErr, IfOk, OnOk, drop, length, map, slice_index, sum, take};
 ghost use Rattle.fastlanes.specs.Layout.{Packed, word_at};
 ghost use Rattle.fl_types.specs.Bits.{between};
-ghost use Rattle.fl_types.specs.Integers.{bits_of_type};
+ghost use Rattle.fl_types.specs.Integers.{bits_of_type, lanes_of_type};
 ghost use Rattle.fl_types.specs.declared.error.FastLanesError.TheVariants.{OutOfMemory};
 ghost use Rattle.fl_patches.specs.PatchMaps.{chunk_count};
 ghost use Rattle.fl_packed.specs.Blocks.{AreJoined, AreWithin, ArePacked, boundary_array, bounded_blocks, boundaries_of, bytes_of_block, even_blocks, pattern_in};
@@ -20,10 +20,10 @@ use std::alloc::{AllocError, Global};
 
 /// Packs at most 1024 integers, behind which stands 0, into the bytes of the block that starts there.
 fn pack_at<T: BitPacked>(width: usize, items: &[T], start: usize, bytes: &mut [u8])
-    requires width { width ≤ T.Physical.T }
+    requires width { width ≤ bits_of_type T.PTYPE }
     requires few { length items.now ≤ 1024 }
     requires within { start + 128 * width ≤ length bytes.old }
-    ensures packed { Packed T.Physical.T T.Physical.LANES width (pattern_in T.PTYPE (map T.value items.now)) (word_at T.Physical.T (between start (start + 128 * width) bytes.new)) }
+    ensures packed { Packed (bits_of_type T.PTYPE) (lanes_of_type T.PTYPE) width (pattern_in T.PTYPE (map T.value items.now)) (word_at (bits_of_type T.PTYPE) (between start (start + 128 * width) bytes.new)) }
     ensures before { (a b : ℕ) → b ≤ start → between a b bytes.new ≡ between a b bytes.old }
 {
     let size = FL_CHUNK_SIZE / 8 * width;
@@ -47,11 +47,11 @@ fn push_block<T: BitPacked>(
     items: &[T],
     bytes: &mut Vec<u8>,
 ) -> Result<(), AllocError>
-    requires width { width ≤ T.Physical.T }
+    requires width { width ≤ bits_of_type T.PTYPE }
     requires few { length items.now ≤ 1024 }
     requires room { length bytes.old.items + 128 * width < 2 ^ 64 }
     ensures long { OnOk result (length bytes.new.items ≡ length bytes.old.items + 128 * width) }
-    ensures packed { OnOk result (Packed T.Physical.T T.Physical.LANES width (pattern_in T.PTYPE (map T.value items.now)) (word_at T.Physical.T (between (length bytes.old.items) (length bytes.old.items + 128 * width) bytes.new.items))) }
+    ensures packed { OnOk result (Packed (bits_of_type T.PTYPE) (lanes_of_type T.PTYPE) width (pattern_in T.PTYPE (map T.value items.now)) (word_at (bits_of_type T.PTYPE) (between (length bytes.old.items) (length bytes.old.items + 128 * width) bytes.new.items))) }
     ensures before { OnOk result ((a b : ℕ) → b ≤ length bytes.old.items → between a b bytes.new.items ≡ between a b bytes.old.items) }
 {
     let start = bytes.len();
@@ -69,10 +69,10 @@ fn pack_blocks<T: BitPacked>(
     size: usize,
 ) -> Result<Vec<u8>, AllocError>
     requires names { NamesAll widths (chunk_count (length items.now)) }
-    requires within { AreWithin T.Physical.T (chunk_count (length items.now)) size (blocks_of widths) }
+    requires within { AreWithin (bits_of_type T.PTYPE) (chunk_count (length items.now)) size (blocks_of widths) }
     requires joined { AreJoined (chunk_count (length items.now)) size (blocks_of widths) }
     ensures long { IfOk result (λ v. length v.items ≡ size) }
-    ensures each { IfOk result (λ v. (j : ℕ) → j < chunk_count (length items.now) → Packed T.Physical.T T.Physical.LANES ((blocks_of widths.entry).width j) (λ q. pattern_in T.PTYPE (map T.value items.now) (1024 * j + q)) (word_at T.Physical.T (bytes_of_block (blocks_of widths.entry) v.items j))) }
+    ensures each { IfOk result (λ v. (j : ℕ) → j < chunk_count (length items.now) → Packed (bits_of_type T.PTYPE) (lanes_of_type T.PTYPE) ((blocks_of widths.entry).width j) (λ q. pattern_in T.PTYPE (map T.value items.now) (1024 * j + q)) (word_at (bits_of_type T.PTYPE) (bytes_of_block (blocks_of widths.entry) v.items j))) }
 {
     let mut bytes = Vec::with_capacity(alloc, size)?;
     // Blocks at width 0 have no bytes.
@@ -88,9 +88,9 @@ fn pack_blocks<T: BitPacked>(
 
 /// Packs the blocks of these integers into bytes that are there.
 fn pack_blocks_into<T: BitPacked>(width: usize, items: &[T], bytes: &mut [u8])
-    requires width { width ≤ T.Physical.T }
+    requires width { width ≤ bits_of_type T.PTYPE }
     requires room { length bytes.old ≡ 128 * width * chunk_count (length items.now) }
-    ensures each { (j : ℕ) → j < chunk_count (length items.now) → Packed T.Physical.T T.Physical.LANES width (λ q. pattern_in T.PTYPE (map T.value items.now) (1024 * j + q)) (word_at T.Physical.T (bytes_of_block (even_blocks width) bytes.new j)) }
+    ensures each { (j : ℕ) → j < chunk_count (length items.now) → Packed (bits_of_type T.PTYPE) (lanes_of_type T.PTYPE) width (λ q. pattern_in T.PTYPE (map T.value items.now) (1024 * j + q)) (word_at (bits_of_type T.PTYPE) (bytes_of_block (even_blocks width) bytes.new j)) }
 {
     let size = FL_CHUNK_SIZE / 8 * width;
     let blocks = chunk_count(items.len());

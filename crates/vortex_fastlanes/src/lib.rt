@@ -11,6 +11,6 @@ pub use fastlanes::FL_CHUNK_SIZE;
 pub use fl_codec::delta::delta_compress;
 pub use fl_column::{
     BetweenOptions, BitList, BoolArray, CompareOperator, ConstantArray, DType, FastLanesError,
-    Mask, NativePType, Nullability, PType, PValue, Patches, PrimitiveArray, Scalar,
+    Mask, NativePType, Nullability, PType, PValue, Patches, PhysicalPType, PrimitiveArray, Scalar,
     StrictComparison, Validity,
 };

@@ -124,7 +124,11 @@ pub struct Interrupted {
 }
 
 impl Interrupted {
-    pub fn new(bytes: Vec<u8>) -> Interrupted {
+    /// These bytes, of which none has been read. The first call is interrupted.
+    pub fn new(bytes: Vec<u8>) -> Interrupted
+        ensures bytes { result.bytes ≡ bytes }
+        ensures flushes { result.flushes ≡ 0 }
+    {
         Interrupted {
             bytes,
             at: 0,

@@ -1,4 +1,6 @@
 use Rattle.std.proofs.Common.{◌≡◌, length, arith, ap, ◌∙◌}
+use Rattle.fl_types.specs.Integers.{bits_of_type, lanes_of_type}
+use Rattle.fl_packed.proofs.Natives.{word_width}
 use Rattle.fl_patches.specs.PatchMaps.{chunk_count}
 use Rattle.fl_packed.specs.Widths.{blocks_of}
 use Rattle.fl_packed.proofs.Joined.{packed_more}
@@ -14,7 +16,7 @@ loop-j-preserved g c =
     let next = c.requires.joined.next c.loop-j.j (omega arith) in
     record {
       long = omega arith;
-      each = packed_more g.T.Number.value g.T.NativePType.PTYPE g.T.Physical.FastLanes.T g.T.Physical.FastLanes.LANES (blocks_of c.args.widths) c.args.items.now c.chunk_of.result.now c.loop-j.bytes.items c.push_block.new.bytes.items c.loop-j.j (length c.loop-j.bytes.items) _ _ _ g.met.T.Physical.FastLanes.shape c.requires.joined (omega arith)
+      each = packed_more g.T.Number.value g.T.NativePType.PTYPE (bits_of_type g.T.NativePType.PTYPE) (lanes_of_type g.T.NativePType.PTYPE) (blocks_of c.args.widths) c.args.items.now c.chunk_of.result.now c.loop-j.bytes.items c.push_block.new.bytes.items c.loop-j.j (length c.loop-j.bytes.items) _ _ _ (word_width g.T.NativePType.PTYPE) c.requires.joined (omega arith)
           so_far width c.chunk_of.ensures.chunk c.in_ok-push_block.ensures.before c.in_ok-push_block.ensures.packed c.loop-j.invariant.each;
     }
 

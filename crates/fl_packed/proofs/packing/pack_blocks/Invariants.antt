@@ -1,4 +1,5 @@
 use Rattle.std.proofs.Common.{◌≡◌, ℕ, ◌+◌, ◌*◌, ◌<◌, length, map}
+use Rattle.fl_types.specs.Integers.{bits_of_type, lanes_of_type}
 use Rattle.fastlanes.specs.Layout.{Packed, word_at}
 use Rattle.fl_packed.specs.Blocks.{bytes_of_block, pattern_in}
 use Rattle.fl_packed.specs.Widths.{blocks_of}
@@ -8,5 +9,5 @@ use Rattle.fl_packed.proofs.packing.pack_blocks.Given as goal
 abbrev pub invariant-loop-j : goal.invariant-loop-j
 invariant-loop-j g l = record {
   long : length l.bytes.items ≡ (blocks_of l.widths).start l.j;
-  each : (k : ℕ) → k < l.j → Packed g.T.Physical.FastLanes.T g.T.Physical.FastLanes.LANES ((blocks_of l.widths).width k) (λ q. pattern_in g.T.NativePType.PTYPE (map g.T.Number.value l.items) (1024 * k + q)) (word_at g.T.Physical.FastLanes.T (bytes_of_block (blocks_of l.widths) l.bytes.items k));
+  each : (k : ℕ) → k < l.j → Packed (bits_of_type g.T.NativePType.PTYPE) (lanes_of_type g.T.NativePType.PTYPE) ((blocks_of l.widths).width k) (λ q. pattern_in g.T.NativePType.PTYPE (map g.T.Number.value l.items) (1024 * k + q)) (word_at (bits_of_type g.T.NativePType.PTYPE) (bytes_of_block (blocks_of l.widths) l.bytes.items k));
 }

@@ -1,4 +1,6 @@
 use Rattle.std.proofs.Common.{◌*◌, length, arith, refl, ◌∙◌}
+use Rattle.fl_types.specs.Integers.{bits_of_type, lanes_of_type}
+use Rattle.fl_packed.proofs.Natives.{word_width}
 use Rattle.fl_patches.specs.PatchMaps.{chunk_count}
 use Rattle.fl_packed.specs.Blocks.{even_blocks}
 use Rattle.fl_packed.proofs.Joined.{even_joined, packed_more}
@@ -11,7 +13,7 @@ loop-j-preserved g c =
     let count = chunk_count (length c.args.items.now) in
     record {
       whole = c.pack_at.auto.bytes ∙ c.loop-j.invariant.whole;
-      each = packed_more g.T.Number.value g.T.NativePType.PTYPE g.T.Physical.FastLanes.T g.T.Physical.FastLanes.LANES (even_blocks c.args.width) c.args.items.now c.chunk_of.result.now c.loop-j.bytes c.pack_at.new.bytes c.loop-j.j (128 * c.args.width * c.loop-j.j) c.args.width count (128 * c.args.width * count) g.met.T.Physical.FastLanes.shape (even_joined c.args.width count) (omega arith)
+      each = packed_more g.T.Number.value g.T.NativePType.PTYPE (bits_of_type g.T.NativePType.PTYPE) (lanes_of_type g.T.NativePType.PTYPE) (even_blocks c.args.width) c.args.items.now c.chunk_of.result.now c.loop-j.bytes c.pack_at.new.bytes c.loop-j.j (128 * c.args.width * c.loop-j.j) c.args.width count (128 * c.args.width * count) (word_width g.T.NativePType.PTYPE) (even_joined c.args.width count) (omega arith)
           refl refl c.chunk_of.ensures.chunk c.pack_at.ensures.before c.pack_at.ensures.packed c.loop-j.invariant.each;
     }
 
