@@ -1,18 +1,9 @@
 //! Columns of integers, packed.
 #![tactic(auto)]
 
-mod ends;
-mod engine;
-mod fault;
-mod native;
-mod packing;
-mod start;
-mod text;
-mod transfer;
-mod words;
-
-use crate::ends::{ReadEnd, WriteEnd};
-use crate::fault::Fault;
+use flcol_engine::ends::{ReadEnd, WriteEnd};
+use flcol_engine::fault::Fault;
+use flcol_engine::start;
 use std::process::ExitCode;
 use std::{env, io};
 
@@ -40,6 +31,3 @@ fn status(rt: &HostRuntime) -> u8 {
 fn main(rt: HostRuntime) -> ExitCode {
     ExitCode::from(status(&rt))
 }
-
-#[cfg(test)]
-mod tests;

@@ -1,0 +1,81 @@
+-- Lines, digits and items.
+use Rattle.std.proofs.Common.{◌≡◌, ◌≢◌, ℕ, ◌+◌, ◌-◌, ◌*◌, ◌<◌, ◌≤◌, List, [], ◌∷◌, ◌++◌, length, get_or, take, drop, zero, suc, arith, refl, sym, ap, ◌∙◌, Bool, true, false, cond, None, Some, add-one, drop-cons, append_assoc}
+use Rattle.std.specs.Prelude.{Option, option_map, nat_lt, nat_le, ◌&&◌}
+use Rattle.std.proofs.lemmas.Bool.{eq-eqb, ne_eqb}
+use Rattle.std.proofs.lemmas.Bool.Decides.{nat_tests}
+use Rattle.std.specs.Str.{all_ascii_digits}
+use Rattle.std.specs.Char.{is_ascii_digit, digit_value}
+use Rattle.std.specs.Str.Parse.{digits_value, digits_value_after}
+use Rattle.flcol_engine.specs.Text.{lines_of, number_up_to, items_of, item_of}
+
+-- the first line feed ends the first line
+pub line_ends : (text : List ℕ) (i : ℕ) → i < length text → ((k : ℕ) → k < i → get_or text k 0 ≢ 10) → get_or text i 0 ≡ 10 → lines_of text ≡ take i text ∷ lines_of (drop (i + 1) text)
+line_ends [] i h below at = absurd (omega arith)
+line_ends (b ∷ bs) zero h below at = rw (eq-eqb b 10 at) refl
+line_ends (b ∷ bs) (suc i) h below at =
+    let ih : lines_of bs ≡ take i bs ∷ lines_of (drop (i + 1) bs) = line_ends bs i (omega arith) (λ k lt. below (suc k) (omega arith)) at in
+    let here : b ≢ 10 = below 0 (omega arith) in
+    rw (ne_eqb b 10 here, ih, add-one, add-one) refl
+
+-- a text with no line feed is one line
+pub one_line : (text : List ℕ) → 0 < length text → ((k : ℕ) → k < length text → get_or text k 0 ≢ 10) → lines_of text ≡ text ∷ []
+one_line [] h below = absurd (omega arith)
+one_line (b ∷ []) h below = let here : b ≢ 10 = below 0 (omega arith) in rw (ne_eqb b 10 here) refl
+one_line (b ∷ c ∷ bs) h below =
+    let ih : lines_of (c ∷ bs) ≡ (c ∷ bs) ∷ [] = one_line (c ∷ bs) (omega arith) (λ k lt. below (suc k) (omega arith)) in
+    let here : b ≢ 10 = below 0 (omega arith) in
+    rw (ne_eqb b 10 here, ih) refl
+
+-- n, and the digits from an index on, are the digits' number
+pub record IsReading (ds : List ℕ) (i n : ℕ) : Type 0 where
+  pub value : digits_value_after 10 n (drop i ds) ≡ digits_value 10 ds
+  pub digits : all_ascii_digits (drop i ds) ≡ all_ascii_digits ds
+
+one_more : (ds : List ℕ) (i : ℕ) → i < length ds → drop i ds ≡ get_or ds i 0 ∷ drop (i + 1) ds
+one_more ds i h = rw (add-one, drop-cons ds i 0) refl
+
+digit_value_is : (c : ℕ) → 48 ≤ c → c ≤ 57 → digit_value c ≡ c - 48
+digit_value_is c low high = grind (arith, nat_tests)
+
+grows : (n : ℕ) (cs : List ℕ) → n ≤ digits_value_after 10 n cs
+grows n [] = omega arith
+grows n (c ∷ cs) = omega (arith, grows (n * 10 + digit_value c) cs)
+
+above : (max : ℕ) (ds : List ℕ) → max < digits_value 10 ds → number_up_to max ds ≡ None
+above max ds large = let not_le : nat_le (digits_value 10 ds) max ≡ false = ltb-false_le max (digits_value 10 ds) large in at_tests (nat_lt 0 (length ds)) (all_ascii_digits ds) (nat_le (digits_value 10 ds) max) not_le
+  where
+    ltb-false_le : (m d : ℕ) → m < d → nat_le d m ≡ false
+    ltb-false_le m d h = grind (arith, nat_tests)
+
+    at_tests : (p q r : Bool) → r ≡ false → cond (p && q && r) (Some (digits_value 10 ds)) None ≡ None
+    at_tests p q r e = grind arith
+
+digit_range : (c : ℕ) → is_ascii_digit c ≡ true → (48 ≤ c) × (c ≤ 57)
+digit_range c e = (grind (arith, nat_tests), grind (arith, nat_tests))
+
+-- a number that is too large with the digits so far is too large with all
+pub too_large : (max : ℕ) (ds : List ℕ) (i n : ℕ) → i < length ds → is_ascii_digit (get_or ds i 0) ≡ true → max < n * 10 + (get_or ds i 0 - 48) → IsReading ds i n → number_up_to max ds ≡ None
+too_large max ds i n h digit large r =
+    let range = digit_range (get_or ds i 0) digit in
+    let here = get_or ds i 0 in
+    let rest = drop (i + 1) ds in
+    let is : digits_value 10 ds ≡ digits_value_after 10 (n * 10 + digit_value here) rest = sym r.value ∙ ap (digits_value_after 10 n) (one_more ds i h) in
+    let value : digit_value here ≡ here - 48 = digit_value_is here range.0 range.1 in
+    let least : n * 10 + digit_value here ≤ digits_value_after 10 (n * 10 + digit_value here) rest = grows (n * 10 + digit_value here) rest in
+    above max ds (omega (arith, is, value, least))
+
+-- the items so far, and then those
+abbrev pub with_front : List ℕ → Option (List ℕ) → Option (List ℕ)
+with_front front items = option_map (λ xs. front ++ xs) items
+
+-- one more item
+pub one_item : (max : ℕ) (front : List ℕ) (line : List ℕ) (lines : List (List ℕ)) (item : ℕ) → item_of max line ≡ Some item → with_front front (items_of max (line ∷ lines)) ≡ with_front (front ++ item ∷ []) (items_of max lines)
+one_item max front line lines item e = rw e (at_items (items_of max lines))
+  where
+    at_items : (items : Option (List ℕ)) → with_front front (option_map (λ xs. item ∷ xs) items) ≡ with_front (front ++ item ∷ []) items
+    at_items None = refl
+    at_items (Some xs) = ap Some (sym (append_assoc front (item ∷ []) xs))
+
+-- a line that says no number
+pub no_item : (max : ℕ) (front : List ℕ) (line : List ℕ) (lines : List (List ℕ)) → item_of max line ≡ None → with_front front (items_of max (line ∷ lines)) ≡ None
+no_item max front line lines e = rw e refl

@@ -1,0 +1,69 @@
+//! The program over any ends: from its words to its status.
+
+ghost use Rattle.std.specs.Prelude.{◌≡◌, false, map, string_bytes, Result, IfSome, OnOk, IfNone, is_ok, OnErr};
+ghost use Rattle.flcol_engine.specs.declared.fault.Fault.{Fault};
+ghost use Rattle.flcol_engine.specs.Ends.{AppendsUnless};
+ghost use Rattle.flcol_engine.specs.Refusals.{line_of};
+ghost use Rattle.flcol_engine.specs.Command.{command_of, usage_line, status_of, report_of, IsRun};
+
+use crate::ends::{Sink, Source};
+use crate::fault::Fault;
+use crate::transfer::write_all;
+use crate::{engine, words};
+use std::alloc::Global;
+
+/// Says how the program is called, and answers status 2.
+pub fn usage<E: Sink>(errors: &mut E) -> u8
+    requires { E.has_failed errors.old ≡ false }
+    ensures status { result ≡ 2 }
+    ensures said { AppendsUnless (E.has_failed errors.new) (E.written errors.old) (E.written errors.new) usage_line }
+{
+    let _ = write_all(errors, words::usage().as_bytes());
+    2
+}
+
+/// Says why the run is refused, and answers status 1.
+pub fn refuse<E: Sink>(errors: &mut E, fault: Fault) -> u8
+    requires { E.has_failed errors.old ≡ false }
+    ensures status { result ≡ 1 }
+    ensures said { AppendsUnless (E.has_failed errors.new) (E.written errors.old) (E.written errors.new) (line_of fault) }
+{
+    let _ = write_all(errors, fault.line().as_bytes());
+    1
+}
+
+/// Runs the program on the words behind its name, and answers its status: 0, or 1 behind a line that says why the run was refused, or 2 behind the usage line.
+///
+/// A failure of `errors` changes no status.
+pub fn start<S: Source, K: Sink, E: Sink>(
+    alloc: Global,
+    words: &[String],
+    source: &mut S,
+    sink: &mut K,
+    errors: &mut E,
+) -> u8
+    // No end has failed before.
+    requires source_unmarked { S.has_failed source.old ≡ false }
+    requires sink_unmarked { K.has_failed sink.old ≡ false }
+    requires errors_unmarked { E.has_failed errors.old ≡ false }
+
+    // Where the words give no command, nothing is read or written but the usage line.
+    ensures usage { IfNone (command_of (map string_bytes words.now))
+        ((result ≡ 2) × (source.new ≡ source.old) × (sink.new ≡ sink.old)
+        × AppendsUnless (E.has_failed errors.new) (E.written errors.old) (E.written errors.new) usage_line) }
+
+    // Else the command is run, and the status and the line of errors tell how the run ended.
+    ensures run { IfSome (command_of (map string_bytes words.now)) (λ command. (outcome : Result (Unit {0}) Fault)
+        × (result ≡ status_of outcome)
+        × AppendsUnless (E.has_failed errors.new) (E.written errors.old) (E.written errors.new) (report_of outcome)
+        × IsRun command outcome (S.left source.old) (S.left source.new) (S.has_failed source.new)
+        (K.written sink.old) (K.written sink.new) (K.has_failed sink.new) (K.is_flushed sink.new)) }
+{
+    let Some(command) = words::command(words) else {
+        return usage(errors);
+    };
+    match engine::pack(alloc, command, source, sink) {
+        Ok(()) => 0,
+        Err(fault) => refuse(errors, fault),
+    }
+}

@@ -1,0 +1,7 @@
+//! Runs of the whole program, over ends in memory and over std's.
+#![tactic(auto)]
+
+#[cfg(test)]
+mod memory;
+#[cfg(test)]
+mod runs;
