@@ -1,10 +1,17 @@
 //! Texts of messages, and what is refused.
 
+ghost use Rattle.std.specs.Option.{ForSome};
+ghost use Rattle.fl_types.specs.Integers.{FitsIn};
+
 use fl_messages::messages::*;
 use fl_types::{FastLanesError, PType};
+use std::alloc::Global;
+use std::process::Abort;
 use std::test::Fail;
 
 const BAD: FastLanesError = FastLanesError::BadMetadata;
+
+const UNKNOWN: FastLanesError = FastLanesError::UnknownType;
 
 /// Whether a bit-packed message is refused, and a Delta's, an RLE's and a chunked FoR's with it.
 fn all_refuse(bytes: &[u8]) -> bool {
@@ -35,37 +42,153 @@ fn one_patch() -> PatchesMetadata {
     }
 }
 
+/// Patches without an item.
+fn no_patch(chunk_offsets: Option<PType>) -> PatchesMetadata {
+    PatchesMetadata {
+        len: 0,
+        offset: 0,
+        indices: PType::U8,
+        chunk_offsets_len: 0,
+        chunk_offsets,
+    }
+}
+
+/// What a bit-packed message says, or why it is refused.
+fn bit_packed_is(rt: &impl Abort, bytes: &[u8], wanted: Result<BitPackedMetadata, FastLanesError>) {
+    assert_eq!(rt; BitPackedMetadata::decode(bytes), wanted);
+}
+
+/// These bytes are a bit-packed message that says this width, and no more.
+fn says_width(rt: &impl Abort, bytes: &[u8], bit_width: u32) {
+    bit_packed_is(rt, bytes, Ok(width(bit_width)));
+}
+
+/// The patches of a bit-packed message, or its refusal in their place.
+fn patches_of(bytes: &[u8]) -> Result<Option<PatchesMetadata>, FastLanesError> {
+    Ok(BitPackedMetadata::decode(bytes)?.patches)
+}
+
+/// What a blocked bit-packed message says, or why it is refused.
+fn blocked_is(
+    rt: &impl Abort,
+    bytes: &[u8],
+    wanted: Result<BitPackedBlockedMetadata, FastLanesError>,
+) {
+    assert_eq!(rt; BitPackedBlockedMetadata::decode(bytes), wanted);
+}
+
+/// Why an RLE message is refused.
+fn rle_refused(rt: &impl Abort, bytes: &[u8], wanted: FastLanesError) {
+    assert_eq!(rt; RLEMetadata::decode(bytes), Err(wanted));
+}
+
+/// The number that a scalar's message says, or why it is refused.
+fn scalar_is(
+    rt: &impl Abort,
+    ptype: PType,
+    bytes: &[u8],
+    wanted: Result<Option<i128>, FastLanesError>,
+) {
+    assert_eq!(rt; decode_scalar(ptype, bytes), wanted);
+}
+
+/// A Delta's message is written as this text, and read back.
+fn delta_and_back(
+    rt: &impl Abort,
+    alloc: Global,
+    message: DeltaMetadata,
+    text: &[u8],
+) -> Result<(), Fail> {
+    assert_eq!(rt; message.encode(alloc)?.as_slice(), text);
+    assert_eq!(rt; DeltaMetadata::decode(text), Ok(message));
+    Ok(())
+}
+
+/// A chunked FoR's message is written as this text, and read back.
+fn for_chunked_and_back(
+    rt: &impl Abort,
+    alloc: Global,
+    offset: u32,
+    text: &[u8],
+) -> Result<(), Fail> {
+    let message = FoRChunkedMetadata { offset };
+    assert_eq!(rt; message.encode(alloc)?.as_slice(), text);
+    assert_eq!(rt; FoRChunkedMetadata::decode(text), Ok(message));
+    Ok(())
+}
+
+/// A bit-packed message is written as this text, and read back.
+fn bit_packed_and_back(
+    rt: &impl Abort,
+    alloc: Global,
+    message: BitPackedMetadata,
+    text: &[u8],
+) -> Result<(), Fail> {
+    assert_eq!(rt; message.encode(alloc)?.as_slice(), text);
+    bit_packed_is(rt, text, Ok(message));
+    Ok(())
+}
+
+/// A blocked bit-packed message is written as this text, and read back.
+fn blocked_and_back(
+    rt: &impl Abort,
+    alloc: Global,
+    message: BitPackedBlockedMetadata,
+    text: &[u8],
+) -> Result<(), Fail> {
+    assert_eq!(rt; message.encode(alloc)?.as_slice(), text);
+    blocked_is(rt, text, Ok(message));
+    Ok(())
+}
+
+/// A message of patches is written as this text, and read back.
+fn patches_and_back(
+    rt: &impl Abort,
+    alloc: Global,
+    message: PatchesMetadata,
+    text: &[u8],
+) -> Result<(), Fail> {
+    assert_eq!(rt; message.encode(alloc)?.as_slice(), text);
+    assert_eq!(rt; PatchesMetadata::decode(text), Ok(message));
+    Ok(())
+}
+
+/// A scalar is written as this text, and read back.
+fn scalar_and_back(
+    rt: &impl Abort,
+    alloc: Global,
+    ptype: PType,
+    value: Option<i128>,
+    text: &[u8],
+) -> Result<(), Fail>
+    requires { ForSome value (FitsIn ptype) }
+{
+    assert_eq!(rt; encode_scalar(alloc, ptype, value)?.as_slice(), text);
+    scalar_is(rt, ptype, text, Ok(value));
+    Ok(())
+}
+
 #[test]
 fn delta(rt: HostRuntime) -> Result<(), Fail> {
-    let delta = DeltaMetadata {
-        deltas_len: 1024,
-        offset: 100,
-    };
-    let text = delta.encode(rt.alloc())?;
-    assert_eq!(rt; text.as_slice(), [0x08, 0x80, 0x08, 0x10, 0x64].as_slice());
-    assert_eq!(rt; DeltaMetadata::decode(&text)?, delta);
-    let empty = DeltaMetadata {
-        deltas_len: 0,
-        offset: 0,
-    };
-    assert_eq!(rt; empty.encode(rt.alloc())?.len(), 0);
-    assert_eq!(rt; DeltaMetadata::decode(&[])?, empty);
-    assert_eq!(rt;
-        DeltaMetadata::decode(&[0x08, 0xe8, 0x07])?.deltas_len,
-        1000
-    );
+    let texts: &[(u64, u32, &[u8])] = &[
+        (1024, 100, &[0x08, 0x80, 0x08, 0x10, 0x64]),
+        (0, 0, &[]),
+        (1000, 0, &[0x08, 0xe8, 0x07]),
+    ];
+    for (deltas_len, offset, text) in texts {
+        let message = DeltaMetadata {
+            deltas_len: *deltas_len,
+            offset: *offset,
+        };
+        delta_and_back(&rt, rt.alloc(), message, text)?;
+    }
     Ok(())
 }
 
 #[test]
 fn for_chunked(rt: HostRuntime) -> Result<(), Fail> {
-    let chunked = FoRChunkedMetadata { offset: 500 };
-    let text = chunked.encode(rt.alloc())?;
-    assert_eq!(rt; text.as_slice(), [0x08, 0xf4, 0x03].as_slice());
-    assert_eq!(rt; FoRChunkedMetadata::decode(&text)?, chunked);
-    let first = FoRChunkedMetadata { offset: 0 };
-    assert_eq!(rt; first.encode(rt.alloc())?.len(), 0);
-    Ok(())
+    for_chunked_and_back(&rt, rt.alloc(), 500, &[0x08, 0xf4, 0x03])?;
+    for_chunked_and_back(&rt, rt.alloc(), 0, &[])
 }
 
 #[test]
@@ -80,15 +203,14 @@ fn rle(rt: HostRuntime) -> Result<(), Fail> {
     };
     let text = empty.encode(rt.alloc())?;
     assert_eq!(rt; text.as_slice(), [0x18, 0x01, 0x28, 0x03].as_slice());
-    assert_eq!(rt; RLEMetadata::decode(&text)?, empty);
-    assert_eq!(rt;
-        RLEMetadata::decode(&[0x18, 0x09]),
-        Err(FastLanesError::UnknownType)
-    );
-    assert_eq!(rt;
-        RLEMetadata::decode(&[0x28, 0x08]),
-        Err(FastLanesError::UnknownType)
-    );
+    assert_eq!(rt; RLEMetadata::decode(&text), Ok(empty));
+    Ok(())
+}
+
+#[test]
+fn rle_types_and_offsets(rt: HostRuntime) -> Result<(), Fail> {
+    rle_refused(&rt, &[0x18, 0x09], UNKNOWN);
+    rle_refused(&rt, &[0x28, 0x08], UNKNOWN);
     let highest = [
         0x30, 0xff, 0xff, 0xff, 0xff, 0xff, 0xff, 0xff, 0xff, 0xff, 0x01,
     ];
@@ -98,19 +220,20 @@ fn rle(rt: HostRuntime) -> Result<(), Fail> {
 
 #[test]
 fn bit_packed(rt: HostRuntime) -> Result<(), Fail> {
-    let plain = width(2).encode(rt.alloc())?;
-    assert_eq!(rt; plain.as_slice(), [0x08, 0x02].as_slice());
+    bit_packed_and_back(&rt, rt.alloc(), width(2), &[0x08, 0x02])?;
     let patched = BitPackedMetadata {
         bit_width: 9,
         offset: 0,
         patches: Some(one_patch()),
     };
-    let text = patched.encode(rt.alloc())?;
-    let wanted = [
+    let text = [
         0x08, 0x09, 0x1a, 0x08, 0x08, 0x01, 0x18, 0x01, 0x20, 0x01, 0x28, 0x03,
     ];
-    assert_eq!(rt; text.as_slice(), wanted.as_slice());
-    assert_eq!(rt; BitPackedMetadata::decode(&text)?, patched);
+    bit_packed_and_back(&rt, rt.alloc(), patched, &text)
+}
+
+#[test]
+fn bit_packed_sliced(rt: HostRuntime) -> Result<(), Fail> {
     let sliced = BitPackedMetadata {
         bit_width: 9,
         offset: 500,
@@ -122,19 +245,21 @@ fn bit_packed(rt: HostRuntime) -> Result<(), Fail> {
             chunk_offsets: None,
         }),
     };
-    let text = sliced.encode(rt.alloc())?;
-    let wanted = [
+    let text = [
         0x08, 0x09, 0x10, 0xf4, 0x03, 0x1a, 0x07, 0x08, 0x01, 0x10, 0xf4, 0x03, 0x18, 0x01,
     ];
-    assert_eq!(rt; text.as_slice(), wanted.as_slice());
-    assert_eq!(rt; BitPackedMetadata::decode(&text)?, sliced);
-    assert_eq!(rt; BitPackedMetadata::decode(&[0x08, 0x21])?, width(33));
-    assert_eq!(rt; BitPackedMetadata::decode(&[0x08, 0xac, 0x02])?, width(300));
-    assert_eq!(rt;
-        BitPackedMetadata::decode(&[0x08, 0x02, 0x10, 0x80, 0x08])?.offset,
-        1024
-    );
-    Ok(())
+    bit_packed_and_back(&rt, rt.alloc(), sliced, &text)
+}
+
+#[test]
+fn bit_packed_numbers(rt: HostRuntime) {
+    says_width(&rt, &[0x08, 0x21], 33);
+    says_width(&rt, &[0x08, 0xac, 0x02], 300);
+    let offset = BitPackedMetadata {
+        offset: 1024,
+        ..width(2)
+    };
+    bit_packed_is(&rt, &[0x08, 0x02, 0x10, 0x80, 0x08], Ok(offset));
 }
 
 #[test]
@@ -144,304 +269,248 @@ fn bit_packed_blocked(rt: HostRuntime) -> Result<(), Fail> {
         block_offsets: PType::U8,
         patches: None,
     };
-    assert_eq!(rt; empty.encode(rt.alloc())?.len(), 0);
-    assert_eq!(rt; BitPackedBlockedMetadata::decode(&[])?, empty);
+    blocked_and_back(&rt, rt.alloc(), empty, &[])?;
     let patched = BitPackedBlockedMetadata {
         offset: 1000,
         block_offsets: PType::U16,
         patches: Some(one_patch()),
     };
-    let text = patched.encode(rt.alloc())?;
-    let wanted = [
+    let text = [
         0x08, 0xe8, 0x07, 0x10, 0x01, 0x1a, 0x08, 0x08, 0x01, 0x18, 0x01, 0x20, 0x01, 0x28, 0x03,
     ];
-    assert_eq!(rt; text.as_slice(), wanted.as_slice());
-    assert_eq!(rt; BitPackedBlockedMetadata::decode(&text)?, patched);
-    assert_eq!(rt;
-        BitPackedBlockedMetadata::decode(&[0x08, 0x80, 0x08])?.offset,
-        1024
-    );
-    assert_eq!(rt;
-        BitPackedBlockedMetadata::decode(&[0x10, 0x08]),
-        Err(FastLanesError::UnknownType)
-    );
-    Ok(())
+    blocked_and_back(&rt, rt.alloc(), patched, &text)
+}
+
+#[test]
+fn bit_packed_blocked_numbers(rt: HostRuntime) {
+    let offset = BitPackedBlockedMetadata {
+        offset: 1024,
+        block_offsets: PType::U8,
+        patches: None,
+    };
+    blocked_is(&rt, &[0x08, 0x80, 0x08], Ok(offset));
+    blocked_is(&rt, &[0x10, 0x08], Err(UNKNOWN));
 }
 
 #[test]
 fn patches(rt: HostRuntime) -> Result<(), Fail> {
-    let smallest = PatchesMetadata {
-        len: 0,
-        offset: 0,
-        indices: PType::U8,
-        chunk_offsets_len: 0,
-        chunk_offsets: None,
-    };
-    assert_eq!(rt; smallest.encode(rt.alloc())?.len(), 0);
-    let stated = PatchesMetadata {
-        len: 0,
-        offset: 0,
-        indices: PType::U8,
-        chunk_offsets_len: 0,
-        chunk_offsets: Some(PType::U8),
-    };
-    let text = stated.encode(rt.alloc())?;
-    assert_eq!(rt; text.as_slice(), [0x28, 0x00].as_slice());
-    assert_eq!(rt; PatchesMetadata::decode(&text)?, stated);
-    // An empty message of patches is there; chunk offsets are there where their type is.
+    patches_and_back(&rt, rt.alloc(), no_patch(None), &[])?;
+    patches_and_back(&rt, rt.alloc(), no_patch(Some(PType::U8)), &[0x28, 0x00])
+}
+
+/// An empty message of patches is there; chunk offsets are there where their type is.
+#[test]
+fn patches_are_there(rt: HostRuntime) -> Result<(), Fail> {
     assert_eq!(rt;
-        BitPackedMetadata::decode(&[0x08, 0x02, 0x1a, 0x00])?.patches,
-        Some(smallest)
+        patches_of(&[0x08, 0x02, 0x1a, 0x00]),
+        Ok(Some(no_patch(None)))
     );
     assert_eq!(rt; PatchesMetadata::decode(&[0x20, 0x07])?.chunk_offsets, None);
-    assert_eq!(rt;
-        PatchesMetadata::decode(&[0x28, 0x0a]),
-        Err(FastLanesError::UnknownType)
-    );
+    assert_eq!(rt; PatchesMetadata::decode(&[0x28, 0x0a]), Err(UNKNOWN));
     Ok(())
 }
 
 #[test]
-fn the_last_value_wins(rt: HostRuntime) -> Result<(), Fail> {
-    assert_eq!(rt;
-        BitPackedMetadata::decode(&[0x08, 0x01, 0x08, 0x02])?,
-        width(2)
-    );
+fn the_last_value_wins(rt: HostRuntime) {
+    says_width(&rt, &[0x08, 0x01, 0x08, 0x02], 2);
     // A value that isn't the last may pass its limit, and may be no message.
     let large = [0x08, 0x80, 0x80, 0x80, 0x80, 0x10, 0x08, 0x02];
-    assert_eq!(rt; BitPackedMetadata::decode(&large)?, width(2));
-    assert_eq!(rt;
-        BitPackedMetadata::decode(&[0x08, 0x02, 0x08, 0x80, 0x80, 0x80, 0x80, 0x10]),
-        Err(BAD)
-    );
+    says_width(&rt, &large, 2);
+    let large_at_last = [0x08, 0x02, 0x08, 0x80, 0x80, 0x80, 0x80, 0x10];
+    bit_packed_is(&rt, &large_at_last, Err(BAD));
+    let none_at_last = [0x1a, 0x02, 0x08, 0x05, 0x1a, 0x01, 0xff];
+    bit_packed_is(&rt, &none_at_last, Err(BAD));
+}
+
+#[test]
+fn the_last_message_wins(rt: HostRuntime) -> Result<(), Fail> {
     let two = [0x1a, 0x01, 0xff, 0x1a, 0x02, 0x08, 0x05];
-    let found = BitPackedMetadata::decode(&two)?
-        .patches
-        .ok_or("no patches")?;
-    assert_eq!(rt; found.len, 5);
+    assert_eq!(rt; patches_of(&two)?.ok_or("no patches")?.len, 5);
     // The later message takes the place of the earlier one, whole.
     let merged = [0x1a, 0x02, 0x10, 0x07, 0x1a, 0x02, 0x08, 0x05];
-    let found = BitPackedMetadata::decode(&merged)?
-        .patches
-        .ok_or("no patches")?;
-    assert_eq!(rt; found.offset, 0);
-    assert_eq!(rt;
-        BitPackedMetadata::decode(&[0x1a, 0x02, 0x08, 0x05, 0x1a, 0x01, 0xff]),
-        Err(BAD)
-    );
+    assert_eq!(rt; patches_of(&merged)?.ok_or("no patches")?.offset, 0);
     Ok(())
 }
 
 #[test]
-fn fields_are_skipped(rt: HostRuntime) -> Result<(), Fail> {
-    assert_eq!(rt;
-        BitPackedMetadata::decode(&[0x3d, 0, 0, 0, 0, 0x08, 0x02])?,
-        width(2)
-    );
-    assert_eq!(rt;
-        BitPackedMetadata::decode(&[0x38, 0x05, 0x08, 0x02])?,
-        width(2)
-    );
-    assert_eq!(rt;
-        BitPackedMetadata::decode(&[0x39, 0, 0, 0, 0, 0, 0, 0, 0, 0x08, 0x02])?,
-        width(2)
-    );
-    assert_eq!(rt;
-        BitPackedMetadata::decode(&[0x3a, 0x02, 0xff, 0xff, 0x08, 0x02])?,
-        width(2)
-    );
-    // Tag 4 is no field of a bit-packed message; it is one of an RLE message, and of the wrong wire type.
-    assert_eq!(rt;
-        BitPackedMetadata::decode(&[0x22, 0x00, 0x08, 0x02])?,
-        width(2)
-    );
-    assert_eq!(rt; RLEMetadata::decode(&[0x22, 0x00]), Err(BAD));
+fn fields_are_skipped(rt: HostRuntime) {
+    let texts: &[&[u8]] = &[
+        &[0x3d, 0, 0, 0, 0, 0x08, 0x02],
+        &[0x38, 0x05, 0x08, 0x02],
+        &[0x39, 0, 0, 0, 0, 0, 0, 0, 0, 0x08, 0x02],
+        &[0x3a, 0x02, 0xff, 0xff, 0x08, 0x02],
+        // Tag 4 is no field of a bit-packed message; it is one of an RLE message, and of the wrong wire type.
+        &[0x22, 0x00, 0x08, 0x02],
+    ];
+    for text in texts {
+        says_width(&rt, text, 2);
+    }
+    rle_refused(&rt, &[0x22, 0x00], BAD);
     // The greatest tag, 2^29 - 1, and one more.
     assert!(rt; is_message(&[0xf8, 0xff, 0xff, 0xff, 0x0f, 0x00]));
     assert!(rt; all_refuse(&[0x80, 0x80, 0x80, 0x80, 0x10, 0x00]));
-    Ok(())
 }
 
 #[test]
-fn wire_faults(rt: HostRuntime) -> Result<(), Fail> {
-    // Cut fields.
-    assert!(rt; all_refuse(&[0x08]));
-    assert!(rt; all_refuse(&[0x80]));
-    assert!(rt; all_refuse(&[0x08, 0x80]));
-    assert!(rt; all_refuse(&[0x3a]));
-    assert!(rt; all_refuse(&[0x3a, 0x02, 0x00]));
-    assert!(rt; all_refuse(&[0x3d, 0, 0, 0]));
-    assert!(rt; all_refuse(&[0x39, 0, 0, 0, 0, 0, 0, 0]));
-    // Tag 0, and the wire types 3, 4, 6 and 7 under an unknown tag.
-    assert!(rt; all_refuse(&[0x00, 0x00]));
-    assert!(rt; all_refuse(&[0x3b]));
-    assert!(rt; all_refuse(&[0x3b, 0x3c]));
-    assert!(rt; all_refuse(&[0x3c]));
-    assert!(rt; all_refuse(&[0x3e, 0x00]));
-    assert!(rt; all_refuse(&[0x3f, 0x00]));
-    // A known tag with another wire type.
-    assert_eq!(rt; BitPackedMetadata::decode(&[0x0d, 0, 0, 0, 0]), Err(BAD));
-    assert_eq!(rt; BitPackedMetadata::decode(&[0x0a, 0x00]), Err(BAD));
-    assert_eq!(rt;
-        BitPackedMetadata::decode(&[0x09, 0, 0, 0, 0, 0, 0, 0, 0]),
-        Err(BAD)
-    );
-    assert_eq!(rt; BitPackedMetadata::decode(&[0x18, 0x00]), Err(BAD));
+fn wire_faults(rt: HostRuntime) {
+    let faults: &[&[u8]] = &[
+        // Cut fields.
+        &[0x08],
+        &[0x80],
+        &[0x08, 0x80],
+        &[0x3a],
+        &[0x3a, 0x02, 0x00],
+        &[0x3d, 0, 0, 0],
+        &[0x39, 0, 0, 0, 0, 0, 0, 0],
+        // Tag 0, and the wire types 3, 4, 6 and 7 under an unknown tag.
+        &[0x00, 0x00],
+        &[0x3b],
+        &[0x3b, 0x3c],
+        &[0x3c],
+        &[0x3e, 0x00],
+        &[0x3f, 0x00],
+    ];
+    for bytes in faults {
+        assert!(rt; all_refuse(bytes));
+    }
+}
+
+#[test]
+fn known_tags_of_another_wire_type(rt: HostRuntime) {
+    let faults: &[&[u8]] = &[
+        &[0x0d, 0, 0, 0, 0],
+        &[0x0a, 0x00],
+        &[0x09, 0, 0, 0, 0, 0, 0, 0, 0],
+        &[0x18, 0x00],
+        // A fault before a sound field of the same tag.
+        &[0x0a, 0x00, 0x08, 0x02],
+    ];
+    for bytes in faults {
+        bit_packed_is(&rt, bytes, Err(BAD));
+    }
     assert!(rt; is_message(&[0x0d, 0, 0, 0, 0]));
-    // A fault before a sound field of the same tag.
-    assert_eq!(rt;
-        BitPackedMetadata::decode(&[0x0a, 0x00, 0x08, 0x02]),
-        Err(BAD)
-    );
-    Ok(())
+}
+
+/// Ten bytes may spell a small number, in a key, a length and a value.
+#[test]
+fn varints(rt: HostRuntime) {
+    let texts: &[&[u8]] = &[
+        &[
+            0x08, 0x82, 0x80, 0x80, 0x80, 0x80, 0x80, 0x80, 0x80, 0x80, 0x00,
+        ],
+        &[
+            0x88, 0x80, 0x80, 0x80, 0x80, 0x80, 0x80, 0x80, 0x80, 0x00, 0x02,
+        ],
+        &[
+            0x3a, 0x81, 0x80, 0x80, 0x80, 0x80, 0x80, 0x80, 0x80, 0x80, 0x00, 0xff, 0x08, 0x02,
+        ],
+    ];
+    for text in texts {
+        says_width(&rt, text, 2);
+    }
 }
 
 #[test]
-fn varints(rt: HostRuntime) -> Result<(), Fail> {
-    // Ten bytes may spell a small number, in a key, a length and a value.
-    let value = [
-        0x08, 0x82, 0x80, 0x80, 0x80, 0x80, 0x80, 0x80, 0x80, 0x80, 0x00,
+fn varints_beyond(rt: HostRuntime) {
+    let faults: &[&[u8]] = &[
+        // Eleven bytes, and ten that spell 2^64.
+        &[
+            0x38, 0x80, 0x80, 0x80, 0x80, 0x80, 0x80, 0x80, 0x80, 0x80, 0x80, 0x00,
+        ],
+        &[
+            0x38, 0x80, 0x80, 0x80, 0x80, 0x80, 0x80, 0x80, 0x80, 0x80, 0x02,
+        ],
+        // A length of 2^64 - 1.
+        &[
+            0x3a, 0xff, 0xff, 0xff, 0xff, 0xff, 0xff, 0xff, 0xff, 0xff, 0x01,
+        ],
     ];
-    assert_eq!(rt; BitPackedMetadata::decode(&value)?, width(2));
-    let key = [
-        0x88, 0x80, 0x80, 0x80, 0x80, 0x80, 0x80, 0x80, 0x80, 0x00, 0x02,
-    ];
-    assert_eq!(rt; BitPackedMetadata::decode(&key)?, width(2));
-    let len = [
-        0x3a, 0x81, 0x80, 0x80, 0x80, 0x80, 0x80, 0x80, 0x80, 0x80, 0x00, 0xff, 0x08, 0x02,
-    ];
-    assert_eq!(rt; BitPackedMetadata::decode(&len)?, width(2));
-    // Eleven bytes, and ten that spell 2^64.
-    let long = [
-        0x38, 0x80, 0x80, 0x80, 0x80, 0x80, 0x80, 0x80, 0x80, 0x80, 0x80, 0x00,
-    ];
-    assert!(rt; all_refuse(&long));
-    let large = [
-        0x38, 0x80, 0x80, 0x80, 0x80, 0x80, 0x80, 0x80, 0x80, 0x80, 0x02,
-    ];
-    assert!(rt; all_refuse(&large));
+    for bytes in faults {
+        assert!(rt; all_refuse(bytes));
+    }
     let greatest = [
         0x38, 0xff, 0xff, 0xff, 0xff, 0xff, 0xff, 0xff, 0xff, 0xff, 0x01,
     ];
     assert!(rt; is_message(&greatest));
-    // A length of 2^64 - 1.
-    let beyond = [
-        0x3a, 0xff, 0xff, 0xff, 0xff, 0xff, 0xff, 0xff, 0xff, 0xff, 0x01,
-    ];
-    assert!(rt; all_refuse(&beyond));
-    Ok(())
 }
 
 #[test]
-fn faults_come_before_unknown_types(rt: HostRuntime) -> Result<(), Fail> {
-    assert_eq!(rt; RLEMetadata::decode(&[0x18, 0x09, 0x08]), Err(BAD));
+fn faults_come_before_unknown_types(rt: HostRuntime) {
+    rle_refused(&rt, &[0x18, 0x09, 0x08], BAD);
     let width_too_large = [0x1a, 0x02, 0x18, 0x09, 0x08, 0x80, 0x80, 0x80, 0x80, 0x10];
-    assert_eq!(rt; BitPackedMetadata::decode(&width_too_large), Err(BAD));
-    let unknown = [0x1a, 0x02, 0x18, 0x09];
-    assert_eq!(rt;
-        BitPackedMetadata::decode(&unknown),
-        Err(FastLanesError::UnknownType)
-    );
+    bit_packed_is(&rt, &width_too_large, Err(BAD));
+    bit_packed_is(&rt, &[0x1a, 0x02, 0x18, 0x09], Err(UNKNOWN));
     // The outer type is unknown, the inner message is none.
-    let inner_cut = [0x10, 0x09, 0x1a, 0x01, 0x08];
-    assert_eq!(rt; BitPackedBlockedMetadata::decode(&inner_cut), Err(BAD));
-    let both = [0x10, 0x09, 0x1a, 0x02, 0x18, 0x09];
-    assert_eq!(rt;
-        BitPackedBlockedMetadata::decode(&both),
-        Err(FastLanesError::UnknownType)
-    );
+    blocked_is(&rt, &[0x10, 0x09, 0x1a, 0x01, 0x08], Err(BAD));
+    blocked_is(&rt, &[0x10, 0x09, 0x1a, 0x02, 0x18, 0x09], Err(UNKNOWN));
     // A type number may be as large as a number can be.
     let highest = [
         0x18, 0xff, 0xff, 0xff, 0xff, 0xff, 0xff, 0xff, 0xff, 0xff, 0x01,
     ];
-    assert_eq!(rt;
-        RLEMetadata::decode(&highest),
-        Err(FastLanesError::UnknownType)
-    );
-    Ok(())
+    rle_refused(&rt, &highest, UNKNOWN);
 }
 
 #[test]
 fn scalars(rt: HostRuntime) -> Result<(), Fail> {
-    let alloc = rt.alloc();
-    assert_eq!(rt;
-        encode_scalar(alloc, PType::I32, Some(-5))?.as_slice(),
-        [0x18, 0x09].as_slice()
-    );
-    assert_eq!(rt;
-        encode_scalar(alloc, PType::U8, Some(0))?.as_slice(),
-        [0x20, 0x00].as_slice()
-    );
-    assert_eq!(rt;
-        encode_scalar(alloc, PType::I8, Some(0))?.as_slice(),
-        [0x18, 0x00].as_slice()
-    );
-    assert_eq!(rt;
-        encode_scalar(alloc, PType::I8, Some(-128))?.as_slice(),
-        [0x18, 0xff, 0x01].as_slice()
-    );
-    assert_eq!(rt;
-        encode_scalar(alloc, PType::U16, Some(300))?.as_slice(),
-        [0x20, 0xac, 0x02].as_slice()
-    );
-    assert_eq!(rt; encode_scalar(alloc, PType::U64, None)?.len(), 0);
-    let greatest = encode_scalar(alloc, PType::U64, Some(18446744073709551615))?;
-    assert_eq!(rt;
-        decode_scalar(PType::U64, &greatest)?,
-        Some(18446744073709551615)
-    );
-    let least = encode_scalar(alloc, PType::I64, Some(-9223372036854775808))?;
-    assert_eq!(rt;
-        decode_scalar(PType::I64, &least)?,
-        Some(-9223372036854775808)
-    );
-    assert_eq!(rt; decode_scalar(PType::U8, &[0x20, 0x05])?, Some(5));
-    assert_eq!(rt; decode_scalar(PType::I32, &[0x18, 0x09])?, Some(-5));
-    assert_eq!(rt; decode_scalar(PType::I32, &[])?, None);
-    Ok(())
+    scalar_and_back(&rt, rt.alloc(), PType::I32, Some(-5), &[0x18, 0x09])?;
+    scalar_and_back(&rt, rt.alloc(), PType::U8, Some(0), &[0x20, 0x00])?;
+    scalar_and_back(&rt, rt.alloc(), PType::I8, Some(0), &[0x18, 0x00])?;
+    scalar_and_back(&rt, rt.alloc(), PType::I8, Some(-128), &[0x18, 0xff, 0x01])
 }
 
 #[test]
-fn scalars_of_each_type(rt: HostRuntime) -> Result<(), Fail> {
-    // The greatest number of each type, and one more.
+fn wider_scalars_and_none(rt: HostRuntime) -> Result<(), Fail> {
+    scalar_and_back(&rt, rt.alloc(), PType::U16, Some(300), &[0x20, 0xac, 0x02])?;
+    scalar_and_back(&rt, rt.alloc(), PType::U8, Some(5), &[0x20, 0x05])?;
+    scalar_and_back(&rt, rt.alloc(), PType::U64, None, &[])?;
+    scalar_and_back(&rt, rt.alloc(), PType::I32, None, &[])
+}
+
+#[test]
+fn scalars_at_the_ends(rt: HostRuntime) -> Result<(), Fail> {
+    let greatest = 18446744073709551615;
+    let text = encode_scalar(rt.alloc(), PType::U64, Some(greatest))?;
+    scalar_is(&rt, PType::U64, &text, Ok(Some(greatest)));
+    let least = -9223372036854775808;
+    let text = encode_scalar(rt.alloc(), PType::I64, Some(least))?;
+    scalar_is(&rt, PType::I64, &text, Ok(Some(least)));
+    Ok(())
+}
+
+/// The greatest number of each type, and one more.
+#[test]
+fn scalars_of_each_type(rt: HostRuntime) {
     for ptype in [PType::U8, PType::I8] {
         let tag = if ptype.is_unsigned() { 0x20 } else { 0x18 };
         assert!(rt; decode_scalar(ptype, &[tag, 0xff, 0x01]).is_ok());
-        assert_eq!(rt; decode_scalar(ptype, &[tag, 0x80, 0x02]), Err(BAD));
+        scalar_is(&rt, ptype, &[tag, 0x80, 0x02], Err(BAD));
     }
     for ptype in [PType::U16, PType::I16] {
         let tag = if ptype.is_unsigned() { 0x20 } else { 0x18 };
         assert!(rt; decode_scalar(ptype, &[tag, 0xff, 0xff, 0x03]).is_ok());
-        assert_eq!(rt; decode_scalar(ptype, &[tag, 0x80, 0x80, 0x04]), Err(BAD));
+        scalar_is(&rt, ptype, &[tag, 0x80, 0x80, 0x04], Err(BAD));
     }
     for ptype in [PType::U32, PType::I32] {
         let tag = if ptype.is_unsigned() { 0x20 } else { 0x18 };
         assert!(rt; decode_scalar(ptype, &[tag, 0xff, 0xff, 0xff, 0xff, 0x0f]).is_ok());
-        assert_eq!(rt;
-            decode_scalar(ptype, &[tag, 0x80, 0x80, 0x80, 0x80, 0x10]),
-            Err(BAD)
-        );
+        scalar_is(&rt, ptype, &[tag, 0x80, 0x80, 0x80, 0x80, 0x10], Err(BAD));
     }
-    // A tag of the other sign is unknown, and no known tag is null.
-    assert_eq!(rt; decode_scalar(PType::U8, &[0x18, 0x05])?, None);
-    assert_eq!(rt;
-        decode_scalar(PType::I8, &[0x20, 0x05, 0x18, 0x02])?,
-        Some(1)
-    );
-    assert_eq!(rt; decode_scalar(PType::I64, &[0x25, 0, 0, 0, 0])?, None);
-    assert_eq!(rt; decode_scalar(PType::U64, &[0x25, 0, 0, 0, 0]), Err(BAD));
-    // The last value wins.
-    assert_eq!(rt;
-        decode_scalar(PType::U8, &[0x20, 0x80, 0x02, 0x20, 0x07])?,
-        Some(7)
-    );
-    Ok(())
 }
 
 #[test]
-fn any_message(rt: HostRuntime) -> Result<(), Fail> {
+fn scalars_by_their_tags(rt: HostRuntime) {
+    // A tag of the other sign is unknown, and no known tag is null.
+    scalar_is(&rt, PType::U8, &[0x18, 0x05], Ok(None));
+    scalar_is(&rt, PType::I8, &[0x20, 0x05, 0x18, 0x02], Ok(Some(1)));
+    scalar_is(&rt, PType::I64, &[0x25, 0, 0, 0, 0], Ok(None));
+    scalar_is(&rt, PType::U64, &[0x25, 0, 0, 0, 0], Err(BAD));
+    // The last value wins.
+    scalar_is(&rt, PType::U8, &[0x20, 0x80, 0x02, 0x20, 0x07], Ok(Some(7)));
+}
+
+#[test]
+fn any_message(rt: HostRuntime) {
     assert!(rt; is_message(&[]));
     assert!(rt; is_message(&[0x08, 0x02]));
     assert!(rt; !is_message(&[0x08]));
-    Ok(())
 }
