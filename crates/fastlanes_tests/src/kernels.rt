@@ -7,14 +7,14 @@ use fastlanes::*;
 use std::process::Abort;
 
 /// The number that a word stands for.
-fn number<W: FastLanes>(word: W) -> u64 {
+pub fn number<W: FastLanes>(word: W) -> u64 {
     let mut bytes = [0u8; 8];
     word.put_word(&mut bytes, 0);
     u64::from_le_bytes(bytes)
 }
 
 /// The word of the low bits of a number.
-fn word<W: FastLanes>(number: u64) -> W {
+pub fn word<W: FastLanes>(number: u64) -> W {
     W::word(&number.to_le_bytes(), 0)
 }
 
@@ -80,34 +80,74 @@ fn item_of_block(block: usize, p: usize) -> u64 {
     }
 }
 
+/// A block of zeros, of ones, or of squares.
+fn block_of<W: FastLanes>(block: usize) -> [W; FL_CHUNK_SIZE] {
+    W::in_memory();
+    let mut items = [W::zero(); FL_CHUNK_SIZE];
+    for p in 0..FL_CHUNK_SIZE {
+        items[p] = word(item_of_block(block, p));
+    }
+    items
+}
+
+/// Two lists have the same words.
+fn are_same<W: FastLanes>(left: &[W], right: &[W]) -> bool {
+    if left.len() != right.len() {
+        return false;
+    }
+    for i in 0..left.len() {
+        if !left[i].same(right[i]) {
+            return false;
+        }
+    }
+    true
+}
+
+/// Packs a block in vectors and bit by bit.
+fn packs_as_by_bits<W: FastLanes>(
+    width: usize,
+    items: &[W; FL_CHUNK_SIZE],
+    packed: &mut [W],
+) -> bool
+    requires width { width ≤ W.T }
+    requires size { length packed.old ≡ width * W.LANES }
+    requires fits { length packed.old ≤ 1024 }
+    ensures { length packed.new ≡ width * W.LANES }
+{
+    W::in_memory();
+    let mut by_bits = [W::zero(); FL_CHUNK_SIZE];
+    pack(width, items, packed);
+    let by_bits = &mut by_bits[..packed.len()];
+    pack_by_bits(width, items, by_bits);
+    are_same(packed, by_bits)
+}
+
+/// Unpacks a block in vectors and bit by bit.
+fn unpacks_as_by_bits<W: FastLanes>(width: usize, packed: &[W]) -> bool
+    requires width { width ≤ W.T }
+    requires size { length packed.now ≡ width * W.LANES }
+{
+    W::in_memory();
+    let mut unpacked = [W::zero(); FL_CHUNK_SIZE];
+    let mut by_bits = [W::zero(); FL_CHUNK_SIZE];
+    unpack(width, packed, &mut unpacked, &mut Work::new());
+    unpack_by_bits(width, packed, &mut by_bits);
+    are_same(&unpacked, &by_bits)
+}
+
 /// Packs and unpacks each block at each width, in vectors and bit by bit.
 fn old_and_new_agree<W: FastLanes>(rt: &impl Abort) {
     W::in_memory();
-    let mut items = [W::zero(); FL_CHUNK_SIZE];
-    let mut packed = [W::zero(); FL_CHUNK_SIZE];
-    let mut by_bits = [W::zero(); FL_CHUNK_SIZE];
-    let mut unpacked = [W::zero(); FL_CHUNK_SIZE];
-    let mut unpacked_by_bits = [W::zero(); FL_CHUNK_SIZE];
-    let mut work = Work::new();
     for block in 0..3usize {
-        for p in 0..FL_CHUNK_SIZE {
-            items[p] = word(item_of_block(block, p));
-        }
+        let items = block_of::<W>(block);
+        let mut packed = [W::zero(); FL_CHUNK_SIZE];
         for width in 0..W::T + 1 {
-            let size = block_size::<W>(width);
-            pack(width, &items, &mut packed[..size]);
-            pack_by_bits(width, &items, &mut by_bits[..size]);
-            for m in 0..size {
-                assert!(rt; packed[m].same(by_bits[m]), "word {m} at {width}");
-            }
-            unpack(width, &packed[..size], &mut unpacked, &mut work);
-            unpack_by_bits(width, &packed[..size], &mut unpacked_by_bits);
-            for p in 0..FL_CHUNK_SIZE {
-                assert!(rt;
-                    unpacked[p].same(unpacked_by_bits[p]),
-                    "item {p} at {width}"
-                );
-            }
+            let packed = &mut packed[..block_size::<W>(width)];
+            assert!(rt;
+                packs_as_by_bits(width, &items, packed),
+                "{block} at {width}"
+            );
+            assert!(rt; unpacks_as_by_bits(width, packed), "{block} at {width}");
         }
     }
 }
@@ -132,48 +172,125 @@ fn old_and_new_agree_on_words_of_64_bits(rt: HostRuntime) {
     old_and_new_agree::<u64>(&rt);
 }
 
+/// The bytes hold these words, the low byte first.
+fn hold<W: FastLanes>(bytes: &[u8], words: &[W]) -> bool {
+    for m in 0..words.len() {
+        if bytes.len() / (W::T / 8) <= m || !W::word(bytes, m).same(words[m]) {
+            return false;
+        }
+    }
+    true
+}
+
+/// Packs squares as words and as their bytes.
+fn packs_words_as_bytes<W: FastLanes>(width: usize, packed: &mut [W], bytes: &mut [u8]) -> bool
+    requires width { width ≤ W.T }
+    requires words { length packed.old ≡ width * W.LANES }
+    requires bytes { length bytes.old ≡ 128 * width }
+    ensures words { length packed.new ≡ width * W.LANES }
+    ensures bytes { length bytes.new ≡ 128 * width }
+{
+    W::in_memory();
+    let items = block_of::<W>(2);
+    pack(width, &items, packed);
+    pack_bytes(width, &items, bytes);
+    hold(bytes, packed)
+}
+
+/// Unpacks a block from words and from their bytes.
+fn unpacks_words_as_bytes<W: FastLanes>(width: usize, packed: &[W], bytes: &[u8]) -> bool
+    requires width { width ≤ W.T }
+    requires words { length packed.now ≡ width * W.LANES }
+    requires bytes { length bytes.now ≡ 128 * width }
+{
+    W::in_memory();
+    let mut unpacked = [W::zero(); FL_CHUNK_SIZE];
+    let mut from_bytes = [W::zero(); FL_CHUNK_SIZE];
+    let mut work = Work::new();
+    unpack(width, packed, &mut unpacked, &mut work);
+    unpack_bytes(width, bytes, &mut from_bytes, &mut work);
+    are_same(&unpacked, &from_bytes) && work.blocks() == 2
+}
+
 /// Packs and unpacks a block at each width, as words and as their bytes.
 fn words_and_bytes_agree<W: FastLanes>(rt: &impl Abort) {
     W::in_memory();
-    let mut items = [W::zero(); FL_CHUNK_SIZE];
-    for p in 0..FL_CHUNK_SIZE {
-        items[p] = word(item_of_block(2, p));
-    }
     let mut packed = [W::zero(); FL_CHUNK_SIZE];
     let mut bytes = [0u8; 8 * FL_CHUNK_SIZE];
-    let mut unpacked = [W::zero(); FL_CHUNK_SIZE];
-    let mut unpacked_from_bytes = [W::zero(); FL_CHUNK_SIZE];
-    let mut work = Work::new();
     for width in 0..W::T + 1 {
-        let size = block_size::<W>(width);
-        pack(width, &items, &mut packed[..size]);
-        pack_bytes(width, &items, &mut bytes[..128 * width]);
-        for m in 0..size {
-            assert!(rt; W::word(&bytes, m).same(packed[m]), "word {m} at {width}");
-        }
-        unpack(width, &packed[..size], &mut unpacked, &mut work);
-        unpack_bytes(
-            width,
-            &bytes[..128 * width],
-            &mut unpacked_from_bytes,
-            &mut work,
-        );
-        for p in 0..FL_CHUNK_SIZE {
-            assert!(rt;
-                unpacked[p].same(unpacked_from_bytes[p]),
-                "item {p} at {width}"
-            );
-        }
+        let packed = &mut packed[..block_size::<W>(width)];
+        let bytes = &mut bytes[..128 * width];
+        assert!(rt; packs_words_as_bytes(width, packed, bytes), "at {width}");
+        assert!(rt; unpacks_words_as_bytes(width, packed, bytes), "at {width}");
     }
-    assert!(rt; work.blocks() == 2 * (W::T as u64 + 1));
 }
 
+/// Columns of wider words are packed into bytes and unpacked by the tests of whole columns.
 #[test]
-fn words_and_bytes_agree_at_each_type(rt: HostRuntime) {
+fn words_and_bytes_agree_on_narrow_words(rt: HostRuntime) {
     words_and_bytes_agree::<u8>(&rt);
     words_and_bytes_agree::<u16>(&rt);
-    words_and_bytes_agree::<u32>(&rt);
-    words_and_bytes_agree::<u64>(&rt);
+}
+
+/// Items `p` modulo 7.
+fn remainders<W: FastLanes>() -> [W; FL_CHUNK_SIZE] {
+    W::in_memory();
+    let mut items = [W::zero(); FL_CHUNK_SIZE];
+    for p in 0..FL_CHUNK_SIZE {
+        items[p] = word((p % 7) as u64);
+    }
+    items
+}
+
+/// The same at width 3, with 10 added.
+fn sums_are_read<W: FastLanes>(rt: &impl Abort, packed: &[W])
+    requires width { 3 ≤ W.T }
+    requires size { length packed.now ≡ 3 * W.LANES }
+{
+    W::in_memory();
+    let mut summed = [W::zero(); FL_CHUNK_SIZE];
+    unfor_pack(3, packed, word(10), &mut summed, &mut Work::new());
+    for p in 0..FL_CHUNK_SIZE {
+        assert_eq!(rt; number(summed[p]), (p % 7 + 10) as u64);
+    }
+}
+
+/// The same at three positions.
+fn indices_are_read<W: FastLanes>(rt: &impl Abort, packed: &[W])
+    requires width { 3 ≤ W.T }
+    requires size { length packed.now ≡ 3 * W.LANES }
+{
+    let mut work = Work::new();
+    let mut taken = [W::zero(); 3];
+    unpack_indices(3, packed, &[1023, 0, 1023], &mut taken, &mut work);
+    let numbers = (number(taken[0]), number(taken[1]), number(taken[2]));
+    assert_eq!(rt; numbers, (1, 0, 1));
+    assert!(rt; work.blocks() == 0 && work.words() >= 3 && work.words() <= 6);
+}
+
+/// Bit `p` is set where `p` modulo 7 is 6.
+fn are_sixes(bits: &[u64; 16]) -> bool {
+    for p in 0..FL_CHUNK_SIZE {
+        let is_set = bits[p / 64] >> (p % 64) & 1 == 1;
+        if is_set != (p % 7 == 6) {
+            return false;
+        }
+    }
+    true
+}
+
+/// The same beside 6.
+fn items_are_compared<W: FastLanes>(rt: &impl Abort, packed: &[W])
+    requires width { 3 ≤ W.T }
+    requires size { length packed.now ≡ 3 * W.LANES }
+{
+    let mut work = Work::new();
+    let mut lane_bits = [0u64; 16];
+    let same = |item: W, rhs: W| item.same(rhs);
+    unpack_cmp(3, packed, &mut lane_bits, same, word(6), &mut work);
+    let mut bits = [0u64; 16];
+    transpose_bits::<W>(&lane_bits, &mut bits);
+    assert!(rt; are_sixes(&bits) && work.blocks() == 1);
 }
 
 /// Items `p` modulo 7 at width 3, through each kernel that reads packed words.
@@ -181,65 +298,44 @@ fn packed_items_are_read<W: FastLanes>(rt: &impl Abort)
     requires { 3 ≤ W.T }
 {
     W::in_memory();
-    let mut items = [W::zero(); FL_CHUNK_SIZE];
-    for p in 0..FL_CHUNK_SIZE {
-        items[p] = word((p % 7) as u64);
-    }
     let mut packed = [W::zero(); FL_CHUNK_SIZE];
-    let size = block_size::<W>(3);
-    pack(3, &items, &mut packed[..size]);
-    let mut work = Work::new();
-    let mut summed = [W::zero(); FL_CHUNK_SIZE];
-    unfor_pack(3, &packed[..size], word(10), &mut summed, &mut work);
-    for p in 0..FL_CHUNK_SIZE {
-        assert_eq!(rt; number(summed[p]), (p % 7 + 10) as u64);
-    }
-    let mut taken = [W::zero(); 3];
-    unpack_indices(3, &packed[..size], &[1023, 0, 1023], &mut taken, &mut work);
-    assert_eq!(rt;
-        (number(taken[0]), number(taken[1]), number(taken[2])),
-        (1, 0, 1)
-    );
-    assert_eq!(rt; work.blocks(), 1);
-    assert!(rt; work.words() >= 3 && work.words() <= 6);
-    let mut lane_bits = [0u64; 16];
-    unpack_cmp(
-        3,
-        &packed[..size],
-        &mut lane_bits,
-        |item: W, rhs: W| item.same(rhs),
-        word(6),
-        &mut work,
-    );
-    let mut bits = [0u64; 16];
-    transpose_bits::<W>(&lane_bits, &mut bits);
-    for p in 0..FL_CHUNK_SIZE {
-        assert_eq!(rt; bits[p / 64] >> (p % 64) & 1 == 1, p % 7 == 6, "bit {p}");
-    }
-    assert_eq!(rt; work.blocks(), 2);
+    let packed = &mut packed[..block_size::<W>(3)];
+    pack(3, &remainders(), packed);
+    sums_are_read(rt, packed);
+    indices_are_read(rt, packed);
+    items_are_compared(rt, packed);
 }
 
-/// Squares through the transposition, the deltas and the runs, and back.
+/// Squares, of which three stand in a row, through the transposition and back.
+fn places_come_back<W: FastLanes>(rt: &impl Abort, items: &[W; FL_CHUNK_SIZE]) {
+    W::in_memory();
+    let mut stored = [W::zero(); FL_CHUNK_SIZE];
+    transpose(items, &mut stored);
+    assert!(rt; stored[128].same(items[1]) && stored[1].same(items[64]));
+    let mut back = [W::zero(); FL_CHUNK_SIZE];
+    untranspose(&stored, &mut back);
+    assert!(rt; are_same(&back, items));
+}
+
+/// The same through the runs and back.
+fn runs_come_back<W: FastLanes>(rt: &impl Abort, items: &[W; FL_CHUNK_SIZE]) {
+    W::in_memory();
+    let mut values = [W::zero(); FL_CHUNK_SIZE];
+    let mut indices = [0u16; FL_CHUNK_SIZE];
+    let mut back = [W::zero(); FL_CHUNK_SIZE];
+    runs_and_back(items, &mut values, &mut indices, &mut back);
+    assert!(rt; are_same(&back, items));
+}
+
+/// Squares, of which three stand in a row, through the transposition and the runs, and back.
 fn blocks_come_back<W: FastLanes>(rt: &impl Abort) {
     W::in_memory();
     let mut items = [W::zero(); FL_CHUNK_SIZE];
     for p in 0..FL_CHUNK_SIZE {
         items[p] = word(item_of_block(2, p / 3));
     }
-    let mut stored = [W::zero(); FL_CHUNK_SIZE];
-    transpose(&items, &mut stored);
-    assert!(rt; stored[128].same(items[1]) && stored[1].same(items[64]));
-    let mut back = [W::zero(); FL_CHUNK_SIZE];
-    untranspose(&stored, &mut back);
-    for p in 0..FL_CHUNK_SIZE {
-        assert!(rt; back[p].same(items[p]));
-    }
-    let mut values = [W::zero(); FL_CHUNK_SIZE];
-    let mut indices = [0u16; FL_CHUNK_SIZE];
-    runs_and_back(&items, &mut values, &mut indices, &mut back);
-    for p in 0..FL_CHUNK_SIZE {
-        assert!(rt; back[p].same(items[p]));
-    }
+    places_come_back(rt, &items);
+    runs_come_back(rt, &items);
 }
 
 #[test]
@@ -254,6 +350,30 @@ fn kernels_at_each_type(rt: HostRuntime) {
     blocks_come_back::<u64>(&rt);
 }
 
+/// The bases of a block: the first item of each lane.
+fn bases_of<W: FastLanes>(items: &[W; FL_CHUNK_SIZE], bases: &mut [W])
+    ensures { length bases.new ≡ length bases.old }
+{
+    for l in 0..bases.len() {
+        bases[l] = items[seg(l % 128) % FL_CHUNK_SIZE];
+    }
+}
+
+/// Each word is this number.
+fn all_are<W: FastLanes>(words: &[W], wanted: u64) -> bool {
+    for i in 0..words.len() {
+        if number(words[i]) != wanted {
+            return false;
+        }
+    }
+    true
+}
+
+/// The bytes are 128 zeros, and then ones.
+fn are_zeros_then_ones(bytes: &[u8; FL_CHUNK_SIZE]) -> bool {
+    all_are(&bytes[..128], 0) && all_are(&bytes[128..], 1)
+}
+
 #[test]
 fn deltas_of_bytes_that_count_up(rt: HostRuntime) {
     let mut items = [0u8; FL_CHUNK_SIZE];
@@ -263,17 +383,14 @@ fn deltas_of_bytes_that_count_up(rt: HostRuntime) {
     let mut stored = [0u8; FL_CHUNK_SIZE];
     transpose(&items, &mut stored);
     let mut bases = [0u8; 128];
-    for l in 0..128usize {
-        bases[l] = items[seg(l) % FL_CHUNK_SIZE];
-    }
-    assert_eq!(rt; (bases[1], bases[4], bases[16]), (64, 0, 32));
+    bases_of(&items, &mut bases);
+    assert!(rt; bases[1] == 64 && bases[4] == 0 && bases[16] == 32);
     let mut deltas = [9u8; FL_CHUNK_SIZE];
     delta(&stored, &bases, &mut deltas);
-    assert_eq!(rt; deltas.iter().take(128).all(|d| *d == 0), true);
-    assert_eq!(rt; deltas.iter().skip(128).all(|d| *d == 1), true);
+    assert!(rt; are_zeros_then_ones(&deltas));
     let mut back = [9u8; FL_CHUNK_SIZE];
     undelta(&deltas, &bases, &mut back);
-    assert_eq!(rt; back == stored, true);
+    assert!(rt; back == stored);
 }
 
 #[test]
@@ -284,41 +401,36 @@ fn deltas_of_three_wide_items(rt: HostRuntime) {
     let mut stored = [0u64; FL_CHUNK_SIZE];
     transpose(&items, &mut stored);
     let mut bases = [0u64; 16];
-    for l in 0..16usize {
-        bases[l] = items[seg(l) % FL_CHUNK_SIZE];
-    }
-    assert_eq!(rt; bases[0], 1);
-    assert_eq!(rt; bases.iter().skip(1).all(|b| *b == 3), true);
+    bases_of(&items, &mut bases);
+    assert!(rt; bases[0] == 1 && all_are(&bases[1..], 3));
     let mut deltas = [9u64; FL_CHUNK_SIZE];
     delta(&stored, &bases, &mut deltas);
-    for p in 0..FL_CHUNK_SIZE {
-        assert_eq!(rt;
-            deltas[p],
-            if p == 128 || p == 256 { 1 } else { 0 },
-            "at {p}"
-        );
-    }
+    assert!(rt; deltas[128] == 1 && deltas[256] == 1);
+    deltas[128] = 0;
+    deltas[256] = 0;
+    assert!(rt; all_are(&deltas, 0));
+}
+
+#[test]
+fn one_run(rt: HostRuntime) {
+    let mut values = [9u8; FL_CHUNK_SIZE];
+    let mut indices = [9u16; FL_CHUNK_SIZE];
+    let runs = rle_encode(&[4u8; FL_CHUNK_SIZE], &mut values, &mut indices);
+    assert!(rt; runs == 1 && values[0] == 4);
+    assert!(rt; all_are(&indices, 0));
 }
 
 #[test]
 fn runs_of_a_block(rt: HostRuntime) {
-    let mut values = [9u8; FL_CHUNK_SIZE];
-    let mut indices = [9u16; FL_CHUNK_SIZE];
-    assert_eq!(rt;
-        rle_encode(&[4u8; FL_CHUNK_SIZE], &mut values, &mut indices),
-        1
-    );
-    assert_eq!(rt; values[0], 4);
-    assert_eq!(rt; indices.iter().all(|i| *i == 0), true);
     let mut items = [7u8; FL_CHUNK_SIZE];
     items[0] = 5;
     items[1] = 5;
     items[3] = 0;
-    assert_eq!(rt; rle_encode(&items, &mut values, &mut indices), 4);
-    assert_eq!(rt; (values[0], values[1], values[2], values[3]), (5, 7, 0, 7));
-    assert_eq!(rt;
-        (indices[0], indices[1], indices[2], indices[3]),
-        (0, 0, 1, 2)
-    );
-    assert_eq!(rt; indices.iter().skip(4).all(|i| *i == 3), true);
+    let mut values = [9u8; FL_CHUNK_SIZE];
+    let mut indices = [9u16; FL_CHUNK_SIZE];
+    let runs = rle_encode(&items, &mut values, &mut indices);
+    assert_eq!(rt; runs, 4);
+    assert!(rt; values[..4] == [5, 7, 0, 7]);
+    assert!(rt; indices[..4] == [0, 0, 1, 2]);
+    assert!(rt; all_are(&indices[4..], 3));
 }

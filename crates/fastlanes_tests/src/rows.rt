@@ -1,8 +1,10 @@
 //! Blocks worked out by hand from the layout, and each kernel at each word type.
 
-ghost use Rattle.std.specs.Prelude.{◌≡◌, ◌*◌, ◌≤◌, length};
+ghost use Rattle.std.specs.Prelude.{◌≡◌, ◌+◌, ◌*◌, ◌/◌, ◌≤◌, length};
 
+use crate::kernels::{number, word};
 use fastlanes::*;
+use std::process::Abort;
 
 /// Packs a block into bytes.
 fn packed_bytes<W: FastLanes>(
@@ -22,67 +24,82 @@ fn packed_bytes<W: FastLanes>(
     }
 }
 
+/// The bytes are 0 but at these indices.
+fn are_zeros_but(bytes: &[u8], others: &[(usize, u8)]) -> bool {
+    for i in 0..bytes.len() {
+        if bytes[i] != byte_at(i, others) {
+            return false;
+        }
+    }
+    true
+}
+
+/// The byte at an index where all are 0 but these.
+fn byte_at(index: usize, others: &[(usize, u8)]) -> u8 {
+    for (at, byte) in others {
+        if *at == index {
+            return *byte;
+        }
+    }
+    0
+}
+
 #[test]
 fn a_byte_of_one_bit(rt: HostRuntime) {
     let mut items = [0u8; FL_CHUNK_SIZE];
     items[128] = 1;
-    let mut words = [0u8; 128];
     let mut bytes = [0u8; 128];
-    packed_bytes(1, &items, &mut words, &mut bytes);
-    assert_eq!(rt; bytes[0], 2);
-    assert_eq!(rt; bytes[1..].iter().all(|b| *b == 0), true);
+    packed_bytes(1, &items, &mut [0; 128], &mut bytes);
+    assert!(rt; are_zeros_but(&bytes, &[(0, 2)]));
 }
 
 #[test]
 fn lanes_of_wide_words(rt: HostRuntime) {
     let mut items = [0u64; FL_CHUNK_SIZE];
     items[16] = 1;
-    let mut words = [0u64; 16];
     let mut bytes = [0u8; 128];
-    packed_bytes(1, &items, &mut words, &mut bytes);
-    assert_eq!(rt; bytes[4], 1);
-    assert_eq!(rt; bytes.iter().filter(|b| **b != 0).count(), 1);
+    packed_bytes(1, &items, &mut [0; 16], &mut bytes);
+    assert!(rt; are_zeros_but(&bytes, &[(4, 1)]));
     items[16] = 0;
     items[1] = 1;
-    packed_bytes(1, &items, &mut words, &mut bytes);
-    assert_eq!(rt; bytes[8], 1);
-    assert_eq!(rt; bytes.iter().filter(|b| **b != 0).count(), 1);
+    packed_bytes(1, &items, &mut [0; 16], &mut bytes);
+    assert!(rt; are_zeros_but(&bytes, &[(8, 1)]));
 }
 
 #[test]
 fn an_item_in_two_words(rt: HostRuntime) {
     let mut items = [0u8; FL_CHUNK_SIZE];
     items[256] = 7;
-    let mut words = [0u8; 384];
     let mut bytes = [0u8; 384];
-    packed_bytes(3, &items, &mut words, &mut bytes);
-    assert_eq!(rt; (bytes[0], bytes[128]), (192, 1));
-    assert_eq!(rt; bytes.iter().filter(|b| **b != 0).count(), 2);
+    packed_bytes(3, &items, &mut [0; 384], &mut bytes);
+    assert!(rt; are_zeros_but(&bytes, &[(0, 192), (128, 1)]));
     let mut work = Work::new();
     let item: u8 = unpack_single(3, &bytes, 256, &mut work);
-    assert_eq!(rt; item, 7);
-    assert_eq!(rt; (work.blocks(), work.words()), (0, 2));
+    assert!(rt; item == 7 && work.blocks() == 0 && work.words() == 2);
 }
 
 #[test]
 fn a_word_of_two_bytes(rt: HostRuntime) {
     let mut items = [0u16; FL_CHUNK_SIZE];
     items[64] = 5;
-    let mut words = [0u16; 192];
     let mut bytes = [0u8; 384];
-    packed_bytes(3, &items, &mut words, &mut bytes);
-    assert_eq!(rt; bytes[129], 5);
-    assert_eq!(rt; bytes.iter().filter(|b| **b != 0).count(), 1);
+    packed_bytes(3, &items, &mut [0; 192], &mut bytes);
+    assert!(rt; are_zeros_but(&bytes, &[(129, 5)]));
 }
 
 #[test]
-fn positions_and_segments(rt: HostRuntime) {
-    assert_eq!(rt; (pos(0, 0), pos(0, 127), pos(1, 0)), (0, 127, 128));
-    assert_eq!(rt; (pos(2, 0), pos(7, 5), pos(8, 0)), (256, 901, 64));
-    assert_eq!(rt; (pos(16, 3), pos(24, 0), pos(32, 0)), (35, 96, 16));
-    assert_eq!(rt; pos(63, 15), 1023);
-    assert_eq!(rt; (seg(0), seg(1), seg(4), seg(15)), (0, 64, 256, 960));
-    assert_eq!(rt; (seg(16), seg(32), seg(64), seg(127)), (32, 16, 8, 1016));
+fn positions_of_rows_and_lanes(rt: HostRuntime) {
+    let rows_of_lane_0 = [pos(1, 0), pos(2, 0), pos(8, 0), pos(24, 0), pos(32, 0)];
+    assert_eq!(rt; rows_of_lane_0, [128, 256, 64, 96, 16]);
+    let others = [pos(0, 0), pos(0, 127), pos(7, 5), pos(16, 3), pos(63, 15)];
+    assert_eq!(rt; others, [0, 127, 901, 35, 1023]);
+}
+
+#[test]
+fn segments_of_lanes(rt: HostRuntime) {
+    let up_to_16_lanes = [seg(0), seg(1), seg(4), seg(15)];
+    assert_eq!(rt; up_to_16_lanes, [0, 64, 256, 960]);
+    assert_eq!(rt; [seg(16), seg(32), seg(64), seg(127)], [32, 16, 8, 1016]);
 }
 
 /// Item `p` of a block of items that use all their bits.
@@ -90,121 +107,90 @@ fn item_of(p: usize) -> u64 {
     (p as u64).wrapping_mul(0x9e37_79b9_7f4a_7c15)
 }
 
+/// A block of items that use all their bits.
+fn wide_items<W: FastLanes>() -> [W; FL_CHUNK_SIZE] {
+    W::in_memory();
+    let mut items = [W::zero(); FL_CHUNK_SIZE];
+    for p in 0..FL_CHUNK_SIZE {
+        items[p] = word(item_of(p));
+    }
+    items
+}
+
+/// They are packed at a width, and read one by one and all at once.
+fn items_are_read<W: FastLanes>(
+    rt: &impl Abort,
+    width: usize,
+    mask: u64,
+    words: &mut [W],
+    bytes: &mut [u8],
+)
+    requires width { width ≤ W.T }
+    requires words { length words.old ≡ width * W.LANES }
+    requires bytes { length bytes.old ≡ 128 * width }
+{
+    W::in_memory();
+    packed_bytes(width, &wide_items(), words, bytes);
+    let mut work = Work::new();
+    let mut unpacked = [W::zero(); FL_CHUNK_SIZE];
+    unpack(width, words, &mut unpacked, &mut work);
+    for p in [0, 1, 127, 128, 500, 1023] {
+        let item: W = unpack_single(width, bytes, p, &mut work);
+        assert!(rt; item.same(unpacked[p]));
+        assert_eq!(rt; number(item), item_of(p) & mask);
+    }
+}
+
 #[test]
 fn items_of_u8(rt: HostRuntime) {
-    let mut items = [0u8; FL_CHUNK_SIZE];
-    for (p, item) in items.iter_mut().enumerate() {
-        *item = (item_of(p) & 0xff) as u8;
-    }
-    let mut words = [0u8; 640];
-    let mut bytes = [0u8; 640];
-    packed_bytes(5, &items, &mut words, &mut bytes);
-    let mut work = Work::new();
-    let mut unpacked = [0u8; FL_CHUNK_SIZE];
-    unpack(5, &words, &mut unpacked, &mut work);
-    assert_eq!(rt; (work.blocks(), work.words()), (1, 0));
-    for p in [0, 1, 127, 128, 500, 1023] {
-        assert_eq!(rt;
-            unpack_single::<u8>(5, &bytes, p, &mut work),
-            items[p] % 32,
-            "item {p}"
-        );
-        assert_eq!(rt; unpacked[p], items[p] % 32, "item {p}");
-    }
+    items_are_read::<u8>(&rt, 5, 0x1f, &mut [0; 640], &mut [0; 640]);
 }
 
 #[test]
 fn items_of_u16(rt: HostRuntime) {
-    let mut items = [0u16; FL_CHUNK_SIZE];
-    for (p, item) in items.iter_mut().enumerate() {
-        *item = (item_of(p) & 0xffff) as u16;
-    }
-    let mut words = [0u16; 1024];
-    let mut bytes = [0u8; 2048];
-    packed_bytes(16, &items, &mut words, &mut bytes);
-    let mut work = Work::new();
-    let mut unpacked = [0u16; FL_CHUNK_SIZE];
-    unpack(16, &words, &mut unpacked, &mut work);
-    for p in [0, 1, 127, 128, 500, 1023] {
-        assert_eq!(rt;
-            unpack_single::<u16>(16, &bytes, p, &mut work),
-            items[p],
-            "item {p}"
-        );
-        assert_eq!(rt; unpacked[p], items[p], "item {p}");
-    }
-    assert_eq!(rt; (work.blocks(), work.words()), (1, 6));
+    items_are_read::<u16>(&rt, 16, 0xffff, &mut [0; 1024], &mut [0; 2048]);
 }
 
 #[test]
 fn items_of_u32(rt: HostRuntime) {
-    let mut items = [0u32; FL_CHUNK_SIZE];
-    for (p, item) in items.iter_mut().enumerate() {
-        *item = (item_of(p) & 0xffff_ffff) as u32;
-    }
-    let mut words = [0u32; 352];
-    let mut bytes = [0u8; 1408];
-    packed_bytes(11, &items, &mut words, &mut bytes);
-    let mut work = Work::new();
-    let mut unpacked = [0u32; FL_CHUNK_SIZE];
-    unpack(11, &words, &mut unpacked, &mut work);
-    for p in [0, 1, 127, 128, 500, 1023] {
-        assert_eq!(rt;
-            unpack_single::<u32>(11, &bytes, p, &mut work),
-            items[p] % 2048,
-            "item {p}"
-        );
-        assert_eq!(rt; unpacked[p], items[p] % 2048, "item {p}");
-    }
+    items_are_read::<u32>(&rt, 11, 0x7ff, &mut [0; 352], &mut [0; 1408]);
 }
 
 #[test]
 fn items_of_u64(rt: HostRuntime) {
-    let mut items = [0u64; FL_CHUNK_SIZE];
-    for (p, item) in items.iter_mut().enumerate() {
-        *item = item_of(p);
-    }
-    let mut words = [0u64; 528];
-    let mut bytes = [0u8; 4224];
-    packed_bytes(33, &items, &mut words, &mut bytes);
-    let mut work = Work::new();
-    let mut unpacked = [0u64; FL_CHUNK_SIZE];
-    unpack(33, &words, &mut unpacked, &mut work);
-    for p in [0, 1, 127, 128, 500, 1023] {
-        assert_eq!(rt;
-            unpack_single::<u64>(33, &bytes, p, &mut work),
-            items[p] % (1 << 33),
-            "item {p}"
-        );
-        assert_eq!(rt; unpacked[p], items[p] % (1 << 33), "item {p}");
-    }
+    items_are_read::<u64>(&rt, 33, 0x1_ffff_ffff, &mut [0; 528], &mut [0; 4224]);
 }
 
 #[test]
 fn width_0_reads_nothing(rt: HostRuntime) {
     let mut work = Work::new();
-    assert_eq!(rt; unpack_single::<u32>(0, &[], 1023, &mut work), 0);
-    assert_eq!(rt; (work.blocks(), work.words()), (0, 0));
+    let item: u32 = unpack_single(0, &[], 1023, &mut work);
+    assert!(rt; item == 0 && work.blocks() == 0 && work.words() == 0);
     let mut unpacked = [7u32; FL_CHUNK_SIZE];
     unpack(0, &[], &mut unpacked, &mut work);
-    assert_eq!(rt; unpacked.iter().all(|item| *item == 0), true);
-    assert_eq!(rt; (work.blocks(), work.words()), (1, 0));
+    assert!(rt; unpacked == [0; FL_CHUNK_SIZE]);
+    assert!(rt; work.blocks() == 1 && work.words() == 0);
+}
+
+/// A word that was put is read again.
+fn is_put<W: FastLanes>(rt: &impl Abort, word: W, bytes: &mut [u8; 16], k: usize)
+    requires { (k + 1) * (W.T / 8) ≤ 16 }
+{
+    assert!(rt; laws::put_then_read(word, bytes, k).same(word));
 }
 
 #[test]
-fn laws_at_each_type(rt: HostRuntime) {
+fn words_are_put_at_each_type(rt: HostRuntime) {
     let mut bytes = [9u8; 16];
-    assert_eq!(rt; laws::put_then_read(0x12u8, &mut bytes, 15), 0x12);
-    assert_eq!(rt; laws::put_then_read(0x3456u16, &mut bytes, 6), 0x3456);
-    assert_eq!(rt; (bytes[12], bytes[13]), (0x56, 0x34));
-    assert_eq!(rt;
-        laws::put_then_read(0x89ab_cdefu32, &mut bytes, 1),
-        0x89ab_cdef
-    );
-    assert_eq!(rt;
-        laws::put_then_read(u64::MAX - 1, &mut bytes, 1),
-        u64::MAX - 1
-    );
+    is_put(&rt, 0x12u8, &mut bytes, 15);
+    is_put(&rt, 0x89ab_cdefu32, &mut bytes, 1);
+    is_put(&rt, u64::MAX - 1, &mut bytes, 1);
+    is_put(&rt, 0x3456u16, &mut bytes, 6);
+    assert!(rt; bytes[12] == 0x56 && bytes[13] == 0x34);
+}
+
+#[test]
+fn sums_and_differences(rt: HostRuntime) {
     assert_eq!(rt; laws::sum_and_difference(200u8, 100), (200, 200));
     assert_eq!(rt; laws::sum_and_difference(1u64, 2), (1, 1));
 }

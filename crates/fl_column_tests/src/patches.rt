@@ -4,6 +4,7 @@ use fl_patches::*;
 use fl_plain::{ConstantArray, PrimitiveArray};
 use fl_types::*;
 use std::alloc::Global;
+use std::process::Abort;
 use std::test::Fail;
 
 const TYPES: [PType; 8] = [
@@ -17,13 +18,23 @@ const TYPES: [PType; 8] = [
     PType::I64,
 ];
 
+const CONTENT: Option<FastLanesError> = Some(FastLanesError::PatchContent);
+
+const LENGTH: Option<FastLanesError> = Some(FastLanesError::PatchLength);
+
+/// What makes an array.
+type Made = Result<PrimitiveArray, FastLanesError>;
+
+/// What selects patches.
+type Selected = Result<Option<Patches>, FastLanesError>;
+
 /// An array of these bytes, none of which may be null.
-fn bytes(alloc: Global, items: &[u8]) -> Result<PrimitiveArray, FastLanesError> {
+fn bytes(alloc: Global, items: &[u8]) -> Made {
     PrimitiveArray::new(Vec::from_slice(alloc, items)?, Validity::NonNullable)
 }
 
 /// The same integers in a type, none of which may be null.
-fn integers(alloc: Global, ptype: PType, items: &[u8]) -> Result<PrimitiveArray, FastLanesError> {
+fn integers(alloc: Global, ptype: PType, items: &[u8]) -> Made {
     bytes(alloc, items)?.cast(alloc, DType::Primitive(ptype, Nullability::NonNullable))
 }
 
@@ -40,405 +51,319 @@ fn has_bytes(array: &PrimitiveArray, items: &[u8]) -> bool {
     true
 }
 
-/// The values 7 and 8 at positions 2 and 5 of ten.
-fn two_of_ten(alloc: Global) -> Result<Patches, FastLanesError> {
-    Patches::new(10, 0, bytes(alloc, &[2, 5])?, bytes(alloc, &[7, 8])?, None)
-}
-
-/// Why patches of `len` items have no such parts, if there is a reason.
-fn refusal(
+/// Patches of what was made.
+fn patches_of(
     len: usize,
     offset: usize,
-    indices: PrimitiveArray,
-    values: PrimitiveArray,
+    indices: Made,
+    values: Made,
     chunk_offsets: Option<PrimitiveArray>,
-) -> Option<FastLanesError> {
-    Patches::new(len, offset, indices, values, chunk_offsets).err()
+) -> Result<Patches, FastLanesError> {
+    Patches::new(len, offset, indices?, values?, chunk_offsets)
 }
 
-/// The same for parts of bytes, without chunk offsets.
-fn refusal_of_bytes(
-    alloc: Global,
-    indices: &[u8],
-    values: &[u8],
-) -> Result<Option<FastLanesError>, FastLanesError> {
-    Ok(refusal(10, 0, bytes(alloc, indices)?, bytes(alloc, values)?, None))
+/// The values 7 and 8 at positions 2 and 5 of ten.
+fn two_of_ten(alloc: Global) -> Result<Patches, FastLanesError> {
+    patches_of(10, 0, bytes(alloc, &[2, 5]), bytes(alloc, &[7, 8]), None)
 }
 
-/// The same for two patches with these chunk offsets.
+/// Why ten items have no such patches, if there is a reason.
+fn refusal(indices: Made, values: Made) -> Option<FastLanesError> {
+    patches_of(10, 0, indices, values, None).err()
+}
+
+/// Why two patches have no such chunk offsets, if there is a reason.
 fn refusal_of_chunks(
     alloc: Global,
     len: usize,
     offset: usize,
     chunk_offsets: &[u8],
 ) -> Result<Option<FastLanesError>, FastLanesError> {
-    let chunk_offsets = bytes(alloc, chunk_offsets)?;
-    let (indices, values) = (bytes(alloc, &[2, 5])?, bytes(alloc, &[7, 8])?);
-    Ok(refusal(len, offset, indices, values, Some(chunk_offsets)))
+    let chunk_offsets = Some(bytes(alloc, chunk_offsets)?);
+    let (indices, values) = (bytes(alloc, &[2, 5]), bytes(alloc, &[7, 8]));
+    Ok(patches_of(len, offset, indices, values, chunk_offsets).err())
 }
 
 #[test]
-fn refuses_contents(rt: HostRuntime) -> Result<(), Fail> {
-    let content = Some(FastLanesError::PatchContent);
-    assert_eq!(rt; refusal_of_bytes(rt.alloc(), &[2, 5], &[7, 8])?, None);
-    assert_eq!(rt; refusal_of_bytes(rt.alloc(), &[9], &[7])?, None);
-    assert_eq!(rt; refusal_of_bytes(rt.alloc(), &[5, 2], &[7, 8])?, content);
-    assert_eq!(rt; refusal_of_bytes(rt.alloc(), &[5, 5], &[7, 8])?, content);
-    assert_eq!(rt; refusal_of_bytes(rt.alloc(), &[2, 10], &[7, 8])?, content);
-    Ok(())
+fn refuses_contents_and_before_them_lengths(rt: HostRuntime) {
+    let rows: &[(&[u8], &[u8], Option<FastLanesError>)] = &[
+        (&[2, 5], &[7, 8], None),
+        (&[9], &[7], None),
+        (&[5, 2], &[7, 8], CONTENT),
+        (&[5, 5], &[7, 8], CONTENT),
+        (&[2, 10], &[7, 8], CONTENT),
+        (&[], &[], LENGTH),
+        (&[2, 5], &[7, 8, 9], LENGTH),
+        (&[5, 2], &[7, 8, 9], LENGTH),
+    ];
+    for (indices, values, wanted) in rows {
+        let refusal = refusal(bytes(rt.alloc(), indices), bytes(rt.alloc(), values));
+        assert!(rt; refusal == *wanted);
+    }
 }
 
 #[test]
-fn refuses_lengths_before_contents(rt: HostRuntime) -> Result<(), Fail> {
-    let length = Some(FastLanesError::PatchLength);
-    assert_eq!(rt; refusal_of_bytes(rt.alloc(), &[], &[])?, length);
-    assert_eq!(rt; refusal_of_bytes(rt.alloc(), &[2, 5], &[7, 8, 9])?, length);
-    assert_eq!(rt; refusal_of_bytes(rt.alloc(), &[5, 2], &[7, 8, 9])?, length);
-    Ok(())
+fn refuses_chunk_offsets_that_miscount(rt: HostRuntime) {
+    let rows: &[(usize, usize, &[u8], Option<FastLanesError>)] = &[
+        (10, 0, &[0], None),
+        (10, 0, &[1], CONTENT),
+        (10, 0, &[0, 0], LENGTH),
+        (1025, 0, &[0, 2], None),
+        (1025, 0, &[0, 1], CONTENT),
+        (10, 1, &[0], CONTENT),
+    ];
+    for (len, offset, chunk_offsets, wanted) in rows {
+        let refusal = refusal_of_chunks(rt.alloc(), *len, *offset, chunk_offsets);
+        assert!(rt; refusal == Ok(*wanted));
+    }
+}
+
+/// Two indices that may be null, in descending order.
+fn nullable_indices(alloc: Global) -> Made {
+    PrimitiveArray::from_options(alloc, &[Some(5u8), Some(2)])
+}
+
+/// Signed or nullable indices are refused before other faults.
+#[test]
+fn refuses_types_first(rt: HostRuntime) {
+    let alloc = rt.alloc();
+    let wanted = Some(FastLanesError::PatchType);
+    let signed = integers(alloc, PType::I8, &[5, 2]);
+    assert!(rt; refusal(signed, bytes(alloc, &[7, 8, 9])) == wanted);
+    assert!(rt; refusal(nullable_indices(alloc), bytes(alloc, &[7, 8])) == wanted);
 }
 
 #[test]
-fn refuses_chunk_offsets_that_miscount(rt: HostRuntime) -> Result<(), Fail> {
-    let content = Some(FastLanesError::PatchContent);
-    let length = Some(FastLanesError::PatchLength);
-    assert_eq!(rt; refusal_of_chunks(rt.alloc(), 10, 0, &[0])?, None);
-    assert_eq!(rt; refusal_of_chunks(rt.alloc(), 10, 0, &[1])?, content);
-    assert_eq!(rt; refusal_of_chunks(rt.alloc(), 10, 0, &[0, 0])?, length);
-    assert_eq!(rt; refusal_of_chunks(rt.alloc(), 1025, 0, &[0, 2])?, None);
-    assert_eq!(rt; refusal_of_chunks(rt.alloc(), 1025, 0, &[0, 1])?, content);
-    assert_eq!(rt; refusal_of_chunks(rt.alloc(), 10, 1, &[0])?, content);
-    Ok(())
-}
-
-/// Why signed or nullable parts, with other faults beside, are no patches.
-fn refusals_by_type(
-    alloc: Global,
-) -> Result<(Option<FastLanesError>, Option<FastLanesError>), FastLanesError> {
-    let signed = integers(alloc, PType::I8, &[5, 2])?;
-    let first = refusal(10, 0, signed, bytes(alloc, &[7, 8, 9])?, None);
-    let nullable = PrimitiveArray::from_options(alloc, &[Some(5u8), Some(2)])?;
-    let second = refusal(10, 0, nullable, bytes(alloc, &[7, 8])?, None);
-    Ok((first, second))
-}
-
-/// Why patches with a null among the values, or with an index below the offset, are none.
-fn refusals_by_content(
-    alloc: Global,
-) -> Result<(Option<FastLanesError>, Option<FastLanesError>), FastLanesError> {
-    let null = PrimitiveArray::from_options(alloc, &[Some(7u8), None])?;
-    let first = refusal(10, 0, bytes(alloc, &[2, 5])?, null, None);
-    let second = refusal(10, 3, bytes(alloc, &[2, 5])?, bytes(alloc, &[7, 8])?, None);
-    Ok((first, second))
+fn refuses_nulls_among_the_values(rt: HostRuntime) {
+    let null = PrimitiveArray::from_options(rt.alloc(), &[Some(7u8), None]);
+    assert!(rt; refusal(bytes(rt.alloc(), &[2, 5]), null) == CONTENT);
 }
 
 #[test]
-fn refuses_types_first(rt: HostRuntime) -> Result<(), Fail> {
-    let (signed, nullable) = refusals_by_type(rt.alloc())?;
-    assert_eq!(rt; signed, Some(FastLanesError::PatchType));
-    assert_eq!(rt; nullable, Some(FastLanesError::PatchType));
-    Ok(())
+fn refuses_indices_below_the_offset(rt: HostRuntime) {
+    let (indices, values) = (bytes(rt.alloc(), &[2, 5]), bytes(rt.alloc(), &[7, 8]));
+    assert!(rt; patches_of(10, 3, indices, values, None).err() == CONTENT);
 }
 
-#[test]
-fn refuses_nulls_and_indices_out_of_range(rt: HostRuntime) -> Result<(), Fail> {
-    let (null, below) = refusals_by_content(rt.alloc())?;
-    assert_eq!(rt; null, Some(FastLanesError::PatchContent));
-    assert_eq!(rt; below, Some(FastLanesError::PatchContent));
-    Ok(())
+/// The byte at a position.
+fn value_at(patches: &Patches, i: usize) -> Option<u8> {
+    match patches.get_patched(i) {
+        Some(PValue::U8(value)) => Some(value),
+        _ => None,
+    }
 }
 
-/// How many patches there are, and the value at a position.
-fn value_of_two(alloc: Global, i: usize) -> Result<(usize, Option<PValue>), FastLanesError> {
-    let patches = two_of_ten(alloc)?;
-    Ok((patches.num_patches(), patches.get_patched(i)))
+/// The two have their values beside their indices.
+fn values_stand_beside_indices(rt: &impl Abort, patches: &Patches) {
+    assert!(rt; patches.num_patches() == 2);
+    for (i, wanted) in [(5, Some(8)), (4, None), (2, Some(7)), (usize::MAX, None)] {
+        assert!(rt; value_at(patches, i) == wanted);
+    }
 }
 
 #[test]
 fn gets_the_value_beside_an_index(rt: HostRuntime) -> Result<(), Fail> {
-    assert_eq!(rt; value_of_two(rt.alloc(), 5)?, (2, Some(PValue::U8(8))));
-    assert_eq!(rt; value_of_two(rt.alloc(), 4)?, (2, None));
-    assert_eq!(rt; value_of_two(rt.alloc(), 2)?, (2, Some(PValue::U8(7))));
-    assert_eq!(rt; value_of_two(rt.alloc(), usize::MAX)?, (2, None));
+    values_stand_beside_indices(&rt, &two_of_ten(rt.alloc())?);
     Ok(())
 }
 
 /// The slice, where the range lies in the array.
-fn sliced(
-    patches: &Patches,
-    alloc: Global,
-    start: usize,
-    end: usize,
-) -> Result<Option<Patches>, FastLanesError> {
+fn sliced(patches: &Patches, alloc: Global, start: usize, end: usize) -> Selected {
     if start > end || end > patches.array_len() {
         return Err(FastLanesError::RangeOutOfBounds);
     }
     patches.slice(alloc, start, end)
 }
 
-/// How many patches there are, and the value at a position of them.
-fn shown(patches: &Option<Patches>, i: usize) -> (usize, Option<PValue>) {
+/// So many patches were selected, with this byte at a position.
+fn show(patches: Selected, count: usize, i: usize, value: Option<u8>) -> bool {
     match patches {
-        Some(patches) => (patches.num_patches(), patches.get_patched(i)),
-        None => (0, None),
+        Ok(Some(patches)) => patches.num_patches() == count && value_at(&patches, i) == value,
+        Ok(None) => count == 0 && value.is_none(),
+        Err(_) => false,
     }
 }
 
-/// The same of a slice.
-fn slice_shown(
-    patches: &Patches,
-    alloc: Global,
-    start: usize,
-    end: usize,
-    i: usize,
-) -> Result<(usize, Option<PValue>), FastLanesError> {
-    let slice = sliced(patches, alloc, start, end)?;
-    Ok(shown(&slice, i))
-}
-
-/// The same of a slice of the two.
-fn slice_of_two(
-    alloc: Global,
-    start: usize,
-    end: usize,
-    i: usize,
-) -> Result<(usize, Option<PValue>), FastLanesError> {
-    let patches = two_of_ten(alloc)?;
-    slice_shown(&patches, alloc, start, end, i)
+/// Slices of the two.
+fn slices_show(rt: &impl Abort, alloc: Global, patches: &Patches) {
+    for (start, end, count, i, value) in [
+        (3, 10, 1, 2, Some(8)),
+        (2, 6, 2, 0, Some(7)),
+        (5, 6, 1, 0, Some(8)),
+        (6, 10, 0, 0, None),
+    ] {
+        assert!(rt; show(sliced(patches, alloc, start, end), count, i, value));
+    }
 }
 
 #[test]
 fn slices_the_positions(rt: HostRuntime) -> Result<(), Fail> {
-    assert_eq!(rt;
-        slice_of_two(rt.alloc(), 3, 10, 2)?,
-        (1, Some(PValue::U8(8)))
-    );
-    assert_eq!(rt;
-        slice_of_two(rt.alloc(), 2, 6, 0)?,
-        (2, Some(PValue::U8(7)))
-    );
-    assert_eq!(rt;
-        slice_of_two(rt.alloc(), 5, 6, 0)?,
-        (1, Some(PValue::U8(8)))
-    );
-    assert_eq!(rt; slice_of_two(rt.alloc(), 6, 10, 0)?, (0, None));
+    slices_show(&rt, rt.alloc(), &two_of_ten(rt.alloc())?);
     Ok(())
 }
 
-/// The offset and the first index of patches.
-fn first_place(patches: &Patches) -> (usize, Option<PValue>) {
+/// The patches have this offset and this first index.
+fn begin_at(patches: &Patches, offset: usize, index: u8) -> bool {
     let indices = patches.indices();
-    let first = if indices.len() == 0 {
-        None
-    } else {
-        indices.get(0)
-    };
-    (patches.offset(), first)
+    indices.len() > 0 && indices.get(0) == Some(PValue::U8(index)) && patches.offset() == offset
 }
 
-/// Where a slice from 3 on begins, and what a slice of it shows.
-fn slice_of_slice(
-    slice: &Option<Patches>,
-    alloc: Global,
-) -> Result<((usize, Option<PValue>), (usize, Option<PValue>)), FastLanesError> {
-    match slice {
-        Some(slice) => Ok((first_place(slice), slice_shown(slice, alloc, 1, 4, 1)?)),
-        None => Ok(((0, None), (0, None))),
+/// Such patches were selected.
+fn selected_begin_at(patches: Selected, offset: usize, index: u8) -> bool {
+    match patches {
+        Ok(Some(patches)) => begin_at(&patches, offset, index),
+        _ => false,
     }
 }
 
-fn slices_again(
-    patches: &Patches,
-    alloc: Global,
-) -> Result<((usize, Option<PValue>), (usize, Option<PValue>)), FastLanesError> {
-    let slice = sliced(patches, alloc, 3, 10)?;
-    slice_of_slice(&slice, alloc)
+/// A slice of what was selected.
+fn sliced_again(patches: Selected, alloc: Global, start: usize, end: usize) -> Selected {
+    match patches? {
+        Some(patches) => sliced(&patches, alloc, start, end),
+        None => Ok(None),
+    }
 }
 
-fn two_sliced_again(
-    alloc: Global,
-) -> Result<((usize, Option<PValue>), (usize, Option<PValue>)), FastLanesError> {
-    let patches = two_of_ten(alloc)?;
-    slices_again(&patches, alloc)
+/// A slice of the two, and a slice of it.
+fn slices_add_up(rt: &impl Abort, alloc: Global, patches: &Patches) {
+    assert!(rt; selected_begin_at(sliced(patches, alloc, 3, 10), 3, 5));
+    let again = sliced_again(sliced(patches, alloc, 3, 10), alloc, 1, 4);
+    assert!(rt; show(again, 1, 1, Some(8)));
 }
 
 #[test]
 fn a_slice_keeps_indices_and_adds_to_the_offset(rt: HostRuntime) -> Result<(), Fail> {
-    let (first, again) = two_sliced_again(rt.alloc())?;
-    assert_eq!(rt; first, (3, Some(PValue::U8(5))));
-    assert_eq!(rt; again, (1, Some(PValue::U8(8))));
+    slices_add_up(&rt, rt.alloc(), &two_of_ten(rt.alloc())?);
     Ok(())
 }
 
 /// The greatest index there is.
-fn greatest_index(alloc: Global) -> Result<PrimitiveArray, FastLanesError> {
+fn greatest_index(alloc: Global) -> Made {
     PrimitiveArray::new(Vec::from_slice(alloc, &[u64::MAX])?, Validity::NonNullable)
 }
 
 /// Seven at the greatest index there is, at position 3 of ten.
 fn last_of_all(alloc: Global) -> Result<Patches, FastLanesError> {
-    let last = greatest_index(alloc)?;
-    Patches::new(10, usize::MAX - 3, last, bytes(alloc, &[7])?, None)
+    let (last, seven) = (greatest_index(alloc), bytes(alloc, &[7]));
+    patches_of(10, usize::MAX - 3, last, seven, None)
 }
 
-/// How many patches a slice has.
-fn count_in_slice(alloc: Global, start: usize, end: usize) -> Result<usize, FastLanesError> {
-    let patches = last_of_all(alloc)?;
-    Ok(slice_shown(&patches, alloc, start, end, 0)?.0)
+/// Slices of what has the greatest index.
+fn slices_end_well(rt: &impl Abort, alloc: Global, patches: &Patches) {
+    assert!(rt; show(sliced(patches, alloc, 2, 5), 1, 1, Some(7)));
+    assert!(rt; show(sliced(patches, alloc, 4, 10), 0, 0, None));
 }
 
 #[test]
 fn indices_and_lengths_never_wrap(rt: HostRuntime) -> Result<(), Fail> {
-    assert_eq!(rt; count_in_slice(rt.alloc(), 2, 5)?, 1);
-    assert_eq!(rt; count_in_slice(rt.alloc(), 4, 10)?, 0);
+    slices_end_well(&rt, rt.alloc(), &last_of_all(rt.alloc())?);
     Ok(())
 }
 
-/// The patches have these indices and values; none stand for no patches.
-fn are(patches: &Option<Patches>, indices: &[u8], values: &[u8]) -> bool {
+/// Patches with these indices and values were selected; none stand for no patches.
+fn are(patches: Selected, indices: &[u8], values: &[u8]) -> bool {
     match patches {
-        Some(patches) => {
+        Ok(Some(patches)) => {
             has_bytes(patches.indices(), indices) && has_bytes(patches.values(), values)
         }
-        None => indices.len() == 0,
+        Ok(None) => indices.len() == 0,
+        Err(_) => false,
     }
 }
 
-/// A take by these indices gives these patches.
-fn taken_are(
-    patches: &Patches,
-    alloc: Global,
-    named: &PrimitiveArray,
-    indices: &[u8],
-    values: &[u8],
-) -> Result<bool, FastLanesError> {
-    let taken = patches.take(alloc, named)?;
-    Ok(are(&taken, indices, values))
+/// What these indices name.
+fn taken(patches: &Patches, alloc: Global, indices: Made) -> Selected {
+    patches.take(alloc, &indices?)
 }
 
-/// The same of the two.
-fn takes_by(
-    alloc: Global,
-    named: &PrimitiveArray,
-    indices: &[u8],
-    values: &[u8],
-) -> Result<bool, FastLanesError> {
-    let patches = two_of_ten(alloc)?;
-    taken_are(&patches, alloc, named, indices, values)
-}
-
-/// A take by these integers of a type gives these patches.
-fn takes(
-    alloc: Global,
-    ptype: PType,
-    named: &[u8],
-    indices: &[u8],
-    values: &[u8],
-) -> Result<bool, FastLanesError> {
-    let named = integers(alloc, ptype, named)?;
-    takes_by(alloc, &named, indices, values)
+/// Takes from the two by indices of each type.
+fn takes_name(rt: &impl Abort, alloc: Global, patches: &Patches) {
+    for ptype in TYPES {
+        let both = taken(patches, alloc, integers(alloc, ptype, &[5, 2, 4, 5]));
+        assert!(rt; are(both, &[0, 1, 3], &[8, 7, 8]));
+        let none = taken(patches, alloc, integers(alloc, ptype, &[0, 9]));
+        assert!(rt; are(none, &[], &[]));
+    }
 }
 
 #[test]
 fn takes_by_indices_of_each_type(rt: HostRuntime) -> Result<(), Fail> {
-    for ptype in TYPES {
-        assert!(rt; takes(rt.alloc(), ptype, &[5, 2, 4, 5], &[0, 1, 3], &[8, 7, 8])?);
-        assert!(rt; takes(rt.alloc(), ptype, &[0, 9], &[], &[])?);
-    }
+    takes_name(&rt, rt.alloc(), &two_of_ten(rt.alloc())?);
     Ok(())
 }
 
-/// What a take by these indices answers.
-fn refusal_of_take(
-    alloc: Global,
-    indices: &PrimitiveArray,
-) -> Result<Option<FastLanesError>, FastLanesError> {
-    let patches = two_of_ten(alloc)?;
-    Ok(patches.take(alloc, indices).err())
+/// Why a take from the two by this index is refused, if it is.
+fn refusal_of_take(patches: &Patches, alloc: Global, index: i8) -> Option<FastLanesError> {
+    taken(
+        patches,
+        alloc,
+        PrimitiveArray::from_options(alloc, &[Some(index)]),
+    )
+    .err()
 }
 
-/// What a take by one index answers.
-fn take_of(alloc: Global, index: i8) -> Result<Option<FastLanesError>, FastLanesError> {
-    let indices = PrimitiveArray::from_options(alloc, &[Some(index)])?;
-    refusal_of_take(alloc, &indices)
+/// Takes from the two by an index before the first position, behind the last, and at it.
+fn takes_stay_within(rt: &impl Abort, alloc: Global, patches: &Patches) {
+    let beyond = Some(FastLanesError::IndexOutOfBounds);
+    assert!(rt; refusal_of_take(patches, alloc, -1) == beyond);
+    assert!(rt; refusal_of_take(patches, alloc, 10) == beyond);
+    assert!(rt; refusal_of_take(patches, alloc, 9).is_none());
 }
 
 #[test]
 fn refuses_indices_out_of_range(rt: HostRuntime) -> Result<(), Fail> {
-    assert_eq!(rt;
-        take_of(rt.alloc(), -1)?,
-        Some(FastLanesError::IndexOutOfBounds)
-    );
-    assert_eq!(rt;
-        take_of(rt.alloc(), 10)?,
-        Some(FastLanesError::IndexOutOfBounds)
-    );
-    assert_eq!(rt; take_of(rt.alloc(), 9)?, None);
+    takes_stay_within(&rt, rt.alloc(), &two_of_ten(rt.alloc())?);
     Ok(())
 }
 
 /// A null, over a number that names nothing, and 5.
-fn null_and_five(alloc: Global) -> Result<PrimitiveArray, FastLanesError> {
+fn null_and_five(alloc: Global) -> Made {
     let valid = BitList::from_fn(alloc, 2, |i| i == 1)?;
-    let slots = Vec::from_slice(alloc, &[200u8, 5])?;
-    PrimitiveArray::new(slots, Validity::Array(valid))
+    PrimitiveArray::new(Vec::from_slice(alloc, &[200u8, 5])?, Validity::Array(valid))
 }
 
-fn takes_a_null(alloc: Global) -> Result<bool, FastLanesError> {
-    let indices = null_and_five(alloc)?;
-    takes_by(alloc, &indices, &[1], &[8])
+/// A take from the two by a null and 5.
+fn take_by_null(patches: &Patches, alloc: Global) -> Selected {
+    taken(patches, alloc, null_and_five(alloc))
 }
 
 #[test]
 fn a_null_index_names_no_patch(rt: HostRuntime) -> Result<(), Fail> {
-    assert!(rt; takes_a_null(rt.alloc())?);
+    let named = take_by_null(&two_of_ten(rt.alloc())?, rt.alloc());
+    assert!(rt; are(named, &[1], &[8]));
     Ok(())
 }
 
 /// What the mask keeps, where it has the array's length.
-fn filtered(
-    patches: &Patches,
-    alloc: Global,
-    mask: &Mask,
-) -> Result<Option<Patches>, FastLanesError> {
+fn filtered(patches: &Patches, alloc: Global, mask: &Mask) -> Selected {
     if mask.len() != patches.array_len() {
         return Err(FastLanesError::MaskLength);
     }
     patches.filter(alloc, mask)
 }
 
-/// A filter by the mask gives these patches.
-fn kept_are(
-    patches: &Patches,
-    alloc: Global,
-    mask: &Mask,
-    indices: &[u8],
-    values: &[u8],
-) -> Result<bool, FastLanesError> {
-    let kept = filtered(patches, alloc, mask)?;
-    Ok(are(&kept, indices, values))
-}
-
-/// The same of the two.
-fn filters(
-    alloc: Global,
-    mask: &Mask,
-    indices: &[u8],
-    values: &[u8],
-) -> Result<bool, FastLanesError> {
-    let patches = two_of_ten(alloc)?;
-    kept_are(&patches, alloc, mask, indices, values)
-}
-
-fn filters_by_bits(alloc: Global) -> Result<bool, FastLanesError> {
+/// What the bits of positions 1 to 3 of ten keep.
+fn filtered_by_bits(patches: &Patches, alloc: Global) -> Selected {
     let mask = Mask::Values(BitList::from_fn(alloc, 10, |i| 1 <= i && i <= 3)?);
-    filters(alloc, &mask, &[1], &[7])
+    filtered(patches, alloc, &mask)
+}
+
+/// Filters of the two.
+fn masks_keep(rt: &impl Abort, alloc: Global, patches: &Patches) {
+    assert!(rt; are(filtered_by_bits(patches, alloc), &[1], &[7]));
+    assert!(rt;
+        are(
+            filtered(patches, alloc, &Mask::AllTrue(10)),
+            &[2, 5],
+            &[7, 8]
+        )
+    );
+    assert!(rt; are(filtered(patches, alloc, &Mask::AllFalse(10)), &[], &[]));
 }
 
 #[test]
 fn filters_what_a_mask_keeps(rt: HostRuntime) -> Result<(), Fail> {
-    assert!(rt; filters_by_bits(rt.alloc())?);
-    assert!(rt; filters(rt.alloc(), &Mask::AllTrue(10), &[2, 5], &[7, 8])?);
-    assert!(rt; filters(rt.alloc(), &Mask::AllFalse(10), &[], &[])?);
+    masks_keep(&rt, rt.alloc(), &two_of_ten(rt.alloc())?);
     Ok(())
 }
 
@@ -456,99 +381,80 @@ fn greatest(ptype: PType) -> PValue {
     }
 }
 
+/// An array of one value.
+fn only(alloc: Global, value: PValue) -> Made {
+    ConstantArray::new(Scalar::primitive(value, Nullability::NonNullable), 1)?.decode(alloc)
+}
+
 /// One value at the third position of four, by an index and a chunk offset of this type.
 fn one_of_four(alloc: Global, value: PValue, index: PType) -> Result<Patches, FastLanesError> {
-    let indices = integers(alloc, index, &[2])?;
-    let copies = ConstantArray::new(Scalar::primitive(value, Nullability::NonNullable), 1)?;
-    let chunk_offsets = integers(alloc, index, &[0])?;
-    Patches::new(4, 0, indices, copies.decode(alloc)?, Some(chunk_offsets))
+    let chunk_offsets = Some(integers(alloc, index, &[0])?);
+    let indices = integers(alloc, index, &[2]);
+    patches_of(4, 0, indices, only(alloc, value), chunk_offsets)
 }
 
-/// The value at the second place of the patches, if there are any.
-fn second_value(patches: &Option<Patches>) -> Option<PValue> {
+/// The slice from 0 on that is the whole, where there are chunk offsets.
+fn whole(patches: &Patches, alloc: Global) -> Selected {
+    match patches.chunk_offsets() {
+        Some(_) => sliced(patches, alloc, 0, patches.array_len()),
+        None => Ok(None),
+    }
+}
+
+/// The same of what was made.
+fn whole_of(patches: Result<Patches, FastLanesError>, alloc: Global) -> Selected {
     match patches {
-        Some(patches) => patches.get_patched(1),
-        None => None,
+        Ok(patches) => whole(&patches, alloc),
+        Err(refusal) => Err(refusal),
     }
 }
 
-/// The same of what a mask of all three keeps.
-fn value_kept(taken: &Option<Patches>, alloc: Global) -> Result<Option<PValue>, FastLanesError> {
-    match taken {
-        Some(taken) => {
-            let kept = filtered(taken, alloc, &Mask::AllTrue(3))?;
-            Ok(second_value(&kept))
-        }
+/// A copy of one value at the third position of four.
+fn copy_of_one(alloc: Global, value: PValue, index: PType) -> Result<Patches, FastLanesError> {
+    one_of_four(alloc, value, index)?.try_clone(alloc)
+}
+
+/// What a take from the last position on names of what was selected.
+fn taken_backwards(patches: Selected, alloc: Global) -> Selected {
+    match patches? {
+        Some(patches) => taken(&patches, alloc, bytes(alloc, &[3, 2, 1])),
         None => Ok(None),
     }
 }
 
-/// The same of the patches that the indices name.
-fn value_taken(
-    slice: &Option<Patches>,
-    alloc: Global,
-    indices: &PrimitiveArray,
-) -> Result<Option<PValue>, FastLanesError> {
-    match slice {
-        Some(slice) => {
-            let taken = slice.take(alloc, indices)?;
-            value_kept(&taken, alloc)
-        }
+/// All three of what was selected.
+fn filtered_again(patches: Selected, alloc: Global) -> Selected {
+    match patches? {
+        Some(patches) => filtered(&patches, alloc, &Mask::AllTrue(3)),
         None => Ok(None),
     }
 }
 
-/// The same of the patches cut in whole.
-fn value_sliced(
-    patches: &Patches,
-    alloc: Global,
-    indices: &PrimitiveArray,
-) -> Result<Option<PValue>, FastLanesError> {
-    let slice = sliced(patches, alloc, 0, patches.array_len())?;
-    value_taken(&slice, alloc, indices)
+/// Patches were selected, with this value at the second place.
+fn have_second(patches: Selected, value: PValue) -> bool {
+    match patches {
+        Ok(Some(patches)) => patches.get_patched(1) == Some(value),
+        _ => false,
+    }
 }
 
-/// Whether a copy has chunk offsets, and its value after a slice, a take and a filter.
-fn copy_shown(
-    patches: &Patches,
-    alloc: Global,
-    indices: &PrimitiveArray,
-) -> Result<(bool, Option<PValue>), FastLanesError> {
-    let copy = patches.try_clone(alloc)?;
-    let value = value_sliced(&copy, alloc, indices)?;
-    Ok((copy.chunk_offsets().is_some(), value))
-}
-
-/// The same of patches that have one value, taken backwards from the last.
-fn value_of_copy(
-    alloc: Global,
-    value: PValue,
-    index: PType,
-    indices: &PrimitiveArray,
-) -> Result<(bool, Option<PValue>), FastLanesError> {
-    let patches = one_of_four(alloc, value, index)?;
-    copy_shown(&patches, alloc, indices)
-}
-
-/// Whether a copy has chunk offsets, and gives the value after a slice, a take and a filter.
-fn is_kept(alloc: Global, value: PValue, index: PType) -> Result<bool, FastLanesError> {
-    let indices = bytes(alloc, &[3, 2, 1])?;
-    let (is_chunked, kept) = value_of_copy(alloc, value, index, &indices)?;
-    Ok(is_chunked && kept == Some(value))
+/// A copy of one patch keeps its value through a slice, a take from the last position on, and a filter.
+fn is_kept(alloc: Global, value: PValue, index: PType) -> bool {
+    let whole = whole_of(copy_of_one(alloc, value, index), alloc);
+    let selected = filtered_again(taken_backwards(whole, alloc), alloc);
+    have_second(selected, value)
 }
 
 #[test]
-fn keeps_values_of_each_type(rt: HostRuntime) -> Result<(), Fail> {
+fn keeps_values_of_each_type(rt: HostRuntime) {
     for ptype in TYPES {
-        assert!(rt; is_kept(rt.alloc(), greatest(ptype), PType::U16)?);
+        assert!(rt; is_kept(rt.alloc(), greatest(ptype), PType::U16));
     }
-    Ok(())
 }
 
 #[test]
-fn finds_by_indices_of_each_type(rt: HostRuntime) -> Result<(), Fail> {
+fn finds_by_indices_of_each_type(rt: HostRuntime) {
     for ptype in [PType::U8, PType::U16, PType::U32, PType::U64] {
-        assert!(rt; is_kept(rt.alloc(), PValue::I32(-1), ptype)?);
+        assert!(rt; is_kept(rt.alloc(), PValue::I32(-1), ptype));
     }
-    Ok(())
 }

@@ -5,204 +5,139 @@ use fl_types::*;
 use std::alloc::Global;
 use std::test::Fail;
 
+/// What makes an array.
+type Made = Result<PrimitiveArray, FastLanesError>;
+
+/// What makes truth values.
+type Tested = Result<BoolArray, FastLanesError>;
+
+const BEYOND: Option<FastLanesError> = Some(FastLanesError::IndexOutOfBounds);
+
+const BYTES: DType = DType::Primitive(PType::U8, Nullability::NonNullable);
+
 /// A column of `u8` with these items.
-fn column(rt: &HostRuntime, items: &[Option<u8>]) -> Result<PrimitiveArray, FastLanesError> {
-    PrimitiveArray::from_options(rt.alloc(), items)
+fn column(alloc: Global, items: &[Option<u8>]) -> Made {
+    PrimitiveArray::from_options(alloc, items)
+}
+
+/// The items 0 to 3.
+fn four(alloc: Global) -> Made {
+    column(alloc, &[Some(0), Some(1), Some(2), Some(3)])
 }
 
 /// The array has these items.
 fn has_items(array: &PrimitiveArray, items: &[Option<u8>]) -> bool {
-    if array.len() != items.len() {
+    if array.len() != items.len() || array.ptype() != PType::U8 {
         return false;
     }
     for i in 0..array.len() {
-        let item = match array.get(i) {
-            Some(PValue::U8(value)) => Some(value),
-            _ => None,
-        };
-        if item != items[i] {
+        if array.get(i) != items[i].map(PValue::U8) {
             return false;
         }
     }
     true
 }
 
-/// A take by these indices has these items.
-fn take_has(
-    array: &PrimitiveArray,
-    alloc: Global,
-    indices: &PrimitiveArray,
-    items: &[Option<u8>],
-) -> Result<bool, FastLanesError> {
-    let taken = array.take(alloc, indices)?;
-    Ok(has_items(&taken, items))
+/// An array with these items was made.
+fn gave(array: Made, items: &[Option<u8>]) -> bool {
+    match array {
+        Ok(array) => has_items(&array, items),
+        Err(_) => false,
+    }
 }
 
-/// Why a take by these indices is refused, if it is.
-fn refusal_of_take(
-    array: &PrimitiveArray,
-    alloc: Global,
-    indices: &PrimitiveArray,
-) -> Option<FastLanesError> {
-    array.take(alloc, indices).err()
-}
-
-fn takes_backwards(array: &PrimitiveArray, rt: &HostRuntime) -> Result<bool, FastLanesError> {
-    let indices = column(rt, &[Some(2), None, Some(0)])?;
-    take_has(array, rt.alloc(), &indices, &[Some(30), None, Some(10)])
-}
-
-fn refusal_beyond(
-    array: &PrimitiveArray,
-    rt: &HostRuntime,
-) -> Result<Option<FastLanesError>, FastLanesError> {
-    let indices = column(rt, &[Some(3)])?;
-    Ok(refusal_of_take(array, rt.alloc(), &indices))
+/// What these indices name.
+fn taken(array: &PrimitiveArray, alloc: Global, indices: Made) -> Made {
+    array.take(alloc, &indices?)
 }
 
 #[test]
 fn takes_by_indices(rt: HostRuntime) -> Result<(), Fail> {
-    let array = column(&rt, &[Some(10), None, Some(30)])?;
-    assert!(rt; takes_backwards(&array, &rt)?);
-    assert_eq!(rt;
-        refusal_beyond(&array, &rt)?,
-        Some(FastLanesError::IndexOutOfBounds)
-    );
+    let alloc = rt.alloc();
+    let array = column(alloc, &[Some(10), None, Some(30)])?;
+    let backwards = column(alloc, &[Some(2), None, Some(0)]);
+    assert!(rt; gave(taken(&array, alloc, backwards), &[Some(30), None, Some(10)]));
+    assert!(rt; taken(&array, alloc, column(alloc, &[Some(3)])).err() == BEYOND);
     Ok(())
 }
 
-fn refusal_of_negative(
-    array: &PrimitiveArray,
-    alloc: Global,
-) -> Result<Option<FastLanesError>, FastLanesError> {
-    let negative = PrimitiveArray::from_options(alloc, &[Some(-1i8)])?;
-    Ok(refusal_of_take(array, alloc, &negative))
-}
-
 /// The indices 3, a null over 99, and 0.
-fn null_over_99(alloc: Global) -> Result<PrimitiveArray, FastLanesError> {
+fn null_over_99(alloc: Global) -> Made {
     let valid = BitList::from_fn(alloc, 3, |i| i != 1)?;
-    let slots = Vec::from_slice(alloc, &[3u64, 99, 0])?;
-    PrimitiveArray::new(slots, Validity::Array(valid))
-}
-
-fn takes_a_null(array: &PrimitiveArray, alloc: Global) -> Result<bool, FastLanesError> {
-    let indices = null_over_99(alloc)?;
-    take_has(array, alloc, &indices, &[Some(3), None, Some(0)])
-}
-
-/// The items 0 to 3.
-fn four(rt: &HostRuntime) -> Result<PrimitiveArray, FastLanesError> {
-    column(rt, &[Some(0), Some(1), Some(2), Some(3)])
+    PrimitiveArray::new(
+        Vec::from_slice(alloc, &[3u64, 99, 0])?,
+        Validity::Array(valid),
+    )
 }
 
 #[test]
 fn takes_no_negative_index_and_no_index_under_a_null(rt: HostRuntime) -> Result<(), Fail> {
-    let array = four(&rt)?;
-    assert_eq!(rt;
-        refusal_of_negative(&array, rt.alloc())?,
-        Some(FastLanesError::IndexOutOfBounds)
-    );
-    assert!(rt; takes_a_null(&array, rt.alloc())?);
+    let alloc = rt.alloc();
+    let array = four(alloc)?;
+    let negative = PrimitiveArray::from_options(alloc, &[Some(-1i8)]);
+    assert!(rt; taken(&array, alloc, negative).err() == BEYOND);
+    let beside_a_null = taken(&array, alloc, null_over_99(alloc));
+    assert!(rt; gave(beside_a_null, &[Some(3), None, Some(0)]));
     Ok(())
-}
-
-fn ranges_have(
-    array: &PrimitiveArray,
-    alloc: Global,
-    ranges: &[(usize, usize)],
-    items: &[Option<u8>],
-) -> Result<bool, FastLanesError> {
-    let taken = array.take_ranges(alloc, ranges)?;
-    Ok(has_items(&taken, items))
-}
-
-fn refusal_of_ranges(
-    array: &PrimitiveArray,
-    alloc: Global,
-    ranges: &[(usize, usize)],
-) -> Option<FastLanesError> {
-    array.take_ranges(alloc, ranges).err()
 }
 
 #[test]
 fn takes_by_ranges(rt: HostRuntime) -> Result<(), Fail> {
-    let array = four(&rt)?;
-    assert!(rt;
-        ranges_have(
-            &array,
-            rt.alloc(),
-            &[(2, 2), (9, 0), (0, 1)],
-            &[Some(2), Some(3), Some(0)]
-        )?
-    );
-    assert_eq!(rt;
-        refusal_of_ranges(&array, rt.alloc(), &[(3, 2)]),
-        Some(FastLanesError::RangeOutOfBounds)
-    );
+    let array = four(rt.alloc())?;
+    let in_turn = array.take_ranges(rt.alloc(), &[(2, 2), (9, 0), (0, 1)]);
+    assert!(rt; gave(in_turn, &[Some(2), Some(3), Some(0)]));
+    let beyond = array.take_ranges(rt.alloc(), &[(3, 2)]).err();
+    assert!(rt; beyond == Some(FastLanesError::RangeOutOfBounds));
     Ok(())
 }
 
-/// Whether these items are sorted, strictly sorted and constant.
-fn order_of(rt: &HostRuntime, items: &[Option<u8>]) -> Result<(bool, bool, bool), FastLanesError> {
-    let array = column(rt, items)?;
-    Ok((
-        array.is_sorted(false),
-        array.is_sorted(true),
-        array.is_constant(),
-    ))
+/// Whether an array is sorted, strictly sorted and constant.
+fn order_of(array: Made) -> Option<(bool, bool, bool)> {
+    match array {
+        Ok(array) => Some((
+            array.is_sorted(false),
+            array.is_sorted(true),
+            array.is_constant(),
+        )),
+        Err(_) => None,
+    }
 }
 
 #[test]
-fn answers_order_and_constancy(rt: HostRuntime) -> Result<(), Fail> {
-    assert_eq!(rt;
-        order_of(&rt, &[None, Some(1), Some(1)])?,
-        (true, false, false)
-    );
-    assert_eq!(rt; order_of(&rt, &[None, None])?, (true, false, true));
-    assert_eq!(rt; order_of(&rt, &[Some(1), None])?, (false, false, false));
-    assert_eq!(rt; order_of(&rt, &[])?, (true, true, true));
-    Ok(())
+fn answers_order_and_constancy(rt: HostRuntime) {
+    let rows: &[(&[Option<u8>], (bool, bool, bool))] = &[
+        (&[None, Some(1), Some(1)], (true, false, false)),
+        (&[None, None], (true, false, true)),
+        (&[Some(1), None], (false, false, false)),
+        (&[], (true, true, true)),
+    ];
+    for (items, wanted) in rows {
+        assert!(rt; order_of(column(rt.alloc(), items)) == Some(*wanted));
+    }
 }
 
-/// What a cast to bytes without nulls refuses.
-fn refusal_of_cast(
-    rt: &HostRuntime,
-    items: &[Option<u16>],
-) -> Result<Option<FastLanesError>, FastLanesError> {
-    let array = PrimitiveArray::from_options(rt.alloc(), items)?;
-    let target = DType::Primitive(PType::U8, Nullability::NonNullable);
-    Ok(array.cast(rt.alloc(), target).err())
+/// The array as one of bytes, none of which may be null.
+fn as_bytes(array: Made, alloc: Global) -> Made {
+    array?.cast(alloc, BYTES)
 }
 
-fn cast_has(
-    array: &PrimitiveArray,
-    alloc: Global,
-    target: DType,
-    items: &[Option<u8>],
-) -> Result<bool, FastLanesError> {
-    let cast = array.cast(alloc, target)?;
-    Ok(cast.dtype() == target && has_items(&cast, items))
-}
-
-fn casts_small(rt: &HostRuntime) -> Result<bool, FastLanesError> {
-    let small = PrimitiveArray::from_options(rt.alloc(), &[Some(5i64), Some(7)])?;
-    let target = DType::Primitive(PType::U8, Nullability::NonNullable);
-    cast_has(&small, rt.alloc(), target, &[Some(5), Some(7)])
+/// The integers 5 and 7 were made bytes, none of which may be null.
+fn are_five_and_seven(array: Made) -> bool {
+    match array {
+        Ok(array) => array.dtype() == BYTES && has_items(&array, &[Some(5), Some(7)]),
+        Err(_) => false,
+    }
 }
 
 #[test]
-fn casts_by_the_column(rt: HostRuntime) -> Result<(), Fail> {
-    assert_eq!(rt;
-        refusal_of_cast(&rt, &[Some(300), None])?,
-        Some(FastLanesError::CastNull)
-    );
-    assert_eq!(rt;
-        refusal_of_cast(&rt, &[Some(300)])?,
-        Some(FastLanesError::CastOutOfRange)
-    );
-    assert!(rt; casts_small(&rt)?);
-    Ok(())
+fn casts_by_the_column(rt: HostRuntime) {
+    let alloc = rt.alloc();
+    let null = PrimitiveArray::from_options(alloc, &[Some(300u16), None]);
+    assert!(rt; as_bytes(null, alloc).err() == Some(FastLanesError::CastNull));
+    let large = PrimitiveArray::from_options(alloc, &[Some(300u16)]);
+    assert!(rt; as_bytes(large, alloc).err() == Some(FastLanesError::CastOutOfRange));
+    let small = PrimitiveArray::from_options(alloc, &[Some(5i64), Some(7)]);
+    assert!(rt; are_five_and_seven(as_bytes(small, alloc)));
 }
 
 /// The array has these truth values and nulls.
@@ -218,51 +153,42 @@ fn has_truths(array: &BoolArray, items: &[Option<bool>]) -> bool {
     true
 }
 
-fn compares(
-    array: &PrimitiveArray,
-    alloc: Global,
-    operator: CompareOperator,
-    constant: u8,
-    items: &[Option<bool>],
-) -> Result<bool, FastLanesError> {
-    match array.ptype() {
-        PType::U8 => {
-            let answer = array.compare(alloc, operator, PValue::U8(constant))?;
-            Ok(has_truths(&answer, items))
-        }
-        _ => Ok(false),
+/// These truth values and nulls were made.
+fn gave_truths(tests: Tested, items: &[Option<bool>]) -> bool {
+    match tests {
+        Ok(tests) => has_truths(&tests, items),
+        Err(_) => false,
     }
 }
 
-fn lies_between(
-    array: &PrimitiveArray,
-    alloc: Global,
-    lower: u8,
-    upper: u8,
-    items: &[Option<bool>],
-) -> Result<bool, FastLanesError> {
+/// The items below a constant.
+fn below(array: &PrimitiveArray, alloc: Global, constant: u8) -> Tested {
+    match array.ptype() {
+        PType::U8 => array.compare(alloc, CompareOperator::Lt, PValue::U8(constant)),
+        _ => Err(FastLanesError::TypeMismatch),
+    }
+}
+
+/// The items above one bound and up to another.
+fn inside(array: &PrimitiveArray, alloc: Global, lower: u8, upper: u8) -> Tested {
     let options = BetweenOptions {
         lower_strict: StrictComparison::Strict,
         upper_strict: StrictComparison::NonStrict,
     };
     match array.ptype() {
-        PType::U8 => {
-            let answer = array.between(alloc, PValue::U8(lower), PValue::U8(upper), options)?;
-            Ok(has_truths(&answer, items))
-        }
-        _ => Ok(false),
+        PType::U8 => array.between(alloc, PValue::U8(lower), PValue::U8(upper), options),
+        _ => Err(FastLanesError::TypeMismatch),
     }
 }
 
 #[test]
 fn compares_with_constants(rt: HostRuntime) -> Result<(), Fail> {
-    let array = column(&rt, &[Some(0), None, Some(2), Some(3)])?;
-    let below = [Some(true), None, Some(false), Some(false)];
-    assert!(rt; compares(&array, rt.alloc(), CompareOperator::Lt, 2, &below)?);
-    let none = [Some(false), None, Some(false), Some(false)];
-    assert!(rt; lies_between(&array, rt.alloc(), 3, 0, &none)?);
-    let second = [Some(false), None, Some(true), Some(false)];
-    assert!(rt; lies_between(&array, rt.alloc(), 0, 2, &second)?);
+    let alloc = rt.alloc();
+    let array = column(alloc, &[Some(0), None, Some(2), Some(3)])?;
+    let (no, yes) = (Some(false), Some(true));
+    assert!(rt; gave_truths(below(&array, alloc, 2), &[yes, None, no, no]));
+    assert!(rt; gave_truths(inside(&array, alloc, 3, 0), &[no, None, no, no]));
+    assert!(rt; gave_truths(inside(&array, alloc, 0, 2), &[no, None, yes, no]));
     Ok(())
 }
 
@@ -271,42 +197,26 @@ fn fours() -> Result<ConstantArray, FastLanesError> {
     ConstantArray::new(Scalar::primitive(PValue::U8(4), Nullability::Nullable), 3)
 }
 
-fn decoded_len(copies: &ConstantArray, alloc: Global) -> Result<usize, FastLanesError> {
-    Ok(copies.decode(alloc)?.len())
-}
-
-fn copies_taken(
-    copies: &ConstantArray,
-    alloc: Global,
-    indices: &PrimitiveArray,
-) -> Result<bool, FastLanesError> {
-    let taken = copies.take(alloc, indices)?;
-    Ok(has_items(&taken, &[Some(4), None]))
-}
-
-fn takes_copies(copies: &ConstantArray, rt: &HostRuntime) -> Result<bool, FastLanesError> {
-    let indices = column(rt, &[Some(2), None])?;
-    copies_taken(copies, rt.alloc(), &indices)
-}
-
-fn count_kept(copies: &ConstantArray, alloc: Global) -> Result<usize, FastLanesError> {
-    Ok(copies.filter(alloc, &Mask::AllTrue(copies.len()))?.len())
+/// The copies that these indices name.
+fn copies_taken(copies: &ConstantArray, alloc: Global, indices: Made) -> Made {
+    copies.take(alloc, &indices?)
 }
 
 #[test]
 fn constants_are_copies(rt: HostRuntime) -> Result<(), Fail> {
+    let alloc = rt.alloc();
     let copies = fours()?;
-    assert!(rt; copies.is_constant());
-    assert!(rt; !copies.is_sorted(true));
-    assert_eq!(rt; decoded_len(&copies, rt.alloc())?, 3);
-    assert!(rt; takes_copies(&copies, &rt)?);
-    assert_eq!(rt; count_kept(&copies, rt.alloc())?, 3);
+    assert!(rt; copies.is_constant() && !copies.is_sorted(true));
+    assert!(rt; gave(copies.decode(alloc), &[Some(4), Some(4), Some(4)]));
+    let all = copies.filter(alloc, &Mask::AllTrue(copies.len()));
+    assert!(rt; gave(all, &[Some(4), Some(4), Some(4)]));
+    let taken = copies_taken(&copies, alloc, column(alloc, &[Some(2), None]));
+    assert!(rt; gave(taken, &[Some(4), None]));
     Ok(())
 }
 
 #[test]
-fn truth_values_have_no_copies(rt: HostRuntime) -> Result<(), Fail> {
+fn truth_values_have_no_copies(rt: HostRuntime) {
     let refused = ConstantArray::new(Scalar::bool(true, Nullability::NonNullable), 1).err();
-    assert_eq!(rt; refused, Some(FastLanesError::NotInteger));
-    Ok(())
+    assert!(rt; refused == Some(FastLanesError::NotInteger));
 }

@@ -58,6 +58,9 @@ fn least(ptype: PType) -> PValue {
     }
 }
 
+/// What makes an array.
+type Made = Result<PrimitiveArray, FastLanesError>;
+
 /// The array has these items.
 fn has_items(array: &PrimitiveArray, items: &[Option<PValue>]) -> bool {
     if array.len() != items.len() {
@@ -71,173 +74,178 @@ fn has_items(array: &PrimitiveArray, items: &[Option<PValue>]) -> bool {
     true
 }
 
-/// The array has these truth values.
-fn has_truths(array: &BoolArray, items: &[Option<bool>]) -> bool {
-    if array.len() != items.len() {
+/// An array with these items was made.
+fn gave(array: Made, items: &[Option<PValue>]) -> bool {
+    match array {
+        Ok(array) => has_items(&array, items),
+        Err(_) => false,
+    }
+}
+
+/// The truth values are true, null and false.
+fn are_true_null_false(tests: Result<BoolArray, FastLanesError>) -> bool {
+    let Ok(tests) = tests else {
         return false;
-    }
-    for i in 0..array.len() {
-        if array.get(i) != items[i] {
-            return false;
-        }
-    }
-    true
+    };
+    tests.len() == 3
+        && tests.get(0) == Some(true)
+        && tests.get(1).is_none()
+        && tests.get(2) == Some(false)
 }
 
-fn slices(alloc: Global, ptype: PType) -> Result<bool, FastLanesError> {
-    let array = column(alloc, ptype)?;
+/// The last two items.
+fn sliced(array: &PrimitiveArray, alloc: Global) -> Made {
     if array.len() != 3 {
-        return Ok(false);
+        return Err(FastLanesError::RangeOutOfBounds);
     }
-    let part = array.slice(alloc, 1, 3)?;
-    Ok(has_items(&part, &[None, Some(greatest(ptype))]))
+    array.slice(alloc, 1, 3)
 }
 
-fn copies(alloc: Global, ptype: PType) -> Result<bool, FastLanesError> {
-    let copy = column(alloc, ptype)?.try_clone(alloc)?;
-    Ok(has_items(&copy, &[Some(least(ptype)), None, Some(greatest(ptype))]))
-}
-
-fn takes(alloc: Global, ptype: PType, of: PType) -> Result<bool, FastLanesError> {
-    let array = column(alloc, ptype)?;
-    let first = column(alloc, of)?;
-    let indices = first.cast(alloc, DType::Primitive(of, Nullability::Nullable))?;
-    match array.take(alloc, &indices) {
-        Err(FastLanesError::IndexOutOfBounds) => Ok(true),
-        _ => Ok(false),
-    }
-}
-
-fn takes_ranges(alloc: Global, ptype: PType) -> Result<bool, FastLanesError> {
-    let taken = column(alloc, ptype)?.take_ranges(alloc, &[(2, 1), (7, 0), (0, 2)])?;
-    Ok(has_items(&taken, &[Some(greatest(ptype)), Some(least(ptype)), None]))
-}
-
-fn filters(alloc: Global, ptype: PType) -> Result<bool, FastLanesError> {
-    let array = column(alloc, ptype)?;
+/// All items but the second.
+fn filtered(array: &PrimitiveArray, alloc: Global) -> Made {
     let mask = Mask::Values(BitList::from_fn(alloc, 3, |i| i != 1)?);
     if array.len() != mask.len() {
-        return Ok(false);
+        return Err(FastLanesError::MaskLength);
     }
-    let kept = array.filter(alloc, &mask)?;
-    Ok(has_items(&kept, &[Some(least(ptype)), Some(greatest(ptype))]))
+    array.filter(alloc, &mask)
 }
 
-fn casts(alloc: Global, ptype: PType) -> Result<bool, FastLanesError> {
-    let cast = column(alloc, ptype)?.cast(alloc, DType::Primitive(ptype, Nullability::Nullable))?;
-    Ok(has_items(&cast, &[Some(least(ptype)), None, Some(greatest(ptype))]))
-}
-
-fn compares(alloc: Global, ptype: PType) -> Result<bool, FastLanesError> {
+/// Selections from the least value of a type, a null and its greatest value.
+fn selects(alloc: Global, ptype: PType) -> Result<bool, FastLanesError> {
     let array = column(alloc, ptype)?;
-    let constant = greatest(ptype);
-    if constant.ptype() != array.ptype() {
-        return Ok(false);
+    let (low, high) = (Some(least(ptype)), Some(greatest(ptype)));
+    let in_turn = array.take_ranges(alloc, &[(2, 1), (7, 0), (0, 2)]);
+    Ok(
+        gave(sliced(&array, alloc), &[None, high])
+            && gave(array.try_clone(alloc), &[low, None, high])
+            && gave(in_turn, &[high, low, None])
+            && gave(filtered(&array, alloc), &[low, high]),
+    )
+}
+
+/// What a column's take by the column of a type answers.
+fn taken(array: Made, alloc: Global, indices: Made) -> Made {
+    array?.take(alloc, &indices?)
+}
+
+/// The same, with the indices of a type that may be null.
+fn takes(alloc: Global, ptype: PType, of: PType) -> bool {
+    let beyond = Some(FastLanesError::IndexOutOfBounds);
+    taken(column(alloc, ptype), alloc, column(alloc, of)).err() == beyond
+}
+
+/// The items below the greatest one.
+fn below(array: &PrimitiveArray, alloc: Global, high: PValue) -> Result<BoolArray, FastLanesError> {
+    if high.ptype() != array.ptype() {
+        return Err(FastLanesError::TypeMismatch);
     }
-    let below = array.compare(alloc, CompareOperator::Lt, constant)?;
-    Ok(has_truths(&below, &[Some(true), None, Some(false)]))
+    array.compare(alloc, CompareOperator::Lt, high)
 }
 
-fn lies_between(alloc: Global, ptype: PType) -> Result<bool, FastLanesError> {
-    let array = column(alloc, ptype)?;
-    let (lower, upper) = (least(ptype), greatest(ptype));
-    if lower.ptype() != array.ptype() || upper.ptype() != array.ptype() {
-        return Ok(false);
+/// The items from the least one up to the greatest one, which isn't among them.
+fn inside(
+    array: &PrimitiveArray,
+    alloc: Global,
+    low: PValue,
+    high: PValue,
+) -> Result<BoolArray, FastLanesError> {
+    if low.ptype() != array.ptype() || high.ptype() != array.ptype() {
+        return Err(FastLanesError::TypeMismatch);
     }
     let options = BetweenOptions {
         lower_strict: StrictComparison::NonStrict,
         upper_strict: StrictComparison::Strict,
     };
-    let inside = array.between(alloc, lower, upper, options)?;
-    Ok(has_truths(&inside, &[Some(true), None, Some(false)]))
+    array.between(alloc, low, high, options)
 }
 
-fn orders(alloc: Global, ptype: PType) -> Result<bool, FastLanesError> {
+/// Casts and questions to the least value of a type, a null and its greatest value.
+fn answers(alloc: Global, ptype: PType) -> Result<bool, FastLanesError> {
     let array = column(alloc, ptype)?;
-    Ok(!array.is_sorted(true) && !array.is_sorted(false) && !array.is_constant())
+    let (low, high) = (least(ptype), greatest(ptype));
+    let cast = array.cast(alloc, DType::Primitive(ptype, Nullability::Nullable));
+    Ok(
+        gave(cast, &[Some(low), None, Some(high)])
+            && are_true_null_false(below(&array, alloc, high))
+            && are_true_null_false(inside(&array, alloc, low, high))
+            && !array.is_sorted(true)
+            && !array.is_sorted(false)
+            && !array.is_constant(),
+    )
 }
 
-fn writes_copies(alloc: Global, ptype: PType) -> Result<bool, FastLanesError> {
-    let value = greatest(ptype);
-    let array = ConstantArray::new(Scalar::primitive(value, Nullability::NonNullable), 2)?;
-    Ok(has_items(&array.decode(alloc)?, &[Some(value), Some(value)]))
+/// Two copies of the greatest value.
+fn copies(alloc: Global, ptype: PType) -> Made {
+    let scalar = Scalar::primitive(greatest(ptype), Nullability::NonNullable);
+    ConstantArray::new(scalar, 2)?.decode(alloc)
 }
 
-/// The column, read as a type of the same width, has these items.
-fn rereads(
-    alloc: Global,
-    ptype: PType,
-    other: PType,
-    items: &[Option<PValue>],
-) -> Result<bool, FastLanesError> {
+/// The column, read as a type of the same width.
+fn reread(alloc: Global, ptype: PType, other: PType) -> Made {
     let array = column(alloc, ptype)?;
     if array.ptype().bit_width() != other.bit_width() {
-        return Ok(false);
+        return Err(FastLanesError::TypeMismatch);
     }
-    Ok(has_items(&array.reinterpret_cast(alloc, other)?, items))
+    array.reinterpret_cast(alloc, other)
 }
 
 #[test]
 fn selects_at_each_type(rt: HostRuntime) -> Result<(), Fail> {
     for ptype in TYPES {
-        assert!(rt; slices(rt.alloc(), ptype)?);
-        assert!(rt; copies(rt.alloc(), ptype)?);
-        assert!(rt; takes_ranges(rt.alloc(), ptype)?);
-        assert!(rt; filters(rt.alloc(), ptype)?);
+        assert!(rt; selects(rt.alloc(), ptype)?);
     }
     Ok(())
 }
 
 #[test]
-fn takes_by_indices_of_each_type(rt: HostRuntime) -> Result<(), Fail> {
+fn takes_by_indices_of_each_type(rt: HostRuntime) {
     for ptype in TYPES {
-        assert!(rt; takes(rt.alloc(), PType::I16, ptype)?);
-        assert!(rt; takes(rt.alloc(), ptype, PType::U8)?);
+        assert!(rt; takes(rt.alloc(), PType::I16, ptype));
+        assert!(rt; takes(rt.alloc(), ptype, PType::U8));
     }
-    Ok(())
 }
 
 #[test]
 fn answers_at_each_type(rt: HostRuntime) -> Result<(), Fail> {
     for ptype in TYPES {
-        assert!(rt; casts(rt.alloc(), ptype)?);
-        assert!(rt; compares(rt.alloc(), ptype)?);
-        assert!(rt; lies_between(rt.alloc(), ptype)?);
-        assert!(rt; orders(rt.alloc(), ptype)?);
-        assert!(rt; writes_copies(rt.alloc(), ptype)?);
+        assert!(rt; answers(rt.alloc(), ptype)?);
+        let value = Some(greatest(ptype));
+        assert!(rt; gave(copies(rt.alloc(), ptype), &[value, value]));
     }
     Ok(())
 }
 
+/// A type, another of its width, and what the least and the greatest value of the first are in the second.
+const REREAD: &[(PType, PType, PValue, PValue)] = &[
+    (PType::U8, PType::I8, PValue::I8(0), PValue::I8(-1)),
+    (PType::U16, PType::I16, PValue::I16(0), PValue::I16(-1)),
+    (PType::U32, PType::I32, PValue::I32(0), PValue::I32(-1)),
+    (PType::U64, PType::I64, PValue::I64(0), PValue::I64(-1)),
+    (PType::I8, PType::U8, PValue::U8(128), PValue::U8(127)),
+    (
+        PType::I16,
+        PType::U16,
+        PValue::U16(32768),
+        PValue::U16(32767),
+    ),
+    (
+        PType::I32,
+        PType::U32,
+        PValue::U32(2147483648),
+        PValue::U32(2147483647),
+    ),
+    (
+        PType::I64,
+        PType::I64,
+        PValue::I64(i64::MIN),
+        PValue::I64(i64::MAX),
+    ),
+];
+
 #[test]
-fn reinterprets_each_type(rt: HostRuntime) -> Result<(), Fail> {
-    let read = [
-        (PType::U8, PType::I8, PValue::I8(0), PValue::I8(-1)),
-        (PType::U16, PType::I16, PValue::I16(0), PValue::I16(-1)),
-        (PType::U32, PType::I32, PValue::I32(0), PValue::I32(-1)),
-        (PType::U64, PType::I64, PValue::I64(0), PValue::I64(-1)),
-        (PType::I8, PType::U8, PValue::U8(128), PValue::U8(127)),
-        (
-            PType::I16,
-            PType::U16,
-            PValue::U16(32768),
-            PValue::U16(32767),
-        ),
-        (
-            PType::I32,
-            PType::U32,
-            PValue::U32(2147483648),
-            PValue::U32(2147483647),
-        ),
-        (
-            PType::I64,
-            PType::I64,
-            PValue::I64(i64::MIN),
-            PValue::I64(i64::MAX),
-        ),
-    ];
-    for (ptype, other, low, high) in read {
-        assert!(rt; rereads(rt.alloc(), ptype, other, &[Some(low), None, Some(high)])?);
+fn reinterprets_each_type(rt: HostRuntime) {
+    for (ptype, other, low, high) in REREAD {
+        let read = reread(rt.alloc(), *ptype, *other);
+        assert!(rt; gave(read, &[Some(*low), None, Some(*high)]));
     }
-    Ok(())
 }

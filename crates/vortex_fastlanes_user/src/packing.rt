@@ -3,7 +3,7 @@
 use std::alloc::Global;
 use std::test::Fail;
 use vortex_fastlanes::bitpack_compress::{
-    bit_width_histogram, bitpack_primitive, bitpack_unchecked, find_best_bit_width,
+    bit_width_histogram, bitpack_primitive, find_best_bit_width,
 };
 use vortex_fastlanes::bitpack_decompress::unpack_single_primitive;
 use vortex_fastlanes::*;
@@ -22,21 +22,12 @@ fn item_of(packed: &[u8], i: usize) -> Option<u8> {
     Some(unpack_single_primitive(packed, 3, i))
 }
 
-/// An item of an array of bytes packed at width 3.
-fn packed_item(array: &PrimitiveArray, alloc: Global, i: usize) -> Option<u8> {
-    if array.ptype() != PType::U8 {
-        return None;
+/// An item of the bytes 5, 6 and 7 packed at width 3, which makes 384 words.
+fn packed_item(alloc: Global, i: usize) -> Option<u8> {
+    match bitpack_primitive(alloc, &[5u8, 6, 7], 3) {
+        Ok(words) if words.len() == 384 => item_of(&words, i),
+        _ => None,
     }
-    match bitpack_unchecked(alloc, array, 3) {
-        Ok(packed) => item_of(packed.as_slice(), i),
-        Err(_) => None,
-    }
-}
-
-/// How many words three bytes at width 3 have, and the first of them.
-fn first_word(alloc: Global) -> Result<(usize, u8), FastLanesError> {
-    let words = bitpack_primitive(alloc, &[5u8, 6, 7], 3)?;
-    Ok((words.len(), words.first().copied().unwrap_or(0)))
 }
 
 /// How many bases and deltas an array has.
@@ -48,17 +39,15 @@ fn parts(array: &PrimitiveArray, alloc: Global) -> Option<(usize, usize)> {
 }
 
 #[test]
-fn packs_a_few_bytes(rt: HostRuntime) -> Result<(), Fail> {
-    let alloc = rt.alloc();
-    let array = PrimitiveArray::from_options(alloc, &[Some(5u8), Some(6), Some(7)])?;
-    assert!(rt; best_width(&array, alloc) == Some(3));
-    assert!(rt; packed_item(&array, alloc, 2) == Some(7));
-    assert!(rt; parts(&array, alloc) == Some((128, 1024)));
+fn reads_a_few_bytes(rt: HostRuntime) -> Result<(), Fail> {
+    let array = PrimitiveArray::from_options(rt.alloc(), &[Some(5u8), Some(6), Some(7)])?;
+    assert!(rt; best_width(&array, rt.alloc()) == Some(3));
+    assert!(rt; parts(&array, rt.alloc()) == Some((128, 1024)));
     Ok(())
 }
 
 #[test]
-fn packs_into_words(rt: HostRuntime) -> Result<(), Fail> {
-    assert!(rt; first_word(rt.alloc())? == (384, 5));
-    Ok(())
+fn packs_a_few_bytes(rt: HostRuntime) {
+    assert!(rt; packed_item(rt.alloc(), 0) == Some(5));
+    assert!(rt; packed_item(rt.alloc(), 2) == Some(7));
 }
