@@ -7,14 +7,14 @@ use fastlanes::*;
 use std::process::Abort;
 
 /// The number that a word stands for.
-pub fn number<W: FastLanes>(word: W) -> u64 {
+pub(crate) fn number<W: FastLanes>(word: W) -> u64 {
     let mut bytes = [0u8; 8];
     word.put_word(&mut bytes, 0);
     u64::from_le_bytes(bytes)
 }
 
 /// The word of the low bits of a number.
-pub fn word<W: FastLanes>(number: u64) -> W {
+pub(crate) fn word<W: FastLanes>(number: u64) -> W {
     W::word(&number.to_le_bytes(), 0)
 }
 

@@ -23,9 +23,15 @@ use std::ops::Range;
 
 /// An array of one of the closed kinds. Contracts see the tree of its kinds and parts, and the
 /// column that it stands for as `column`.
-#[derive(Drop)]
 pub struct ArrayRef {
     node: Node,
+}
+
+// Written out, so that letting one go is one call in each function that owns one.
+impl Drop for ArrayRef {
+    fn drop(self) {
+        let ArrayRef { node: _ } = self;
+    }
 }
 
 #[derive(Drop)]

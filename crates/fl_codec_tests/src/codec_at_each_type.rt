@@ -1,6 +1,6 @@
 //! Frames, deltas and runs at every integer type, with ample memory.
 
-use crate::columns::{TYPES, is_at};
+use crate::columns::{Made, TYPES, is_at};
 use crate::decoders::{deltas_make, frame_makes, runs_show};
 use crate::frames::is_framed;
 use fl_codec::delta::delta_compress;
@@ -9,7 +9,6 @@ use fl_codec::{frame_of_reference, runs};
 use fl_plain::PrimitiveArray;
 use fl_types::*;
 use std::alloc::Global;
-use std::test::Fail;
 
 /// An integer, a null and another integer.
 fn around_a_null<T: NativePType>(
@@ -29,7 +28,7 @@ fn around_a_null<T: NativePType>(
 }
 
 /// The greatest value of a type, a null and its least value.
-fn column(alloc: Global, ptype: PType) -> Result<PrimitiveArray, FastLanesError> {
+fn column(alloc: Global, ptype: PType) -> Made {
     match ptype {
         PType::U8 => around_a_null(alloc, u8::MAX, u8::MIN),
         PType::U16 => around_a_null(alloc, u16::MAX, u16::MIN),
@@ -56,47 +55,43 @@ fn least(ptype: PType) -> PValue {
     }
 }
 
-/// Whether the frame of a type's column has its least value for the reference.
-fn frames(alloc: Global, ptype: PType) -> Result<bool, FastLanesError> {
-    let array = column(alloc, ptype)?;
-    is_framed(alloc, &array, least(ptype))
-}
-
 /// Whether the frame of a column's chunks makes it again.
-fn chunks_make(alloc: Global, array: &PrimitiveArray) -> Result<bool, FastLanesError> {
-    let frame = frame_of_reference::encode_chunked(alloc, array)?;
-    frame_makes(alloc, &frame, array)
+fn chunks_make(alloc: Global, array: &PrimitiveArray) -> bool {
+    match frame_of_reference::encode_chunked(alloc, array) {
+        Ok(frame) => frame_makes(alloc, &frame, array),
+        Err(_) => false,
+    }
 }
 
-fn chunked_frames(alloc: Global, ptype: PType) -> Result<bool, FastLanesError> {
-    let array = column(alloc, ptype)?;
-    chunks_make(alloc, &array)
+/// Whether the frame of a type's column has its least value for the reference, and its chunks make it again.
+fn frames(column: Made, alloc: Global, ptype: PType) -> bool {
+    match column {
+        Ok(array) => { is_framed(alloc, &array, least(ptype)) && chunks_make(alloc, &array) }
+        Err(_) => false,
+    }
 }
 
 /// Whether bases and deltas of one block are of a type, and base 1 is its least value.
-fn are_deltas(bases: &PrimitiveArray, deltas: &PrimitiveArray, ptype: PType) -> bool {
-    bases.ptype() == ptype
-        && deltas.ptype() == ptype
-        && deltas.len() == 1024
-        && is_at(bases, 1, least(ptype))
+fn are_deltas(parts: &(PrimitiveArray, PrimitiveArray), ptype: PType) -> bool {
+    parts.0.ptype() == ptype
+        && parts.1.ptype() == ptype
+        && parts.1.len() == 1024
+        && is_at(&parts.0, 1, least(ptype))
 }
 
-fn has_deltas(alloc: Global, array: &PrimitiveArray) -> Result<bool, FastLanesError> {
-    let parts = delta_compress(alloc, array)?;
-    Ok(are_deltas(&parts.0, &parts.1, array.ptype()))
-}
-
-fn keeps_deltas(alloc: Global, array: &PrimitiveArray) -> Result<bool, FastLanesError> {
-    if !has_deltas(alloc, array)? {
-        return Ok(false);
+fn has_deltas(alloc: Global, array: &PrimitiveArray, ptype: PType) -> bool {
+    match delta_compress(alloc, array) {
+        Ok(parts) => are_deltas(&parts, ptype),
+        Err(_) => false,
     }
-    deltas_make(alloc, array)
 }
 
 /// Whether a type's column comes back from its deltas.
-fn deltas(alloc: Global, ptype: PType) -> Result<bool, FastLanesError> {
-    let array = column(alloc, ptype)?;
-    keeps_deltas(alloc, &array)
+fn deltas(column: Made, alloc: Global, ptype: PType) -> bool {
+    match column {
+        Ok(array) => has_deltas(alloc, &array, ptype) && deltas_make(alloc, &array),
+        Err(_) => false,
+    }
 }
 
 /// Whether there are two run values of a type, the second of them its least value.
@@ -104,45 +99,38 @@ fn are_two_runs(runs: &Runs, ptype: PType) -> bool {
     runs.values.len() == 2 && runs.values.ptype() == ptype && is_at(&runs.values, 1, least(ptype))
 }
 
-fn has_two_runs(alloc: Global, array: &PrimitiveArray) -> Result<bool, FastLanesError> {
-    let runs = runs::encode(alloc, array)?;
-    Ok(are_two_runs(&runs, array.ptype()))
-}
-
-fn keeps_runs(alloc: Global, array: &PrimitiveArray) -> Result<bool, FastLanesError> {
-    if !has_two_runs(alloc, array)? {
-        return Ok(false);
+fn has_two_runs(alloc: Global, array: &PrimitiveArray, ptype: PType) -> bool {
+    match runs::encode(alloc, array) {
+        Ok(runs) => are_two_runs(&runs, ptype),
+        Err(_) => false,
     }
-    runs_show(alloc, array)
 }
 
 /// Whether a type's column comes back from its runs.
-fn runs_of(alloc: Global, ptype: PType) -> Result<bool, FastLanesError> {
-    let array = column(alloc, ptype)?;
-    keeps_runs(alloc, &array)
+fn runs_of(column: Made, alloc: Global, ptype: PType) -> bool {
+    match column {
+        Ok(array) => has_two_runs(alloc, &array, ptype) && runs_show(alloc, &array),
+        Err(_) => false,
+    }
 }
 
 #[test]
-fn frames_at_each_type(rt: HostRuntime) -> Result<(), Fail> {
+fn frames_at_each_type(rt: HostRuntime) {
     for ptype in TYPES {
-        assert!(rt; frames(rt.alloc(), ptype)?);
-        assert!(rt; chunked_frames(rt.alloc(), ptype)?);
+        assert!(rt; frames(column(rt.alloc(), ptype), rt.alloc(), ptype));
     }
-    Ok(())
 }
 
 #[test]
-fn deltas_at_each_type(rt: HostRuntime) -> Result<(), Fail> {
+fn deltas_at_each_type(rt: HostRuntime) {
     for ptype in TYPES {
-        assert!(rt; deltas(rt.alloc(), ptype)?);
+        assert!(rt; deltas(column(rt.alloc(), ptype), rt.alloc(), ptype));
     }
-    Ok(())
 }
 
 #[test]
-fn runs_at_each_type(rt: HostRuntime) -> Result<(), Fail> {
+fn runs_at_each_type(rt: HostRuntime) {
     for ptype in TYPES {
-        assert!(rt; runs_of(rt.alloc(), ptype)?);
+        assert!(rt; runs_of(column(rt.alloc(), ptype), rt.alloc(), ptype));
     }
-    Ok(())
 }

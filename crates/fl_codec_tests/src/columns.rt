@@ -4,6 +4,9 @@ use fl_plain::PrimitiveArray;
 use fl_types::*;
 use std::alloc::Global;
 
+/// What makes a column.
+pub(crate) type Made = Result<PrimitiveArray, FastLanesError>;
+
 /// So many equal items: integers, or nulls.
 pub(crate) type Span = (usize, Option<i128>);
 
@@ -85,29 +88,17 @@ pub(crate) fn is_at(array: &PrimitiveArray, i: usize, value: PValue) -> bool {
 }
 
 /// These items, none of which may be null.
-pub(crate) fn solid<T: NativePType>(
-    alloc: Global,
-    items: &[T],
-) -> Result<PrimitiveArray, FastLanesError> {
+pub(crate) fn solid<T: NativePType>(alloc: Global, items: &[T]) -> Made {
     PrimitiveArray::new(Vec::from_slice(alloc, items)?, Validity::NonNullable)
 }
 
 /// So many copies of an item, none of which may be null.
-pub(crate) fn copies<T: NativePType>(
-    alloc: Global,
-    item: T,
-    len: usize,
-) -> Result<PrimitiveArray, FastLanesError> {
+pub(crate) fn copies<T: NativePType>(alloc: Global, item: T, len: usize) -> Made {
     PrimitiveArray::new(vec![in alloc; item; len]?, Validity::NonNullable)
 }
 
 /// So many items from `first` on, each by `step` above the one before, none of which may be null.
-pub(crate) fn rising(
-    alloc: Global,
-    first: u32,
-    step: u32,
-    len: u32,
-) -> Result<PrimitiveArray, FastLanesError> {
+pub(crate) fn rising(alloc: Global, first: u32, step: u32, len: u32) -> Made {
     let mut items = Vec::new(alloc);
     for i in 0..len {
         items.push(first.wrapping_add(step.wrapping_mul(i)))?;
@@ -116,7 +107,7 @@ pub(crate) fn rising(
 }
 
 /// 2048 slots of 99, of which slot 1023 alone is valid, and 42.
-pub(crate) fn one_valid(alloc: Global) -> Result<PrimitiveArray, FastLanesError> {
+pub(crate) fn one_valid(alloc: Global) -> Made {
     let mut items = Vec::new(alloc);
     let mut bits = BitList::new(alloc);
     for i in 0..2048usize {
@@ -127,7 +118,7 @@ pub(crate) fn one_valid(alloc: Global) -> Result<PrimitiveArray, FastLanesError>
 }
 
 /// 0 to 23, of which those below 16 are valid.
-pub(crate) fn half_null(alloc: Global) -> Result<PrimitiveArray, FastLanesError> {
+pub(crate) fn half_null(alloc: Global) -> Made {
     let mut items = Vec::new(alloc);
     let mut bits = BitList::new(alloc);
     for i in 0..24u32 {
@@ -138,13 +129,13 @@ pub(crate) fn half_null(alloc: Global) -> Result<PrimitiveArray, FastLanesError>
 }
 
 /// 1, null, 1, null, 1, null and the greatest value.
-pub(crate) fn ones_and_nulls(alloc: Global) -> Result<PrimitiveArray, FastLanesError> {
+pub(crate) fn ones_and_nulls(alloc: Global) -> Made {
     let (one, last) = (Some(1u64), Some(u64::MAX));
     PrimitiveArray::from_options(alloc, &[one, None, one, None, one, None, last])
 }
 
 /// 1024 of 3, then 1000.
-pub(crate) fn two_blocks(alloc: Global) -> Result<PrimitiveArray, FastLanesError> {
+pub(crate) fn two_blocks(alloc: Global) -> Made {
     let mut items = Vec::new(alloc);
     for i in 0..1025usize {
         items.push(if i < 1024 { 3u16 } else { 1000 })?;

@@ -1,6 +1,6 @@
 //! Decoders that test their conditions, and whether they give a column back.
 
-use crate::columns::same_items;
+use crate::columns::{Made, same_items};
 use fl_codec::delta::{delta_compress, delta_decompress};
 use fl_codec::frame_of_reference::{self, Frame};
 use fl_codec::run_checks::runs_refusal;
@@ -10,11 +10,7 @@ use fl_types::*;
 use std::alloc::Global;
 
 /// The column of a child and one reference of its type.
-pub(crate) fn with_reference(
-    alloc: Global,
-    child: &PrimitiveArray,
-    reference: PValue,
-) -> Result<PrimitiveArray, FastLanesError> {
+pub(crate) fn with_reference(alloc: Global, child: &PrimitiveArray, reference: PValue) -> Made {
     if reference.ptype() != child.ptype() {
         return Err(FastLanesError::TypeMismatch);
     }
@@ -27,7 +23,7 @@ pub(crate) fn with_references(
     child: &PrimitiveArray,
     references: &PrimitiveArray,
     offset: usize,
-) -> Result<PrimitiveArray, FastLanesError> {
+) -> Made {
     let (len, count) = (child.len(), references.len());
     if references.ptype() != child.ptype() {
         return Err(FastLanesError::TypeMismatch);
@@ -39,7 +35,7 @@ pub(crate) fn with_references(
 }
 
 /// The column of a frame.
-fn column_of_frame(alloc: Global, frame: &Frame) -> Result<PrimitiveArray, FastLanesError> {
+fn column_of_frame(alloc: Global, frame: &Frame) -> Made {
     match frame {
         Frame::Global(frame) => match frame.reference.as_pvalue() {
             Some(reference) => with_reference(alloc, &frame.child, reference),
@@ -50,14 +46,17 @@ fn column_of_frame(alloc: Global, frame: &Frame) -> Result<PrimitiveArray, FastL
     }
 }
 
+/// Whether what was made has the items of a column.
+fn is_column(made: Made, column: &PrimitiveArray) -> bool {
+    match made {
+        Ok(made) => same_items(&made, column),
+        Err(_) => false,
+    }
+}
+
 /// Whether a frame makes this column.
-pub(crate) fn frame_makes(
-    alloc: Global,
-    frame: &Frame,
-    column: &PrimitiveArray,
-) -> Result<bool, FastLanesError> {
-    let made = column_of_frame(alloc, frame)?;
-    Ok(same_items(&made, column))
+pub(crate) fn frame_makes(alloc: Global, frame: &Frame, column: &PrimitiveArray) -> bool {
+    is_column(column_of_frame(alloc, frame), column)
 }
 
 /// Whether a child and one reference make this column.
@@ -66,9 +65,8 @@ pub(crate) fn reference_makes(
     child: &PrimitiveArray,
     reference: PValue,
     column: &PrimitiveArray,
-) -> Result<bool, FastLanesError> {
-    let made = with_reference(alloc, child, reference)?;
-    Ok(same_items(&made, column))
+) -> bool {
+    is_column(with_reference(alloc, child, reference), column)
 }
 
 /// The column of bases and deltas of one type, of which there are enough.
@@ -79,7 +77,7 @@ pub(crate) fn summed(
     validity: &Validity,
     offset: usize,
     len: usize,
-) -> Result<PrimitiveArray, FastLanesError> {
+) -> Made {
     let (base_count, delta_count) = (bases.len(), deltas.len());
     if deltas.ptype() != bases.ptype() {
         return Err(FastLanesError::TypeMismatch);
@@ -102,15 +100,17 @@ pub(crate) fn part_by_deltas(
     validity: &Validity,
     offset: usize,
     len: usize,
-) -> Result<PrimitiveArray, FastLanesError> {
+) -> Made {
     let (bases, deltas) = delta_compress(alloc, column)?;
     summed(alloc, &bases, &deltas, validity, offset, len)
 }
 
 /// Whether the deltas of a column make it again.
-pub(crate) fn deltas_make(alloc: Global, column: &PrimitiveArray) -> Result<bool, FastLanesError> {
-    let made = part_by_deltas(alloc, column, column.validity(), 0, column.len())?;
-    Ok(same_items(&made, column))
+pub(crate) fn deltas_make(alloc: Global, column: &PrimitiveArray) -> bool {
+    is_column(
+        part_by_deltas(alloc, column, column.validity(), 0, column.len()),
+        column,
+    )
 }
 
 /// The column of runs, or why there is none.
@@ -121,7 +121,7 @@ pub(crate) fn unrolled(
     offsets: &PrimitiveArray,
     offset: usize,
     len: usize,
-) -> Result<PrimitiveArray, FastLanesError> {
+) -> Made {
     match runs_refusal(values, indices, offsets, offset, len) {
         Some(refusal) => Err(refusal),
         None => runs::decode(alloc, values, indices, offsets, offset, len),
@@ -134,7 +134,7 @@ pub(crate) fn part_by_runs(
     column: &PrimitiveArray,
     offset: usize,
     len: usize,
-) -> Result<PrimitiveArray, FastLanesError> {
+) -> Made {
     let runs = runs::encode(alloc, column)?;
     unrolled(
         alloc,
@@ -147,7 +147,6 @@ pub(crate) fn part_by_runs(
 }
 
 /// Whether the runs of a column show it.
-pub(crate) fn runs_show(alloc: Global, column: &PrimitiveArray) -> Result<bool, FastLanesError> {
-    let shown = part_by_runs(alloc, column, 0, column.len())?;
-    Ok(same_items(&shown, column))
+pub(crate) fn runs_show(alloc: Global, column: &PrimitiveArray) -> bool {
+    is_column(part_by_runs(alloc, column, 0, column.len()), column)
 }

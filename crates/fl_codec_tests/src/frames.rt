@@ -1,12 +1,11 @@
 //! Frames of reference by example.
 
-use crate::columns::{Span, copies, has_spans, rising, solid};
+use crate::columns::{Made, Span, copies, has_spans, rising, solid};
 use crate::decoders::{frame_makes, reference_makes, with_reference, with_references};
 use fl_codec::frame_of_reference::{self, Frame, GlobalFrame};
 use fl_plain::PrimitiveArray;
 use fl_types::*;
 use std::alloc::Global;
-use std::test::Fail;
 
 /// Whether a frame has this reference, and makes a column.
 fn has_reference(
@@ -14,25 +13,29 @@ fn has_reference(
     frame: &GlobalFrame,
     reference: PValue,
     array: &PrimitiveArray,
-) -> Result<bool, FastLanesError> {
-    if frame.reference != Scalar::Integer(reference, Nullability::NonNullable) {
-        return Ok(false);
-    }
-    reference_makes(alloc, &frame.child, reference, array)
+) -> bool {
+    frame.reference == Scalar::Integer(reference, Nullability::NonNullable)
+        && reference_makes(alloc, &frame.child, reference, array)
 }
 
 /// Whether the frame of a column has this reference, and makes the column again.
-pub(crate) fn is_framed(
-    alloc: Global,
-    array: &PrimitiveArray,
-    reference: PValue,
-) -> Result<bool, FastLanesError> {
-    let frame = frame_of_reference::encode(alloc, array)?;
-    has_reference(alloc, &frame, reference, array)
+pub(crate) fn is_framed(alloc: Global, array: &PrimitiveArray, reference: PValue) -> bool {
+    match frame_of_reference::encode(alloc, array) {
+        Ok(frame) => has_reference(alloc, &frame, reference, array),
+        Err(_) => false,
+    }
+}
+
+/// Whether a column is made, and its frame has this reference and makes it again.
+fn frames(column: Made, alloc: Global, reference: PValue) -> bool {
+    match column {
+        Ok(array) => is_framed(alloc, &array, reference),
+        Err(_) => false,
+    }
 }
 
 /// 200 items, of which item `i` is `1000 + i`, and null where `i` is a multiple of 3.
-fn sparse(alloc: Global) -> Result<PrimitiveArray, FastLanesError> {
+fn sparse(alloc: Global) -> Made {
     let mut items = Vec::new(alloc);
     for i in 0..200i32 {
         items.push(if i % 3 == 0 { None } else { Some(1000 + i) })?;
@@ -41,110 +44,101 @@ fn sparse(alloc: Global) -> Result<PrimitiveArray, FastLanesError> {
 }
 
 /// Whether slot `i` of 200 is `i - 1`, and 0 where `i` is a multiple of 3.
-fn has_sparse_slots(array: &PrimitiveArray) -> bool {
-    match array.ptype() {
-        PType::I32 => {
-            let slots = array.as_slice::<i32>();
-            if slots.len() != 200 {
-                return false;
-            }
-            for i in 0..200usize {
-                if slots[i] != (if i % 3 == 0 { 0 } else { i as i32 - 1 }) {
-                    return false;
-                }
-            }
-            true
+fn are_sparse_slots(slots: &[i32]) -> bool {
+    if slots.len() != 200 {
+        return false;
+    }
+    for i in 0..200usize {
+        if slots[i] != (if i % 3 == 0 { 0 } else { i as i32 - 1 }) {
+            return false;
         }
-        _ => false,
     }
+    true
 }
 
-/// Whether an array begins with a null and 0.
-fn begins_with_null_and_zero(array: &PrimitiveArray) -> bool {
-    array.len() > 1 && array.get(0).is_none() && array.get(1) == Some(PValue::I32(0))
-}
-
-/// Whether it begins with a null and 0, and has such slots.
+/// Whether an array begins with a null and 0, and has such slots.
 fn is_sparse_child(array: &PrimitiveArray) -> bool {
-    begins_with_null_and_zero(array) && has_sparse_slots(array)
+    array.ptype() == PType::I32
+        && array.len() > 1
+        && array.get(0).is_none()
+        && array.get(1) == Some(PValue::I32(0))
+        && are_sparse_slots(array.as_slice::<i32>())
 }
 
-fn has_sparse_child(alloc: Global, array: &PrimitiveArray) -> Result<bool, FastLanesError> {
-    let frame = frame_of_reference::encode(alloc, array)?;
-    Ok(is_sparse_child(&frame.child))
-}
-
-fn frames_sparse_items(alloc: Global, array: &PrimitiveArray) -> Result<bool, FastLanesError> {
-    if !has_sparse_child(alloc, array)? {
-        return Ok(false);
+/// Whether the frame of a column has such a child.
+fn has_sparse_child(alloc: Global, array: &PrimitiveArray) -> bool {
+    match frame_of_reference::encode(alloc, array) {
+        Ok(frame) => is_sparse_child(&frame.child),
+        Err(_) => false,
     }
-    is_framed(alloc, array, PValue::I32(1001))
 }
 
-fn sparse_items_are_framed(alloc: Global) -> Result<bool, FastLanesError> {
-    let array = sparse(alloc)?;
-    frames_sparse_items(alloc, &array)
-}
-
-#[test]
-fn test_compress_nullable_zeroes_null_slots(rt: HostRuntime) -> Result<(), Fail> {
-    assert!(rt; sparse_items_are_framed(rt.alloc())?);
-    Ok(())
-}
-
-fn nine_items_are_framed(alloc: Global) -> Result<bool, FastLanesError> {
-    let array = solid(alloc, &[1i32, 2, 3, 4, 5, 6, 7, 8, 9])?;
-    is_framed(alloc, &array, PValue::I32(1))
+/// Whether a column has such a child, and comes back from it and 1001.
+fn frames_sparse_items(column: Made, alloc: Global) -> bool {
+    match column {
+        Ok(array) => {
+            has_sparse_child(alloc, &array) && is_framed(alloc, &array, PValue::I32(1001))
+        }
+        Err(_) => false,
+    }
 }
 
 #[test]
-fn test_compress_round_trip_small(rt: HostRuntime) -> Result<(), Fail> {
-    assert!(rt; nine_items_are_framed(rt.alloc())?);
-    Ok(())
+fn test_compress_nullable_zeroes_null_slots(rt: HostRuntime) {
+    assert!(rt; frames_sparse_items(sparse(rt.alloc()), rt.alloc()));
+}
+
+#[test]
+fn test_compress_round_trip_small(rt: HostRuntime) {
+    let items = solid(rt.alloc(), &[1i32, 2, 3, 4, 5, 6, 7, 8, 9]);
+    assert!(rt; frames(items, rt.alloc(), PValue::I32(1)));
 }
 
 /// Whether so many items from a million on have the reference of a million.
-fn millions_are_framed(alloc: Global, step: u32, len: u32) -> Result<bool, FastLanesError> {
-    let array = rising(alloc, 1_000_000, step, len)?;
-    is_framed(alloc, &array, PValue::U32(1_000_000))
+fn millions_are_framed(alloc: Global, step: u32, len: u32) -> bool {
+    frames(
+        rising(alloc, 1_000_000, step, len),
+        alloc,
+        PValue::U32(1_000_000),
+    )
 }
 
 #[test]
-fn test_compress(rt: HostRuntime) -> Result<(), Fail> {
-    assert!(rt; millions_are_framed(rt.alloc(), 1, 10_000)?);
-    Ok(())
+fn test_compress(rt: HostRuntime) {
+    assert!(rt; millions_are_framed(rt.alloc(), 1, 10_000));
 }
 
 #[test]
-fn test_decompress(rt: HostRuntime) -> Result<(), Fail> {
-    assert!(rt; millions_are_framed(rt.alloc(), 1024, 98)?);
-    Ok(())
+fn test_decompress(rt: HostRuntime) {
+    assert!(rt; millions_are_framed(rt.alloc(), 1024, 98));
 }
 
 /// Whether a frame has the reference 0, and 100 times 0 for a child.
-fn is_zero(frame: &GlobalFrame) -> bool {
-    frame.reference == Scalar::Integer(PValue::I32(0), Nullability::NonNullable)
-        && has_spans(&frame.child, PType::I32, &[(100, Some(0))])
+fn is_zero(frame: Result<GlobalFrame, FastLanesError>) -> bool {
+    match frame {
+        Ok(frame) => {
+            frame.reference == Scalar::Integer(PValue::I32(0), Nullability::NonNullable)
+                && has_spans(&frame.child, PType::I32, &[(100, Some(0))])
+        }
+        Err(_) => false,
+    }
 }
 
-fn has_zero_child(alloc: Global, array: &PrimitiveArray) -> Result<bool, FastLanesError> {
-    let frame = frame_of_reference::encode(alloc, array)?;
-    Ok(is_zero(&frame))
-}
-
-fn zeros_are_framed(alloc: Global) -> Result<bool, FastLanesError> {
-    let array = copies(alloc, 0i32, 100)?;
-    has_zero_child(alloc, &array)
+/// Whether a column is made, and has such a frame.
+fn frames_zeros(column: Made, alloc: Global) -> bool {
+    match column {
+        Ok(array) => is_zero(frame_of_reference::encode(alloc, &array)),
+        Err(_) => false,
+    }
 }
 
 #[test]
-fn test_zeros(rt: HostRuntime) -> Result<(), Fail> {
-    assert!(rt; zeros_are_framed(rt.alloc())?);
-    Ok(())
+fn test_zeros(rt: HostRuntime) {
+    assert!(rt; frames_zeros(copies(rt.alloc(), 0i32, 100), rt.alloc()));
 }
 
 /// The items from -128 to 127.
-fn signed_bytes(alloc: Global) -> Result<PrimitiveArray, FastLanesError> {
+fn signed_bytes(alloc: Global) -> Made {
     let mut items = Vec::new(alloc);
     for i in 0..256usize {
         items.push((i as i32 - 128) as i8)?;
@@ -165,157 +159,129 @@ fn are_all_bytes(array: &PrimitiveArray) -> bool {
     true
 }
 
-/// Whether an array of `i8`, read as `u8`, is the items from 0 to 255.
-fn reads_as_all_bytes(alloc: Global, array: PrimitiveArray) -> Result<bool, FastLanesError> {
+/// An array of `i8`, read as `u8`.
+fn as_bytes(alloc: Global, array: PrimitiveArray) -> Made {
     if array.ptype() != PType::I8 {
-        return Ok(false);
+        return Err(FastLanesError::TypeMismatch);
     }
-    let bytes = array.reinterpret_cast(alloc, PType::U8)?;
-    Ok(are_all_bytes(&bytes))
+    array.reinterpret_cast(alloc, PType::U8)
 }
 
 /// Whether the child of the items from -128 to 127, read as `u8`, is the items from 0 to 255.
-fn has_child_of_bytes(alloc: Global, array: &PrimitiveArray) -> Result<bool, FastLanesError> {
-    let frame = frame_of_reference::encode(alloc, array)?;
-    reads_as_all_bytes(alloc, frame.child)
-}
-
-fn frames_signed_bytes(alloc: Global, array: &PrimitiveArray) -> Result<bool, FastLanesError> {
-    if !has_child_of_bytes(alloc, array)? {
-        return Ok(false);
+fn has_child_of_bytes(alloc: Global, array: &PrimitiveArray) -> bool {
+    match frame_of_reference::encode(alloc, array) {
+        Ok(frame) => match as_bytes(alloc, frame.child) {
+            Ok(bytes) => are_all_bytes(&bytes),
+            Err(_) => false,
+        },
+        Err(_) => false,
     }
-    is_framed(alloc, array, PValue::I8(-128))
 }
 
-fn signed_bytes_are_framed(alloc: Global) -> Result<bool, FastLanesError> {
-    let array = signed_bytes(alloc)?;
-    frames_signed_bytes(alloc, &array)
+/// Whether a column has such a child, and comes back from it and -128.
+fn frames_signed_bytes(column: Made, alloc: Global) -> bool {
+    match column {
+        Ok(array) => {
+            has_child_of_bytes(alloc, &array) && is_framed(alloc, &array, PValue::I8(-128))
+        }
+        Err(_) => false,
+    }
 }
 
 #[test]
-fn test_overflow(rt: HostRuntime) -> Result<(), Fail> {
-    assert!(rt; signed_bytes_are_framed(rt.alloc())?);
-    Ok(())
+fn test_overflow(rt: HostRuntime) {
+    assert!(rt; frames_signed_bytes(signed_bytes(rt.alloc()), rt.alloc()));
+}
+
+/// Whether what was made is of a type, and is these spans.
+fn are_spans(column: Made, ptype: PType, spans: &[Span]) -> bool {
+    match column {
+        Ok(array) => has_spans(&array, ptype, spans),
+        Err(_) => false,
+    }
 }
 
 /// Whether a child and one reference make these spans.
-fn sums_to(
-    alloc: Global,
-    child: &PrimitiveArray,
-    reference: PValue,
-    spans: &[Span],
-) -> Result<bool, FastLanesError> {
-    let column = with_reference(alloc, child, reference)?;
-    Ok(has_spans(&column, reference.ptype(), spans))
-}
-
-fn bytes_wrap(alloc: Global) -> Result<bool, FastLanesError> {
-    let array = solid(alloc, &[0u8, 100, 200])?;
-    let sums = [(1, Some(100)), (1, Some(200)), (1, Some(44))];
-    sums_to(alloc, &array, PValue::U8(100), &sums)
-}
-
-fn signed_bytes_wrap(alloc: Global) -> Result<bool, FastLanesError> {
-    let array = solid(alloc, &[-10i8, -5, 0])?;
-    let sums = [(1, Some(-110)), (1, Some(-105)), (1, Some(-100))];
-    sums_to(alloc, &array, PValue::I8(-100), &sums)
+fn sums_to(child: Made, alloc: Global, reference: PValue, spans: &[Span]) -> bool {
+    match child {
+        Ok(child) => are_spans(
+            with_reference(alloc, &child, reference),
+            reference.ptype(),
+            spans,
+        ),
+        Err(_) => false,
+    }
 }
 
 #[test]
-fn sums_wrap_as_the_type_does(rt: HostRuntime) -> Result<(), Fail> {
-    assert!(rt; bytes_wrap(rt.alloc())?);
-    assert!(rt; signed_bytes_wrap(rt.alloc())?);
-    Ok(())
+fn sums_wrap_as_the_type_does(rt: HostRuntime) {
+    let sums = [(1, Some(100)), (1, Some(200)), (1, Some(44))];
+    let child = solid(rt.alloc(), &[0u8, 100, 200]);
+    assert!(rt; sums_to(child, rt.alloc(), PValue::U8(100), &sums));
+    let sums = [(1, Some(-110)), (1, Some(-105)), (1, Some(-100))];
+    let child = solid(rt.alloc(), &[-10i8, -5, 0]);
+    assert!(rt; sums_to(child, rt.alloc(), PValue::I8(-100), &sums));
 }
 
 /// Whether a column has no frame of one reference, for want of an item.
-fn has_no_minimum(alloc: Global, array: &PrimitiveArray) -> Result<bool, FastLanesError> {
+fn has_no_minimum(alloc: Global, array: &PrimitiveArray) -> bool {
     match frame_of_reference::encode(alloc, array) {
-        Err(FastLanesError::NoMinimum) => Ok(true),
-        Err(error) => Err(error),
-        Ok(_) => Ok(false),
+        Err(FastLanesError::NoMinimum) => true,
+        _ => false,
     }
 }
 
-/// Whether the frame has one reference, this one, and makes a column.
-fn is_global(
-    alloc: Global,
-    frame: &Frame,
-    reference: PValue,
-    array: &PrimitiveArray,
-) -> Result<bool, FastLanesError> {
-    match frame {
-        Frame::Global(frame) => has_reference(alloc, frame, reference, array),
-        _ => Ok(false),
+/// Whether the frame of a column's chunks has one reference, this one, and makes the column again.
+fn has_one_reference(alloc: Global, array: &PrimitiveArray, reference: PValue) -> bool {
+    match frame_of_reference::encode_chunked(alloc, array) {
+        Ok(Frame::Global(frame)) => has_reference(alloc, &frame, reference, array),
+        _ => false,
     }
 }
 
-/// Whether the chunks of a column have one reference, this one, and make the column again.
-fn has_one_reference(
-    alloc: Global,
-    array: &PrimitiveArray,
-    reference: PValue,
-) -> Result<bool, FastLanesError> {
-    let frame = frame_of_reference::encode_chunked(alloc, array)?;
-    is_global(alloc, &frame, reference, array)
-}
-
-fn frames_no_items(alloc: Global, array: &PrimitiveArray) -> Result<bool, FastLanesError> {
-    if !has_no_minimum(alloc, array)? {
-        return Ok(false);
+/// Whether a column has no minimum, and one reference for its chunks.
+fn frames_no_items(column: Made, alloc: Global) -> bool {
+    match column {
+        Ok(array) => {
+            has_no_minimum(alloc, &array) && has_one_reference(alloc, &array, PValue::U8(0))
+        }
+        Err(_) => false,
     }
-    has_one_reference(alloc, array, PValue::U8(0))
 }
 
-fn no_items_are_framed(alloc: Global) -> Result<bool, FastLanesError> {
-    let empty = PrimitiveArray::from_options::<u8>(alloc, &[])?;
-    frames_no_items(alloc, &empty)
-}
-
-/// Whether the frame is one of nulls, and makes a column.
+/// Whether a frame is one of nulls, and makes a column.
 fn is_of_nulls(
+    frame: Result<Frame, FastLanesError>,
     alloc: Global,
-    frame: &Frame,
     array: &PrimitiveArray,
-) -> Result<bool, FastLanesError> {
+) -> bool {
     match frame {
-        Frame::Nulls(..) => frame_makes(alloc, frame, array),
-        _ => Ok(false),
+        Ok(frame) => matches!(frame, Frame::Nulls(..)) && frame_makes(alloc, &frame, array),
+        Err(_) => false,
     }
 }
 
-/// Whether the frame of a column's chunks is one of nulls, and makes the column again.
-fn has_frame_of_nulls(alloc: Global, array: &PrimitiveArray) -> Result<bool, FastLanesError> {
-    let frame = frame_of_reference::encode_chunked(alloc, array)?;
-    is_of_nulls(alloc, &frame, array)
-}
-
-fn frames_nulls(alloc: Global, array: &PrimitiveArray) -> Result<bool, FastLanesError> {
-    if !has_no_minimum(alloc, array)? {
-        return Ok(false);
+/// Whether a column has no minimum, and a frame of nulls for its chunks, which makes it again.
+fn frames_nulls(column: Made, alloc: Global) -> bool {
+    match column {
+        Ok(array) => {
+            let frame = frame_of_reference::encode_chunked(alloc, &array);
+            has_no_minimum(alloc, &array) && is_of_nulls(frame, alloc, &array)
+        }
+        Err(_) => false,
     }
-    has_frame_of_nulls(alloc, array)
-}
-
-fn nulls_are_framed(alloc: Global) -> Result<bool, FastLanesError> {
-    let nulls = PrimitiveArray::from_options::<u8>(alloc, &[None, None])?;
-    frames_nulls(alloc, &nulls)
 }
 
 #[test]
-fn columns_without_an_item_have_no_minimum(rt: HostRuntime) -> Result<(), Fail> {
-    assert!(rt; no_items_are_framed(rt.alloc())?);
-    assert!(rt; nulls_are_framed(rt.alloc())?);
-    Ok(())
+fn columns_without_an_item_have_no_minimum(rt: HostRuntime) {
+    let empty = PrimitiveArray::from_options::<u8>(rt.alloc(), &[]);
+    assert!(rt; frames_no_items(empty, rt.alloc()));
+    let nulls = PrimitiveArray::from_options::<u8>(rt.alloc(), &[None, None]);
+    assert!(rt; frames_nulls(nulls, rt.alloc()));
 }
 
 /// So many items of `first`, and then as many of `second`.
-fn halves(
-    alloc: Global,
-    each: usize,
-    first: Option<i16>,
-    second: Option<i16>,
-) -> Result<PrimitiveArray, FastLanesError> {
+fn halves(alloc: Global, each: usize, first: Option<i16>, second: Option<i16>) -> Made {
     let mut items = Vec::new(alloc);
     for _ in 0..each {
         items.push(first)?;
@@ -326,75 +292,74 @@ fn halves(
     PrimitiveArray::from_options(alloc, &items)
 }
 
-/// Whether the frame has the references 5 and -7 and 2048 times 0, and makes a column.
-fn has_two_chunks(
-    alloc: Global,
-    frame: &Frame,
-    array: &PrimitiveArray,
-) -> Result<bool, FastLanesError> {
+/// Whether a frame has the references 5 and -7, and 2048 times 0 for a child.
+fn is_of_two_chunks(frame: &Frame) -> bool {
     match frame {
-        Frame::Chunked(child, references)
-            if has_spans(references, PType::I16, &[(1, Some(5)), (1, Some(-7))])
-                && has_spans(child, PType::I16, &[(2048, Some(0))]) => {
-            frame_makes(alloc, frame, array)
+        Frame::Chunked(child, references) => {
+            has_spans(references, PType::I16, &[(1, Some(5)), (1, Some(-7))])
+                && has_spans(child, PType::I16, &[(2048, Some(0))])
         }
-        _ => Ok(false),
+        _ => false,
     }
 }
 
-fn frames_two_chunks(alloc: Global, array: &PrimitiveArray) -> Result<bool, FastLanesError> {
-    let frame = frame_of_reference::encode_chunked(alloc, array)?;
-    has_two_chunks(alloc, &frame, array)
+/// Whether a column's chunks have such a frame, which makes the column again.
+fn has_two_chunks(alloc: Global, array: &PrimitiveArray) -> bool {
+    match frame_of_reference::encode_chunked(alloc, array) {
+        Ok(frame) => is_of_two_chunks(&frame) && frame_makes(alloc, &frame, array),
+        Err(_) => false,
+    }
 }
 
-fn two_chunks_are_framed(alloc: Global) -> Result<bool, FastLanesError> {
-    let array = halves(alloc, 1024, Some(5), Some(-7))?;
-    frames_two_chunks(alloc, &array)
+/// Whether a column is made, and has such a frame.
+fn frames_two_chunks(column: Made, alloc: Global) -> bool {
+    match column {
+        Ok(array) => has_two_chunks(alloc, &array),
+        Err(_) => false,
+    }
 }
 
 #[test]
-fn chunks_have_references_of_their_own(rt: HostRuntime) -> Result<(), Fail> {
-    assert!(rt; two_chunks_are_framed(rt.alloc())?);
-    Ok(())
+fn chunks_have_references_of_their_own(rt: HostRuntime) {
+    let array = halves(rt.alloc(), 1024, Some(5), Some(-7));
+    assert!(rt; frames_two_chunks(array, rt.alloc()));
 }
 
 /// Whether 30 items 0 from position 1000 on and references 5 and -7 make 24 of 5 and 6 of -7.
-fn sums_across_chunks(
-    alloc: Global,
-    child: &PrimitiveArray,
-    references: &PrimitiveArray,
-) -> Result<bool, FastLanesError> {
-    let column = with_references(alloc, child, references, 1000)?;
-    let sums = [(24, Some(5)), (6, Some(-7))];
-    Ok(has_spans(&column, PType::I16, &sums))
+fn sums_across_chunks(alloc: Global, child: &PrimitiveArray, references: Made) -> bool {
+    match references {
+        Ok(references) => are_spans(
+            with_references(alloc, child, &references, 1000),
+            PType::I16,
+            &[(24, Some(5)), (6, Some(-7))],
+        ),
+        Err(_) => false,
+    }
 }
 
-fn zeros_from_an_offset(
-    alloc: Global,
-    references: &PrimitiveArray,
-) -> Result<bool, FastLanesError> {
-    let child = copies(alloc, 0i16, 30)?;
-    sums_across_chunks(alloc, &child, references)
-}
-
-fn references_from_an_offset(alloc: Global) -> Result<bool, FastLanesError> {
-    let references = solid(alloc, &[5i16, -7])?;
-    zeros_from_an_offset(alloc, &references)
+/// Whether a child is made, and such references make such a column of it.
+fn adds_two_references(child: Made, alloc: Global) -> bool {
+    match child {
+        Ok(child) => sums_across_chunks(alloc, &child, solid(alloc, &[5i16, -7])),
+        Err(_) => false,
+    }
 }
 
 #[test]
-fn references_start_at_the_offset_of_the_child(rt: HostRuntime) -> Result<(), Fail> {
-    assert!(rt; references_from_an_offset(rt.alloc())?);
-    Ok(())
+fn references_start_at_the_offset_of_the_child(rt: HostRuntime) {
+    assert!(rt; adds_two_references(copies(rt.alloc(), 0i16, 30), rt.alloc()));
 }
 
-fn nulls_take_the_reference_behind(alloc: Global) -> Result<bool, FastLanesError> {
-    let array = halves(alloc, 1024, None, Some(9))?;
-    has_one_reference(alloc, &array, PValue::I16(9))
+/// Whether a column is made, and its chunks have one reference.
+fn chunks_share(column: Made, alloc: Global, reference: PValue) -> bool {
+    match column {
+        Ok(array) => has_one_reference(alloc, &array, reference),
+        Err(_) => false,
+    }
 }
 
 #[test]
-fn equal_references_are_one(rt: HostRuntime) -> Result<(), Fail> {
-    assert!(rt; nulls_take_the_reference_behind(rt.alloc())?);
-    Ok(())
+fn equal_references_are_one(rt: HostRuntime) {
+    let array = halves(rt.alloc(), 1024, None, Some(9));
+    assert!(rt; chunks_share(array, rt.alloc(), PValue::I16(9)));
 }

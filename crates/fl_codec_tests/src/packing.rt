@@ -6,7 +6,7 @@ ghost use Rattle.fl_patches.specs.PatchMaps.{numbers};
 ghost use Rattle.fl_packed.specs.Blocks.{are_blocks};
 
 use crate::columns::{
-    TYPES, has_spans, is_at, ones_and_nulls, rising, same_items, solid, two_blocks,
+    Made, Span, TYPES, has_spans, is_at, ones_and_nulls, rising, same_items, solid, two_blocks,
 };
 use fl_packed::decoding::{PackedColumn, unpack_bounded, unpack_even, unpack_single_primitive};
 use fl_packed::packing::{bitpack_blocked_unchecked, bitpack_into, bitpack_unchecked};
@@ -15,20 +15,24 @@ use fl_plain::PrimitiveArray;
 use fl_types::*;
 use fl_widths::gather_patches;
 use std::alloc::Global;
-use std::test::Fail;
 
-/// The packed bytes of an array, none where the width is above the type's bits.
-pub(crate) fn packed(
-    alloc: Global,
-    array: &PrimitiveArray,
-    width: u8,
-) -> Result<Vec<u8>, FastLanesError> {
+/// What makes packed bytes.
+pub(crate) type Packed = Result<Vec<u8>, FastLanesError>;
+
+fn copied(alloc: Global, bytes: &[u8]) -> Packed {
+    let copy = Vec::from_slice(alloc, bytes)?;
+    Ok(copy)
+}
+
+/// The packed bytes of an array, refused where the width is above the type's bits.
+pub(crate) fn packed(alloc: Global, array: &PrimitiveArray, width: u8) -> Packed {
     if usize::from(width) > array.ptype().bit_width() {
-        return Ok(Vec::new(alloc));
+        return Err(FastLanesError::WidthTooLarge);
     }
-    let packed = bitpack_unchecked(alloc, array, width)?;
-    let bytes = Vec::from_slice(alloc, packed.as_slice())?;
-    Ok(bytes)
+    match bitpack_unchecked(alloc, array, width) {
+        Ok(bytes) => copied(alloc, bytes.as_slice()),
+        Err(refusal) => Err(refusal),
+    }
 }
 
 /// The column of these parts at one width, which must fit each other, without patches.
@@ -40,7 +44,7 @@ fn unpacked<'a>(
     width: usize,
     offset: usize,
     len: usize,
-) -> Result<PrimitiveArray, FastLanesError> {
+) -> Made {
     if offset >= 1024 || len >= 1 << 32 || width > ptype.bit_width() || !validity.covers(len) {
         return Err(FastLanesError::LengthOverflow);
     }
@@ -58,7 +62,29 @@ fn unpacked<'a>(
     unpack_even(alloc, &column, width)
 }
 
-/// Whether bytes are 1 at every 16th place up to 48, and 0 else.
+/// The column of these parts at one width, without patches, none of whose items may be null.
+fn unpacked_solid(
+    alloc: Global,
+    bytes: &[u8],
+    ptype: PType,
+    width: usize,
+    offset: usize,
+    len: usize,
+) -> Made {
+    let validity = Validity::NonNullable;
+    unpacked(alloc, bytes, &validity, ptype, width, offset, len)
+}
+
+/// Whether what was made is these spans of a type.
+fn is_made_of(column: Made, ptype: PType, spans: &[Span]) -> bool {
+    match column {
+        Ok(array) => has_spans(&array, ptype, spans),
+        Err(_) => false,
+    }
+}
+
+/// Whether bytes are 1 at every 16th place up to 48, and 0 else: 1 at width 1 at the places of lanes
+/// 0, 2, 4 and 6, the low bit of the last item too.
 fn are_ones_of_four_lanes(bytes: &[u8]) -> bool {
     for i in 0..bytes.len() {
         if bytes[i] != u8::from(matches!(i, 0 | 16 | 32 | 48)) {
@@ -68,26 +94,25 @@ fn are_ones_of_four_lanes(bytes: &[u8]) -> bool {
     bytes.len() == 128
 }
 
-/// Whether the ones and nulls are 1 at width 1 at the places of lanes 0, 2, 4 and 6, the low bit of
-/// the last item too.
-fn ones_pack(alloc: Global, array: &PrimitiveArray) -> Result<bool, FastLanesError> {
-    let bytes = packed(alloc, array, 1)?;
-    Ok(are_ones_of_four_lanes(&bytes))
-}
+/// 1, null, 1, null, 1, null and the greatest value.
+const SEVEN: &[Span] = &[
+    (1, Some(1)),
+    (1, None),
+    (1, Some(1)),
+    (1, None),
+    (1, Some(1)),
+    (1, None),
+    (1, Some(18_446_744_073_709_551_615)),
+];
 
 /// Whether seven items of these bytes at width 1, under a validity and with patches, are the ones and
 /// nulls.
-fn are_ones(
-    alloc: Global,
-    bytes: &[u8],
-    validity: &Validity,
-    patches: &Patches,
-) -> Result<bool, FastLanesError> {
+fn are_ones(alloc: Global, bytes: &[u8], validity: &Validity, patches: &Patches) -> bool {
     if bytes.len() < 128 || patches.array_len() != 7 || patches.values().ptype() != PType::U64 {
-        return Ok(false);
+        return false;
     }
     if !validity.covers(7) {
-        return Ok(false);
+        return false;
     }
     let column = PackedColumn {
         packed: bytes,
@@ -97,72 +122,41 @@ fn are_ones(
         offset: 0,
         len: 7,
     };
-    let back = unpack_even(alloc, &column, 1)?;
-    Ok(are_seven(&back))
+    is_made_of(unpack_even(alloc, &column, 1), PType::U64, SEVEN)
 }
 
-/// Whether these are 1, null, 1, null, 1, null and the greatest value.
-fn are_seven(array: &PrimitiveArray) -> bool {
-    let one = (1, Some(1));
-    let null = (1, None);
-    let last = (1, Some(u64::MAX as i128));
-    has_spans(array, PType::U64, &[one, null, one, null, one, null, last])
-}
-
-/// Whether the ones and nulls come back from bytes with their patches.
-fn ones_decode(
-    alloc: Global,
-    array: &PrimitiveArray,
-    bytes: &[u8],
-) -> Result<bool, FastLanesError> {
-    match &gather_patches(alloc, array, 1, 1)? {
-        Some(patches) => are_ones(alloc, bytes, array.validity(), patches),
-        None => Ok(false),
+/// Whether the ones and nulls come back from bytes with their one patch.
+fn ones_decode(alloc: Global, array: &PrimitiveArray, bytes: &[u8]) -> bool {
+    match gather_patches(alloc, array, 1, 1) {
+        Ok(Some(patches)) => are_ones(alloc, bytes, array.validity(), &patches),
+        _ => false,
     }
 }
 
-/// Whether the ones and nulls come back from their bytes with their one patch.
-fn ones_come_back(alloc: Global, array: &PrimitiveArray) -> Result<bool, FastLanesError> {
-    let bytes = packed(alloc, array, 1)?;
-    ones_decode(alloc, array, &bytes)
-}
-
-fn packs_ones(alloc: Global, array: &PrimitiveArray) -> Result<bool, FastLanesError> {
-    if !ones_pack(alloc, array)? {
-        return Ok(false);
+fn ones_pack(alloc: Global, array: &PrimitiveArray) -> bool {
+    match packed(alloc, array, 1) {
+        Ok(bytes) => are_ones_of_four_lanes(&bytes) && ones_decode(alloc, array, &bytes),
+        Err(_) => false,
     }
-    ones_come_back(alloc, array)
 }
 
-fn ones_are_packed(alloc: Global) -> Result<bool, FastLanesError> {
-    let array = ones_and_nulls(alloc)?;
-    packs_ones(alloc, &array)
-}
-
-#[test]
-fn ones_and_nulls_pack_and_decode(rt: HostRuntime) -> Result<(), Fail> {
-    assert!(rt; ones_are_packed(rt.alloc())?);
-    Ok(())
-}
-
-/// Whether full bytes are three times -1 in a signed type.
-fn full_bytes(alloc: Global) -> Result<bool, FastLanesError> {
-    let array = unpacked(
-        alloc,
-        &[255; 1024],
-        &Validity::NonNullable,
-        PType::I8,
-        8,
-        0,
-        3,
-    )?;
-    Ok(has_spans(&array, PType::I8, &[(3, Some(-1))]))
+/// Whether the ones and nulls are packed, and come back.
+fn packs_ones(column: Made, alloc: Global) -> bool {
+    match column {
+        Ok(array) => ones_pack(alloc, &array),
+        Err(_) => false,
+    }
 }
 
 #[test]
-fn full_bytes_are_negative(rt: HostRuntime) -> Result<(), Fail> {
-    assert!(rt; full_bytes(rt.alloc())?);
-    Ok(())
+fn ones_and_nulls_pack_and_decode(rt: HostRuntime) {
+    assert!(rt; packs_ones(ones_and_nulls(rt.alloc()), rt.alloc()));
+}
+
+#[test]
+fn full_bytes_are_negative(rt: HostRuntime) {
+    let array = unpacked_solid(rt.alloc(), &[255; 1024], PType::I8, 8, 0, 3);
+    assert!(rt; is_made_of(array, PType::I8, &[(3, Some(-1))]));
 }
 
 /// Whether there are so many bytes, all of them full.
@@ -176,83 +170,84 @@ fn are_full(bytes: &[u8], len: usize) -> bool {
 }
 
 /// Whether two blocks, at widths 2 and 0, are 256 full bytes with the boundaries 0, 256, 256.
-fn blocks_pack(alloc: Global, array: &PrimitiveArray) -> Result<bool, FastLanesError> {
+fn blocks_pack(alloc: Global, array: &PrimitiveArray) -> bool {
     if array.len() != 1025 || array.ptype() != PType::U16 {
-        return Ok(false);
+        return false;
     }
-    let (bytes, boundaries) = bitpack_blocked_unchecked(alloc, array, &[2, 0])?;
     let spans = [(1, Some(0)), (2, Some(256))];
-    Ok(are_full(bytes.as_slice(), 256) && has_spans(&boundaries, PType::U16, &spans))
+    match bitpack_blocked_unchecked(alloc, array, &[2, 0]) {
+        Ok(parts) => are_full(parts.0.as_slice(), 256) && has_spans(&parts.1, PType::U16, &spans),
+        Err(_) => false,
+    }
 }
 
-fn two_blocks_pack(alloc: Global) -> Result<bool, FastLanesError> {
-    let array = two_blocks(alloc)?;
-    blocks_pack(alloc, &array)
+fn packs_blocks(column: Made, alloc: Global) -> bool {
+    match column {
+        Ok(array) => blocks_pack(alloc, &array),
+        Err(_) => false,
+    }
 }
 
 #[test]
-fn blocks_have_widths_of_their_own(rt: HostRuntime) -> Result<(), Fail> {
-    assert!(rt; two_blocks_pack(rt.alloc())?);
-    Ok(())
+fn blocks_have_widths_of_their_own(rt: HostRuntime) {
+    assert!(rt; packs_blocks(two_blocks(rt.alloc()), rt.alloc()));
 }
 
 /// Whether no items have no bytes, and the one boundary 0 as `u8`.
-fn nothing_packs(alloc: Global, array: &PrimitiveArray) -> Result<bool, FastLanesError> {
+fn nothing_packs(alloc: Global, array: &PrimitiveArray) -> bool {
     if array.len() != 0 {
-        return Ok(false);
+        return false;
     }
-    let (bytes, boundaries) = bitpack_blocked_unchecked(alloc, array, &[])?;
-    Ok(bytes.as_slice().len() == 0 && has_spans(&boundaries, PType::U8, &[(1, Some(0))]))
+    match bitpack_blocked_unchecked(alloc, array, &[]) {
+        Ok(parts) => are_full(parts.0.as_slice(), 0)
+            && has_spans(&parts.1, PType::U8, &[(1, Some(0))]),
+        Err(_) => false,
+    }
 }
 
 /// Whether an array has no bytes at width 3.
-fn has_no_bytes(alloc: Global, array: &PrimitiveArray) -> Result<bool, FastLanesError> {
-    let bytes = packed(alloc, array, 3)?;
-    Ok(bytes.len() == 0)
-}
-
-fn packs_nothing(alloc: Global, array: &PrimitiveArray) -> Result<bool, FastLanesError> {
-    if !nothing_packs(alloc, array)? {
-        return Ok(false);
+fn has_no_bytes(alloc: Global, array: &PrimitiveArray) -> bool {
+    match packed(alloc, array, 3) {
+        Ok(bytes) => bytes.len() == 0,
+        Err(_) => false,
     }
-    has_no_bytes(alloc, array)
 }
 
-fn nothing_is_packed(alloc: Global) -> Result<bool, FastLanesError> {
-    let array = solid::<u32>(alloc, &[])?;
-    packs_nothing(alloc, &array)
+fn packs_nothing(column: Made, alloc: Global) -> bool {
+    match column {
+        Ok(array) => nothing_packs(alloc, &array) && has_no_bytes(alloc, &array),
+        Err(_) => false,
+    }
 }
 
 #[test]
-fn no_items_have_no_bytes(rt: HostRuntime) -> Result<(), Fail> {
-    assert!(rt; nothing_is_packed(rt.alloc())?);
-    Ok(())
+fn no_items_have_no_bytes(rt: HostRuntime) {
+    assert!(rt; packs_nothing(solid::<u32>(rt.alloc(), &[]), rt.alloc()));
 }
 
 /// The bytes of 0 to 2047 at width 11.
-pub(crate) fn bytes_of_rising(alloc: Global) -> Result<Vec<u8>, FastLanesError> {
-    let array = rising(alloc, 0, 1, 2048)?;
-    packed(alloc, &array, 11)
+pub(crate) fn bytes_of_rising(alloc: Global) -> Packed {
+    match rising(alloc, 0, 1, 2048) {
+        Ok(array) => packed(alloc, &array, 11),
+        Err(refusal) => Err(refusal),
+    }
 }
 
-/// Whether they are 500 to 1499 from offset 500 on.
-fn are_from_an_offset(alloc: Global, bytes: &[u8]) -> Result<bool, FastLanesError> {
-    let array = unpacked(
-        alloc,
-        bytes,
-        &Validity::NonNullable,
-        PType::U32,
-        11,
-        500,
-        1000,
-    )?;
-    Ok(
-        array.len() == 1000
-            && is_at(&array, 0, PValue::U32(500))
-            && is_at(&array, 523, PValue::U32(1023))
-            && is_at(&array, 524, PValue::U32(1024))
-            && is_at(&array, 999, PValue::U32(1499)),
-    )
+/// Whether they are 500 to 1499.
+fn are_from_500(array: &PrimitiveArray) -> bool {
+    array.len() == 1000
+        && is_at(array, 0, PValue::U32(500))
+        && is_at(array, 523, PValue::U32(1023))
+        && is_at(array, 524, PValue::U32(1024))
+        && is_at(array, 999, PValue::U32(1499))
+}
+
+/// Whether the items from offset 500 on are 500 to 1499.
+fn are_from_an_offset(alloc: Global, bytes: &[u8]) -> bool {
+    match unpacked_solid(alloc, bytes, PType::U32, 11, 500, 1000) {
+        Ok(array) => are_from_500(&array),
+        Err(_) => false,
+    }
 }
 
 /// Whether item 1499 of two blocks, read alone, is 1499.
@@ -264,27 +259,21 @@ fn reads_one_item(bytes: &[u8]) -> bool {
     single == 1499
 }
 
-fn reads_from_an_offset(alloc: Global, bytes: &[u8]) -> Result<bool, FastLanesError> {
-    if !reads_one_item(bytes) {
-        return Ok(false);
-    }
-    are_from_an_offset(alloc, bytes)
-}
-
 /// Whether the numbers from 0 to 2047 are read item by item and all at once from an offset on.
-fn rising_items_are_read(alloc: Global) -> Result<bool, FastLanesError> {
-    let bytes = bytes_of_rising(alloc)?;
-    reads_from_an_offset(alloc, &bytes)
+fn reads_from_an_offset(bytes: Packed, alloc: Global) -> bool {
+    match bytes {
+        Ok(bytes) => reads_one_item(&bytes) && are_from_an_offset(alloc, &bytes),
+        Err(_) => false,
+    }
 }
 
 #[test]
-fn a_slice_begins_at_its_offset(rt: HostRuntime) -> Result<(), Fail> {
-    assert!(rt; rising_items_are_read(rt.alloc())?);
-    Ok(())
+fn a_slice_begins_at_its_offset(rt: HostRuntime) {
+    assert!(rt; reads_from_an_offset(bytes_of_rising(rt.alloc()), rt.alloc()));
 }
 
 /// The least and the greatest integer of a type.
-fn extremes(alloc: Global, ptype: PType) -> Result<PrimitiveArray, FastLanesError> {
+fn extremes(alloc: Global, ptype: PType) -> Made {
     match ptype {
         PType::U8 => solid(alloc, &[u8::MIN, u8::MAX]),
         PType::U16 => solid(alloc, &[u16::MIN, u16::MAX]),
@@ -297,31 +286,30 @@ fn extremes(alloc: Global, ptype: PType) -> Result<PrimitiveArray, FastLanesErro
     }
 }
 
+/// Whether what was made is an array again.
+fn is_array(column: Made, array: &PrimitiveArray) -> bool {
+    match column {
+        Ok(back) => back.ptype() == array.ptype() && same_items(&back, array),
+        Err(_) => false,
+    }
+}
+
 /// Whether two items come back from bytes at their full width.
-fn come_back(alloc: Global, array: &PrimitiveArray, bytes: &[u8]) -> Result<bool, FastLanesError> {
+fn come_back(alloc: Global, array: &PrimitiveArray, bytes: &[u8]) -> bool {
     let ptype = array.ptype();
-    let back = unpacked(
-        alloc,
-        bytes,
-        array.validity(),
-        ptype,
-        ptype.bit_width(),
-        0,
-        2,
-    )?;
-    Ok(back.ptype() == ptype && same_items(&back, array))
+    let width = ptype.bit_width();
+    is_array(
+        unpacked(alloc, bytes, array.validity(), ptype, width, 0, 2),
+        array,
+    )
 }
 
-/// Whether items come back at their full width.
-fn full_width(alloc: Global, array: &PrimitiveArray) -> Result<bool, FastLanesError> {
-    let bytes = packed(alloc, array, array.ptype().bit_width() as u8)?;
-    come_back(alloc, array, &bytes)
-}
-
-/// Whether the ends of a type come back at its full width.
-fn ends_come_back(alloc: Global, ptype: PType) -> Result<bool, FastLanesError> {
-    let array = extremes(alloc, ptype)?;
-    full_width(alloc, &array)
+/// Whether two items come back at their full width.
+fn full_width(alloc: Global, array: &PrimitiveArray) -> bool {
+    match packed(alloc, array, array.ptype().bit_width() as u8) {
+        Ok(bytes) => come_back(alloc, array, &bytes),
+        Err(_) => false,
+    }
 }
 
 /// Whether two items of a block of width 1, which lies between boundaries, are 0 and 1.
@@ -331,12 +319,12 @@ fn are_low_bits<'a>(
     validity: &'a Validity,
     ptype: PType,
     boundaries: &PrimitiveArray,
-) -> Result<bool, FastLanesError>
+) -> bool
     requires count { length boundaries.now.slots ≡ 2 }
     requires blocks { IsTrue (are_blocks (bits_of_type ptype) (length bytes.now) (numbers boundaries.now)) }
 {
     if !validity.covers(2) {
-        return Ok(false);
+        return false;
     }
     let column = PackedColumn {
         packed: bytes,
@@ -346,33 +334,35 @@ fn are_low_bits<'a>(
         offset: 0,
         len: 2,
     };
-    let back = unpack_bounded(alloc, &column, boundaries)?;
-    Ok(has_spans(&back, ptype, &[(1, Some(0)), (1, Some(1))]))
+    let back = unpack_bounded(alloc, &column, boundaries);
+    is_made_of(back, ptype, &[(1, Some(0)), (1, Some(1))])
 }
 
 /// Whether two items, packed as a block of width 1, keep their low bits, 0 and 1.
-fn low_bits(alloc: Global, array: &PrimitiveArray) -> Result<bool, FastLanesError> {
+fn low_bits(alloc: Global, array: &PrimitiveArray) -> bool {
     let ptype = array.ptype();
     if array.len() != 2 || ptype.bit_width() < 1 {
-        return Ok(false);
+        return false;
     }
-    let parts = bitpack_blocked_unchecked(alloc, array, &[1])?;
-    are_low_bits(alloc, parts.0.as_slice(), array.validity(), ptype, &parts.1)
+    match bitpack_blocked_unchecked(alloc, array, &[1]) {
+        Ok(parts) => are_low_bits(alloc, parts.0.as_slice(), array.validity(), ptype, &parts.1),
+        Err(_) => false,
+    }
 }
 
-/// Whether the ends of a type keep their low bits.
-fn ends_keep_low_bits(alloc: Global, ptype: PType) -> Result<bool, FastLanesError> {
-    let array = extremes(alloc, ptype)?;
-    low_bits(alloc, &array)
+/// Whether the ends of a type come back at its full width, and keep their low bits.
+fn ends_come_back(column: Made, alloc: Global) -> bool {
+    match column {
+        Ok(array) => full_width(alloc, &array) && low_bits(alloc, &array),
+        Err(_) => false,
+    }
 }
 
 #[test]
-fn each_type_comes_back(rt: HostRuntime) -> Result<(), Fail> {
+fn each_type_comes_back(rt: HostRuntime) {
     for ptype in TYPES {
-        assert!(rt; ends_come_back(rt.alloc(), ptype)?);
-        assert!(rt; ends_keep_low_bits(rt.alloc(), ptype)?);
+        assert!(rt; ends_come_back(extremes(rt.alloc(), ptype), rt.alloc()));
     }
-    Ok(())
 }
 
 /// Whether two items of an array, packed at width 1 over bytes of something else, are these bytes.
@@ -386,23 +376,25 @@ fn are_packed_over(array: &PrimitiveArray, expected: &[u8]) -> bool {
 }
 
 /// Whether two items are packed into bytes that are there as into new ones.
-fn are_packed_alike(alloc: Global, array: &PrimitiveArray) -> Result<bool, FastLanesError> {
-    let expected = packed(alloc, array, 1)?;
-    Ok(are_packed_over(array, &expected))
+fn are_packed_alike(alloc: Global, array: &PrimitiveArray) -> bool {
+    match packed(alloc, array, 1) {
+        Ok(expected) => are_packed_over(array, &expected),
+        Err(_) => false,
+    }
 }
 
-/// Whether the ends of a type are packed into bytes that are there as into new ones.
-fn ends_are_packed_alike(alloc: Global, ptype: PType) -> Result<bool, FastLanesError> {
-    let array = extremes(alloc, ptype)?;
-    are_packed_alike(alloc, &array)
+fn ends_are_packed_alike(column: Made, alloc: Global) -> bool {
+    match column {
+        Ok(array) => are_packed_alike(alloc, &array),
+        Err(_) => false,
+    }
 }
 
 #[test]
-fn bytes_that_are_there_are_packed_over(rt: HostRuntime) -> Result<(), Fail> {
+fn bytes_that_are_there_are_packed_over(rt: HostRuntime) {
     for ptype in TYPES {
-        assert!(rt; ends_are_packed_alike(rt.alloc(), ptype)?);
+        assert!(rt; ends_are_packed_alike(extremes(rt.alloc(), ptype), rt.alloc()));
     }
-    Ok(())
 }
 
 /// Whether two blocks of `u16`, which lie between boundaries, are an array.
@@ -412,12 +404,12 @@ fn are_between<'a>(
     validity: &'a Validity,
     boundaries: &PrimitiveArray,
     array: &PrimitiveArray,
-) -> Result<bool, FastLanesError>
+) -> bool
     requires count { length boundaries.now.slots ≡ 3 }
     requires blocks { IsTrue (are_blocks 16 (length bytes.now) (numbers boundaries.now)) }
 {
     if !validity.covers(1025) {
-        return Ok(false);
+        return false;
     }
     let column = PackedColumn {
         packed: bytes,
@@ -427,26 +419,28 @@ fn are_between<'a>(
         offset: 0,
         len: 1025,
     };
-    let back = unpack_bounded(alloc, &column, boundaries)?;
-    Ok(same_items(&back, array))
+    is_array(unpack_bounded(alloc, &column, boundaries), array)
 }
 
 /// Whether two blocks of widths 2 and 10 come back between their boundaries.
-fn comes_back_by_blocks(alloc: Global, array: &PrimitiveArray) -> Result<bool, FastLanesError> {
+fn come_back_by_blocks(alloc: Global, array: &PrimitiveArray) -> bool {
     if array.len() != 1025 || array.ptype() != PType::U16 {
-        return Ok(false);
+        return false;
     }
-    let parts = bitpack_blocked_unchecked(alloc, array, &[2, 10])?;
-    are_between(alloc, parts.0.as_slice(), array.validity(), &parts.1, array)
+    match bitpack_blocked_unchecked(alloc, array, &[2, 10]) {
+        Ok(parts) => are_between(alloc, parts.0.as_slice(), array.validity(), &parts.1, array),
+        Err(_) => false,
+    }
 }
 
-fn two_blocks_come_back(alloc: Global) -> Result<bool, FastLanesError> {
-    let array = two_blocks(alloc)?;
-    comes_back_by_blocks(alloc, &array)
+fn two_blocks_come_back(column: Made, alloc: Global) -> bool {
+    match column {
+        Ok(array) => come_back_by_blocks(alloc, &array),
+        Err(_) => false,
+    }
 }
 
 #[test]
-fn blocks_of_two_widths_come_back(rt: HostRuntime) -> Result<(), Fail> {
-    assert!(rt; two_blocks_come_back(rt.alloc())?);
-    Ok(())
+fn blocks_of_two_widths_come_back(rt: HostRuntime) {
+    assert!(rt; two_blocks_come_back(two_blocks(rt.alloc()), rt.alloc()));
 }

@@ -1,17 +1,17 @@
 //! The patches of columns by example.
 
-use crate::columns::{Span, copies, half_null, has_spans, ones_and_nulls, solid, two_blocks};
+use crate::columns::{Made, Span, copies, half_null, has_spans, ones_and_nulls, solid, two_blocks};
 use fl_patches::Patches;
 use fl_plain::PrimitiveArray;
 use fl_types::*;
 use fl_widths::{gather_blocked_patches, gather_patches};
 use std::alloc::Global;
-use std::test::Fail;
 
-/// The index type, the indices, the values and the chunk offsets of patches.
+/// The types of the indices and the values, the indices, the values and the chunk offsets of patches.
 #[derive(Clone, Copy)]
 struct Parts<'a> {
     index_type: PType,
+    value_type: PType,
     indices: &'a [Span],
     values: &'a [Span],
     offsets: &'a [Span],
@@ -25,109 +25,104 @@ fn are_offsets(offsets: Option<&PrimitiveArray>, spans: &[Span]) -> bool {
     }
 }
 
-/// Whether patches of a column of a type have these parts.
-fn are(patches: &Patches, ptype: PType, parts: &Parts) -> bool {
+/// Whether patches have these parts.
+fn are(patches: &Patches, parts: &Parts) -> bool {
     has_spans(patches.indices(), parts.index_type, parts.indices)
-        && has_spans(patches.values(), ptype, parts.values)
+        && has_spans(patches.values(), parts.value_type, parts.values)
         && are_offsets(patches.chunk_offsets(), parts.offsets)
 }
 
-/// Whether there are patches, with these parts.
-fn has_parts(patches: &Option<Patches>, ptype: PType, parts: &Parts) -> bool {
+/// Whether there are patches with these parts, or none where there are to be none.
+fn has_parts(patches: &Option<Patches>, parts: Option<&Parts>) -> bool {
     match patches {
-        Some(patches) => are(patches, ptype, parts),
+        Some(patches) => match parts {
+            Some(parts) => are(patches, parts),
+            None => false,
+        },
+        None => parts.is_none(),
+    }
+}
+
+/// Whether the patches of a column at a width, with room for so many, have these parts.
+fn gathers(
+    alloc: Global,
+    array: &PrimitiveArray,
+    width: u8,
+    hint: usize,
+    parts: Option<&Parts>,
+) -> bool {
+    match gather_patches(alloc, array, width, hint) {
+        Ok(patches) => has_parts(&patches, parts),
+        Err(_) => false,
+    }
+}
+
+/// The same of what was made.
+fn keeps(column: Made, alloc: Global, width: u8, hint: usize, parts: Option<&Parts>) -> bool {
+    match column {
+        Ok(array) => gathers(alloc, &array, width, hint, parts),
+        Err(_) => false,
+    }
+}
+
+/// The patches of the ones and nulls at width 1: the last item.
+const LAST_ITEM: Parts = Parts {
+    index_type: PType::U8,
+    value_type: PType::U64,
+    indices: &[(1, Some(6))],
+    values: &[(1, Some(u64::MAX as i128))],
+    offsets: &[(1, Some(0))],
+};
+
+#[test]
+fn patches_keep_the_greatest_value(rt: HostRuntime) {
+    let last = Some(&LAST_ITEM);
+    assert!(rt; keeps(ones_and_nulls(rt.alloc()), rt.alloc(), 1, 0, last));
+    assert!(rt; keeps(ones_and_nulls(rt.alloc()), rt.alloc(), 1, usize::MAX, last));
+    assert!(rt; keeps(ones_and_nulls(rt.alloc()), rt.alloc(), 64, 0, None));
+}
+
+#[test]
+fn nulls_have_no_patches(rt: HostRuntime) {
+    assert!(rt; keeps(half_null(rt.alloc()), rt.alloc(), 4, 0, None));
+}
+
+/// Whether there are patches, each value of which may be null, or none of which may.
+fn has_validity(patches: &Option<Patches>, is_nullable: bool) -> bool {
+    match patches {
+        Some(patches) => match patches.values().validity() {
+            Validity::NonNullable => !is_nullable,
+            Validity::AllValid => is_nullable,
+            _ => false,
+        },
         None => false,
     }
 }
 
-/// Whether the last of the ones and nulls is the only patch at width 1, with room for so many.
-fn keeps_the_last(
-    alloc: Global,
-    array: &PrimitiveArray,
-    hint: usize,
-) -> Result<bool, FastLanesError> {
-    let patches = gather_patches(alloc, array, 1, hint)?;
-    let parts = Parts {
-        index_type: PType::U8,
-        indices: &[(1, Some(6))],
-        values: &[(1, Some(u64::MAX as i128))],
-        offsets: &[(1, Some(0))],
-    };
-    Ok(has_parts(&patches, PType::U64, &parts))
-}
-
-/// Whether a column has no patches at a width.
-fn has_none(alloc: Global, array: &PrimitiveArray, width: u8) -> Result<bool, FastLanesError> {
-    let patches = gather_patches(alloc, array, width, 0)?;
-    Ok(patches.is_none())
-}
-
-fn greatest_value_is_kept(alloc: Global, hint: usize) -> Result<bool, FastLanesError> {
-    let array = ones_and_nulls(alloc)?;
-    keeps_the_last(alloc, &array, hint)
-}
-
-fn full_width_needs_none(alloc: Global) -> Result<bool, FastLanesError> {
-    let array = ones_and_nulls(alloc)?;
-    has_none(alloc, &array, 64)
-}
-
-#[test]
-fn patches_keep_the_greatest_value(rt: HostRuntime) -> Result<(), Fail> {
-    assert!(rt; greatest_value_is_kept(rt.alloc(), 0)?);
-    assert!(rt; greatest_value_is_kept(rt.alloc(), usize::MAX)?);
-    assert!(rt; full_width_needs_none(rt.alloc())?);
-    Ok(())
-}
-
-fn nulls_need_none(alloc: Global) -> Result<bool, FastLanesError> {
-    let array = half_null(alloc)?;
-    has_none(alloc, &array, 4)
-}
-
-#[test]
-fn nulls_have_no_patches(rt: HostRuntime) -> Result<(), Fail> {
-    assert!(rt; nulls_need_none(rt.alloc())?);
-    Ok(())
-}
-
-/// The number of the validity of the values: 1 where none may be null, 2 where each may.
-fn validity_number(patches: &Option<Patches>) -> u8 {
-    match patches {
-        Some(patches) => match patches.values().validity() {
-            Validity::NonNullable => 1,
-            Validity::AllValid => 2,
-            _ => 3,
-        },
-        None => 0,
+/// The same of the patches of a column at width 1.
+fn gathers_validity(alloc: Global, array: &PrimitiveArray, is_nullable: bool) -> bool {
+    match gather_patches(alloc, array, 1, 0) {
+        Ok(patches) => has_validity(&patches, is_nullable),
+        Err(_) => false,
     }
 }
 
-/// The same of the patches of a column at width 1.
-fn validity_of_values(alloc: Global, array: &PrimitiveArray) -> Result<u8, FastLanesError> {
-    let patches = gather_patches(alloc, array, 1, 0)?;
-    Ok(validity_number(&patches))
-}
-
-fn validity_of_nullable_values(alloc: Global) -> Result<u8, FastLanesError> {
-    let array = ones_and_nulls(alloc)?;
-    validity_of_values(alloc, &array)
-}
-
-fn validity_of_solid_values(alloc: Global) -> Result<u8, FastLanesError> {
-    let array = solid(alloc, &[1u8, 2])?;
-    validity_of_values(alloc, &array)
+/// The same of what was made.
+fn keeps_validity(column: Made, alloc: Global, is_nullable: bool) -> bool {
+    match column {
+        Ok(array) => gathers_validity(alloc, &array, is_nullable),
+        Err(_) => false,
+    }
 }
 
 #[test]
-fn patch_values_may_be_null_where_items_may(rt: HostRuntime) -> Result<(), Fail> {
-    assert!(rt; validity_of_nullable_values(rt.alloc())? == 2);
-    assert!(rt; validity_of_solid_values(rt.alloc())? == 1);
-    Ok(())
+fn patch_values_may_be_null_where_items_may(rt: HostRuntime) {
+    assert!(rt; keeps_validity(ones_and_nulls(rt.alloc()), rt.alloc(), true));
+    assert!(rt; keeps_validity(solid(rt.alloc(), &[1u8, 2]), rt.alloc(), false));
 }
 
 /// 4096 items 0 but for 1048576 at four places.
-fn four_of_many(alloc: Global) -> Result<PrimitiveArray, FastLanesError> {
+fn four_of_many(alloc: Global) -> Made {
     let mut items = Vec::new(alloc);
     for i in 0..4096usize {
         let is_large = matches!(i, 100 | 200 | 3000 | 3100);
@@ -136,137 +131,120 @@ fn four_of_many(alloc: Global) -> Result<PrimitiveArray, FastLanesError> {
     PrimitiveArray::new(items, Validity::NonNullable)
 }
 
-fn keeps_four(alloc: Global, array: &PrimitiveArray) -> Result<bool, FastLanesError> {
-    let patches = gather_patches(alloc, array, 4, 4)?;
-    let parts = Parts {
-        index_type: PType::U16,
-        indices: &[
-            (1, Some(100)),
-            (1, Some(200)),
-            (1, Some(3000)),
-            (1, Some(3100)),
-        ],
-        values: &[(4, Some(1048576))],
-        offsets: &[(1, Some(0)), (2, Some(2)), (1, Some(3))],
-    };
-    Ok(has_parts(&patches, PType::U32, &parts))
-}
-
-fn four_are_kept(alloc: Global) -> Result<bool, FastLanesError> {
-    let array = four_of_many(alloc)?;
-    keeps_four(alloc, &array)
-}
+/// The patches of those items: the four.
+const FOUR_ITEMS: Parts = Parts {
+    index_type: PType::U16,
+    value_type: PType::U32,
+    indices: &[
+        (1, Some(100)),
+        (1, Some(200)),
+        (1, Some(3000)),
+        (1, Some(3100)),
+    ],
+    values: &[(4, Some(1048576))],
+    offsets: &[(1, Some(0)), (2, Some(2)), (1, Some(3))],
+};
 
 #[test]
-fn chunk_offsets_count_the_patches_before(rt: HostRuntime) -> Result<(), Fail> {
-    assert!(rt; four_are_kept(rt.alloc())?);
-    Ok(())
+fn chunk_offsets_count_the_patches_before(rt: HostRuntime) {
+    let four = Some(&FOUR_ITEMS);
+    assert!(rt; keeps(four_of_many(rt.alloc()), rt.alloc(), 4, 4, four));
 }
 
-/// Whether the patches of two blocks at widths 2 and 0 are the last item.
-fn keeps_the_last_block(alloc: Global, array: &PrimitiveArray) -> Result<bool, FastLanesError> {
-    if array.len().div_ceil(1024) != 2 {
-        return Ok(false);
-    }
-    let patches = gather_blocked_patches(alloc, array, &[2, 0], 1)?;
-    let parts = Parts {
-        index_type: PType::U16,
-        indices: &[(1, Some(1024))],
-        values: &[(1, Some(1000))],
-        offsets: &[(2, Some(0))],
-    };
-    Ok(has_parts(&patches, PType::U16, &parts))
-}
-
-fn last_block_is_kept(alloc: Global) -> Result<bool, FastLanesError> {
-    let array = two_blocks(alloc)?;
-    keeps_the_last_block(alloc, &array)
-}
-
-#[test]
-fn blocks_have_patches_by_their_widths(rt: HostRuntime) -> Result<(), Fail> {
-    assert!(rt; last_block_is_kept(rt.alloc())?);
-    Ok(())
-}
-
-/// Whether a column without items has no patches at no widths.
-fn has_none_without_blocks(alloc: Global, array: &PrimitiveArray) -> Result<bool, FastLanesError> {
-    if array.len() != 0 {
-        return Ok(false);
-    }
-    let patches = gather_blocked_patches(alloc, array, &[], 0)?;
-    Ok(patches.is_none())
-}
-
-fn no_items_need_none(alloc: Global) -> Result<bool, FastLanesError> {
-    let array = solid::<u32>(alloc, &[])?;
-    has_none_without_blocks(alloc, &array)
-}
-
-#[test]
-fn an_empty_column_has_no_patches(rt: HostRuntime) -> Result<(), Fail> {
-    assert!(rt; no_items_need_none(rt.alloc())?);
-    Ok(())
-}
-
-fn index_type(patches: &Option<Patches>) -> Option<PType> {
-    match patches {
-        Some(patches) => Some(patches.indices().ptype()),
-        None => None,
-    }
-}
-
-/// Whether the patches of a column at width 0 have this index type.
-fn has_index_type(
+/// Whether a column has a block for each of these widths, and its patches at them have these parts.
+fn gathers_by_block(
     alloc: Global,
     array: &PrimitiveArray,
-    ptype: PType,
-) -> Result<bool, FastLanesError> {
-    let patches = gather_patches(alloc, array, 0, array.len())?;
-    Ok(index_type(&patches) == Some(ptype))
+    widths: &[u8],
+    hint: usize,
+    parts: Option<&Parts>,
+) -> bool {
+    if array.len().div_ceil(1024) != widths.len() {
+        return false;
+    }
+    match gather_blocked_patches(alloc, array, widths, hint) {
+        Ok(patches) => has_parts(&patches, parts),
+        Err(_) => false,
+    }
+}
+
+/// The same of what was made.
+fn keeps_by_block(
+    column: Made,
+    alloc: Global,
+    widths: &[u8],
+    hint: usize,
+    parts: Option<&Parts>,
+) -> bool {
+    match column {
+        Ok(array) => gathers_by_block(alloc, &array, widths, hint, parts),
+        Err(_) => false,
+    }
+}
+
+/// The patches of two blocks at widths 2 and 0: the last item.
+const LAST_BLOCK: Parts = Parts {
+    index_type: PType::U16,
+    value_type: PType::U16,
+    indices: &[(1, Some(1024))],
+    values: &[(1, Some(1000))],
+    offsets: &[(2, Some(0))],
+};
+
+#[test]
+fn blocks_have_patches_by_their_widths(rt: HostRuntime) {
+    let last = Some(&LAST_BLOCK);
+    assert!(rt; keeps_by_block(two_blocks(rt.alloc()), rt.alloc(), &[2, 0], 1, last));
+}
+
+#[test]
+fn an_empty_column_has_no_patches(rt: HostRuntime) {
+    assert!(rt; keeps_by_block(solid::<u32>(rt.alloc(), &[]), rt.alloc(), &[], 0, None));
+}
+
+/// Whether there are patches, whose indices are of a type.
+fn has_index_type(patches: &Option<Patches>, ptype: PType) -> bool {
+    match patches {
+        Some(patches) => patches.indices().ptype() == ptype,
+        None => false,
+    }
+}
+
+/// The same of the patches of a column at width 0.
+fn gathers_indices(alloc: Global, array: &PrimitiveArray, ptype: PType) -> bool {
+    match gather_patches(alloc, array, 0, array.len()) {
+        Ok(patches) => has_index_type(&patches, ptype),
+        Err(_) => false,
+    }
 }
 
 /// The same of a column of one block at a width of its own.
-fn has_index_type_in_block(
-    alloc: Global,
-    array: &PrimitiveArray,
-    ptype: PType,
-) -> Result<bool, FastLanesError> {
+fn gathers_indices_in_block(alloc: Global, array: &PrimitiveArray, ptype: PType) -> bool {
     let len = array.len();
     if len.div_ceil(1024) != 1 {
-        return Ok(false);
+        return false;
     }
-    let patches = gather_blocked_patches(alloc, array, &[0], len)?;
-    Ok(index_type(&patches) == Some(ptype))
+    match gather_blocked_patches(alloc, array, &[0], len) {
+        Ok(patches) => has_index_type(&patches, ptype),
+        Err(_) => false,
+    }
 }
 
-fn has_index_types(
-    alloc: Global,
-    array: &PrimitiveArray,
-    global: PType,
-    blocked: PType,
-) -> Result<bool, FastLanesError> {
-    if !has_index_type(alloc, array, global)? {
-        return Ok(false);
+/// Whether the patches of a column of one block, at width 0, have these index types.
+fn has_index_types(column: Made, alloc: Global, global: PType, blocked: PType) -> bool {
+    match column {
+        Ok(array) => {
+            gathers_indices(alloc, &array, global)
+                && gathers_indices_in_block(alloc, &array, blocked)
+        }
+        Err(_) => false,
     }
-    has_index_type_in_block(alloc, array, blocked)
-}
-
-/// Whether the patches of so many bytes 1, at width 0, have these index types.
-fn ones_have_index_types(
-    alloc: Global,
-    len: usize,
-    global: PType,
-    blocked: PType,
-) -> Result<bool, FastLanesError> {
-    let array = copies(alloc, 1u8, len)?;
-    has_index_types(alloc, &array, global, blocked)
 }
 
 #[test]
-fn index_types_by_the_length(rt: HostRuntime) -> Result<(), Fail> {
-    assert!(rt; ones_have_index_types(rt.alloc(), 254, PType::U8, PType::U8)?);
-    assert!(rt; ones_have_index_types(rt.alloc(), 255, PType::U16, PType::U8)?);
-    assert!(rt; ones_have_index_types(rt.alloc(), 256, PType::U16, PType::U16)?);
-    Ok(())
+fn index_types_by_the_length(rt: HostRuntime) {
+    let (byte, word) = (PType::U8, PType::U16);
+    assert!(rt; has_index_types(copies(rt.alloc(), 1u8, 254), rt.alloc(), byte, byte));
+    assert!(rt; has_index_types(copies(rt.alloc(), 1u8, 255), rt.alloc(), word, byte));
+    assert!(rt; has_index_types(copies(rt.alloc(), 1u8, 256), rt.alloc(), word, word));
 }

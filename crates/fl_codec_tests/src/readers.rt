@@ -3,7 +3,7 @@
 ghost use Rattle.std.specs.Prelude.{◌≤◌};
 ghost use Rattle.fl_types.specs.Integers.{bits_of_type};
 
-use crate::packing::bytes_of_rising;
+use crate::packing::{Packed, bytes_of_rising};
 use fastlanes::{FL_CHUNK_SIZE, Work};
 use fl_packed::decoding::unpack_single_primitive;
 use fl_packed::unpack_iter::{
@@ -11,65 +11,58 @@ use fl_packed::unpack_iter::{
 };
 use fl_plain::PhysicalPType;
 use fl_types::*;
-use std::alloc::Global;
 use std::cell::Cell;
-use std::test::Fail;
 
 /// Whether a reader of 500 to 1499 writes them, and unpacks each of its two blocks once.
-fn reads_at_once(bytes: &[u8], items: &mut [u32; 1000]) -> Result<bool, FastLanesError> {
+fn reads_at_once(bytes: &[u8], items: &mut [u32; 1000]) -> bool {
     let mut scratch = [0u32; 1024];
-    let mut chunks = UnpackedChunks::try_new_with_strategy(
-        BitPackingStrategy,
-        bytes,
-        11,
-        500,
-        1000,
-        &mut scratch,
-    )?;
-    chunks.decode_into(items);
-    let blocks = chunks.work().blocks();
-    Ok(blocks == 2 && items[0] == 500 && items[523] == 1023 && items[999] == 1499)
+    let strategy = BitPackingStrategy;
+    match UnpackedChunks::try_new_with_strategy(strategy, bytes, 11, 500, 1000, &mut scratch) {
+        Ok(mut chunks) => {
+            chunks.decode_into(items);
+            let blocks = chunks.work().blocks();
+            blocks == 2 && items[0] == 500 && items[523] == 1023 && items[999] == 1499
+        }
+        Err(_) => false,
+    }
 }
 
-fn rising_items_are_read(alloc: Global) -> Result<bool, FastLanesError> {
-    let bytes = bytes_of_rising(alloc)?;
-    reads_at_once(&bytes, &mut [0; 1000])
+fn are_read(bytes: Packed) -> bool {
+    match bytes {
+        Ok(bytes) => reads_at_once(&bytes, &mut [0; 1000]),
+        Err(_) => false,
+    }
 }
 
 #[test]
-fn a_reader_writes_all_items(rt: HostRuntime) -> Result<(), Fail> {
-    assert!(rt; rising_items_are_read(rt.alloc())?);
-    Ok(())
+fn a_reader_writes_all_items(rt: HostRuntime) {
+    assert!(rt; are_read(bytes_of_rising(rt.alloc())));
 }
 
 /// Why bytes are no column of width 1, if they are none.
 fn refused(bytes: &[u8], offset: usize, len: usize) -> Option<FastLanesError> {
     let mut scratch = [0u8; 1024];
-    match UnpackedChunks::try_new_with_strategy(
-        BitPackingStrategy,
-        bytes,
-        1,
-        offset,
-        len,
-        &mut scratch,
-    ) {
+    let strategy = BitPackingStrategy;
+    match UnpackedChunks::try_new_with_strategy(strategy, bytes, 1, offset, len, &mut scratch) {
         Ok(_chunks) => None,
         Err(refusal) => Some(refusal),
     }
 }
 
+/// Offsets and lengths, and why 128 bytes are no column of these.
+const REFUSALS: &[(usize, usize, Option<FastLanesError>)] = &[
+    (1024, usize::MAX, Some(FastLanesError::OffsetTooLarge)),
+    (1, usize::MAX, Some(FastLanesError::LengthOverflow)),
+    (0, usize::MAX, Some(FastLanesError::LengthOverflow)),
+    (0, 1025, Some(FastLanesError::PackedLength)),
+    (1, 1023, None),
+];
+
 #[test]
-fn a_reader_is_refused(rt: HostRuntime) -> Result<(), Fail> {
-    let bytes = [0u8; 128];
-    let refusal = Some(FastLanesError::OffsetTooLarge);
-    assert!(rt; refused(&bytes, 1024, usize::MAX) == refusal);
-    let refusal = Some(FastLanesError::LengthOverflow);
-    assert!(rt; refused(&bytes, 1, usize::MAX) == refusal);
-    assert!(rt; refused(&bytes, 0, usize::MAX) == refusal);
-    let refusal = Some(FastLanesError::PackedLength);
-    assert!(rt; refused(&bytes, 0, 1025) == refusal);
-    assert!(rt; refused(&bytes, 1, 1023) == None);
-    Ok(())
+fn a_reader_is_refused(rt: HostRuntime) {
+    for (offset, len, refusal) in REFUSALS {
+        assert!(rt; refused(&[0; 128], *offset, *len) == *refusal);
+    }
 }
 
 /// Whether full bytes at width 1 are ones of a type, read alone and by a reader.
@@ -77,45 +70,41 @@ fn reads_ones<'a, T: BitPacked + PhysicalPType>(
     bytes: &'a [u8],
     scratch: &'a mut [T; 1024],
     items: &mut [T; 1024],
-) -> Result<bool, FastLanesError>
+) -> bool
     requires width { 1 ≤ bits_of_type T.PTYPE }
 {
     T::fits_in_memory();
     if bytes.len() != 128 {
-        return Ok(false);
+        return false;
     }
     let single: T = unpack_single_primitive(bytes, 1, 5);
-    let strategy = BitPackingStrategy;
-    let mut chunks = UnpackedChunks::try_new_with_strategy(strategy, bytes, 1, 0, 1024, scratch)?;
-    chunks.decode_into(items);
-    Ok(single.as_i128() == 1 && items[0].as_i128() == 1 && items[1023].as_i128() == 1)
+    match UnpackedChunks::try_new_with_strategy(BitPackingStrategy, bytes, 1, 0, 1024, scratch) {
+        Ok(mut chunks) => {
+            chunks.decode_into(items);
+            single.as_i128() == 1 && items[0].as_i128() == 1 && items[1023].as_i128() == 1
+        }
+        Err(_) => false,
+    }
 }
 
-fn unsigned_ones_are_read() -> Result<bool, FastLanesError> {
-    let bytes = [255u8; 128];
-    Ok(
-        reads_ones(&bytes, &mut [0u8; 1024], &mut [0; 1024])?
-            && reads_ones(&bytes, &mut [0u16; 1024], &mut [0; 1024])?
-            && reads_ones(&bytes, &mut [0u32; 1024], &mut [0; 1024])?
-            && reads_ones(&bytes, &mut [0u64; 1024], &mut [0; 1024])?,
-    )
+fn unsigned_ones_are_read(bytes: &[u8; 128]) -> bool {
+    reads_ones(bytes, &mut [0u8; 1024], &mut [0; 1024])
+        && reads_ones(bytes, &mut [0u16; 1024], &mut [0; 1024])
+        && reads_ones(bytes, &mut [0u32; 1024], &mut [0; 1024])
+        && reads_ones(bytes, &mut [0u64; 1024], &mut [0; 1024])
 }
 
-fn signed_ones_are_read() -> Result<bool, FastLanesError> {
-    let bytes = [255u8; 128];
-    Ok(
-        reads_ones(&bytes, &mut [0i8; 1024], &mut [0; 1024])?
-            && reads_ones(&bytes, &mut [0i16; 1024], &mut [0; 1024])?
-            && reads_ones(&bytes, &mut [0i32; 1024], &mut [0; 1024])?
-            && reads_ones(&bytes, &mut [0i64; 1024], &mut [0; 1024])?,
-    )
+fn signed_ones_are_read(bytes: &[u8; 128]) -> bool {
+    reads_ones(bytes, &mut [0i8; 1024], &mut [0; 1024])
+        && reads_ones(bytes, &mut [0i16; 1024], &mut [0; 1024])
+        && reads_ones(bytes, &mut [0i32; 1024], &mut [0; 1024])
+        && reads_ones(bytes, &mut [0i64; 1024], &mut [0; 1024])
 }
 
 #[test]
-fn ones_are_read_at_each_type(rt: HostRuntime) -> Result<(), Fail> {
-    assert!(rt; unsigned_ones_are_read()?);
-    assert!(rt; signed_ones_are_read()?);
-    Ok(())
+fn ones_are_read_at_each_type(rt: HostRuntime) {
+    assert!(rt; unsigned_ones_are_read(&[255; 128]));
+    assert!(rt; signed_ones_are_read(&[255; 128]));
 }
 
 /// A reader of bytes at width 1.
@@ -156,55 +145,51 @@ fn whole_count(chunks: &Chunks<'_>) -> usize {
     count
 }
 
-/// How many items the first block lends, how many whole blocks there are, and how many items the
-/// last block lends, at a second call too.
-fn parts_of(
-    bytes: &[u8],
-    offset: usize,
-    len: usize,
-) -> Result<(Option<usize>, usize, Option<usize>), FastLanesError> {
+/// How many items the first block lends, how many whole blocks there are, and how many items the last
+/// block lends.
+type Parts = (Option<usize>, usize, Option<usize>);
+
+fn parts_of(chunks: &mut Chunks<'_>) -> Parts {
+    let first = first_count(chunks);
+    let last = last_count(chunks);
+    (first, whole_count(chunks), last)
+}
+
+/// Whether a reader of bytes at width 1 has these parts, at a second call too.
+fn has_parts(bytes: &[u8], offset: usize, len: usize, parts: Parts) -> bool {
     let mut scratch = [0u8; 1024];
-    let mut chunks = UnpackedChunks::try_new_with_strategy(
-        BitPackingStrategy,
-        bytes,
-        1,
-        offset,
-        len,
-        &mut scratch,
-    )?;
-    let (first, last) = (first_count(&mut chunks), last_count(&mut chunks));
-    let whole = whole_count(&chunks);
-    if first_count(&mut chunks) != first || last_count(&mut chunks) != last {
-        return Err(FastLanesError::PackedLength);
+    let strategy = BitPackingStrategy;
+    match UnpackedChunks::try_new_with_strategy(strategy, bytes, 1, offset, len, &mut scratch) {
+        Ok(mut chunks) => parts_of(&mut chunks) == parts && parts_of(&mut chunks) == parts,
+        Err(_) => false,
     }
-    Ok((first, whole, last))
 }
 
-fn one_block_is_lent_once() -> Result<bool, FastLanesError> {
-    let bytes = [255u8; 128];
-    Ok(
-        parts_of(&bytes, 0, 1024)? == (Some(1024), 0, None)
-            && parts_of(&bytes, 500, 0)? == (Some(0), 0, None)
-            && parts_of(&bytes, 1, 3)? == (Some(3), 0, None),
-    )
+/// Whether so many full bytes, at most 384, have these parts.
+fn full_bytes_have(size: usize, offset: usize, len: usize, parts: Parts) -> bool {
+    if size > 384 {
+        return false;
+    }
+    has_parts(&[255; 384][..size], offset, len, parts)
 }
 
-fn blocks_are_lent_once() -> Result<bool, FastLanesError> {
-    let bytes = [255u8; 384];
-    Ok(
-        parts_of(&bytes[..256], 500, 1000)? == (Some(524), 0, Some(476))
-            && parts_of(&bytes, 0, 3072)? == (None, 3, None)
-            && parts_of(&bytes, 0, 2049)? == (None, 2, Some(1))
-            && parts_of(&bytes, 1, 3071)? == (Some(1023), 2, None),
-    )
-}
+/// How many full bytes there are, an offset, a length, and the parts of these.
+const PARTS: &[(usize, usize, usize, Parts)] = &[
+    (0, 0, 0, (None, 0, None)),
+    (128, 0, 1024, (Some(1024), 0, None)),
+    (128, 500, 0, (Some(0), 0, None)),
+    (128, 1, 3, (Some(3), 0, None)),
+    (256, 500, 1000, (Some(524), 0, Some(476))),
+    (384, 0, 3072, (None, 3, None)),
+    (384, 0, 2049, (None, 2, Some(1))),
+    (384, 1, 3071, (Some(1023), 2, None)),
+];
 
 #[test]
-fn parts_lend_each_item_once(rt: HostRuntime) -> Result<(), Fail> {
-    assert!(rt; parts_of(&[], 0, 0)? == (None, 0, None));
-    assert!(rt; one_block_is_lent_once()?);
-    assert!(rt; blocks_are_lent_once()?);
-    Ok(())
+fn parts_lend_each_item_once(rt: HostRuntime) {
+    for (size, offset, len, parts) in PARTS {
+        assert!(rt; full_bytes_have(*size, *offset, *len, *parts));
+    }
 }
 
 /// Unpacks by the layout, and counts its calls.
@@ -226,32 +211,28 @@ impl UnpackStrategy<u8> for CountingStrategy<'_> {
     }
 }
 
-/// How often a reader of two cut blocks has called its strategy after it wrote all items, after it
-/// lent those of the first block, and after it lent those of the last one.
-fn calls_of(
+/// Whether a reader of two cut blocks has called its strategy twice after it wrote all items, once more
+/// after it lent those of the first block, and once more after it lent those of the last one.
+fn calls_its_strategy(
     calls: &Cell<usize>,
     scratch: &mut [u8; 1024],
     items: &mut [u8; 1000],
-) -> Result<(usize, usize, usize), FastLanesError> {
+) -> bool {
     let strategy = CountingStrategy { calls };
-    let bytes = [255u8; 256];
-    let mut chunks = UnpackedChunks::try_new_with_strategy(
-        strategy, &bytes, 1, 500, 1000, scratch,
-    )?;
-    chunks.decode_into(items);
-    let all = calls.get();
-    let _first = chunks.initial();
-    let first = calls.get();
-    let _last = chunks.trailer();
-    Ok((all, first, calls.get()))
-}
-
-fn strategy_unpacks_each_block() -> Result<bool, FastLanesError> {
-    Ok(calls_of(&Cell::new(0), &mut [0; 1024], &mut [0; 1000])? == (2, 3, 4))
+    match UnpackedChunks::try_new_with_strategy(strategy, &[255; 256], 1, 500, 1000, scratch) {
+        Ok(mut chunks) => {
+            chunks.decode_into(items);
+            let all = calls.get();
+            let _first = chunks.initial();
+            let first = calls.get();
+            let _last = chunks.trailer();
+            all == 2 && first == 3 && calls.get() == 4
+        }
+        Err(_) => false,
+    }
 }
 
 #[test]
-fn a_reader_unpacks_by_its_strategy(rt: HostRuntime) -> Result<(), Fail> {
-    assert!(rt; strategy_unpacks_each_block()?);
-    Ok(())
+fn a_reader_unpacks_by_its_strategy(rt: HostRuntime) {
+    assert!(rt; calls_its_strategy(&Cell::new(0), &mut [0; 1024], &mut [0; 1000]));
 }

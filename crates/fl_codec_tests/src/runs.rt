@@ -1,12 +1,11 @@
 //! Runs by example.
 
-use crate::columns::{Span, copies, has_spans, one_valid, solid};
+use crate::columns::{Made, Span, copies, has_spans, one_valid, solid};
 use crate::decoders::{part_by_runs, runs_show, unrolled};
 use fl_codec::runs::{self, Runs};
 use fl_plain::PrimitiveArray;
 use fl_types::*;
 use std::alloc::Global;
-use std::test::Fail;
 
 /// The run values, the indices and the run offsets of a column.
 #[derive(Clone, Copy)]
@@ -24,142 +23,131 @@ fn are(runs: &Runs, ptype: PType, parts: &Parts) -> bool {
 }
 
 /// Whether the runs of a column have these parts.
-fn has_parts(alloc: Global, array: &PrimitiveArray, parts: &Parts) -> Result<bool, FastLanesError> {
-    let runs = runs::encode(alloc, array)?;
-    Ok(are(&runs, array.ptype(), parts))
+fn has_parts(alloc: Global, array: &PrimitiveArray, parts: &Parts) -> bool {
+    match runs::encode(alloc, array) {
+        Ok(runs) => are(&runs, array.ptype(), parts),
+        Err(_) => false,
+    }
 }
 
 /// Whether the runs of a column have these parts, and show it again.
-fn is_kept(alloc: Global, array: &PrimitiveArray, parts: &Parts) -> Result<bool, FastLanesError> {
-    if !has_parts(alloc, array, parts)? {
-        return Ok(false);
+fn keeps(column: Made, alloc: Global, parts: &Parts) -> bool {
+    match column {
+        Ok(array) => has_parts(alloc, &array, parts) && runs_show(alloc, &array),
+        Err(_) => false,
     }
-    runs_show(alloc, array)
 }
 
-fn one_valid_is_kept(alloc: Global) -> Result<bool, FastLanesError> {
-    let array = one_valid(alloc)?;
-    let parts = Parts {
-        values: &[(1, Some(0)), (1, Some(42)), (1, Some(0))],
-        indices: &[(1023, None), (1, Some(1)), (1024, None)],
-        offsets: &[(1, Some(0)), (1, Some(2))],
-    };
-    is_kept(alloc, &array, &parts)
-}
+const ONE_VALID: Parts<'_> = Parts {
+    values: &[(1, Some(0)), (1, Some(42)), (1, Some(0))],
+    indices: &[(1023, None), (1, Some(1)), (1024, None)],
+    offsets: &[(1, Some(0)), (1, Some(2))],
+};
 
 #[test]
-fn one_item_among_nulls(rt: HostRuntime) -> Result<(), Fail> {
-    assert!(rt; one_valid_is_kept(rt.alloc())?);
-    Ok(())
+fn one_item_among_nulls(rt: HostRuntime) {
+    assert!(rt; keeps(one_valid(rt.alloc()), rt.alloc(), &ONE_VALID));
 }
 
-/// Whether these are 1024 indices, of which those from `start` on are stored as this one.
-fn stores_from(indices: &PrimitiveArray, start: usize, index: u16) -> bool {
-    match indices.ptype() {
-        PType::U16 => {
-            let slots = indices.as_slice::<u16>();
-            if slots.len() != 1024 {
-                return false;
-            }
-            for i in start..1024 {
-                if slots[i] != index {
-                    return false;
-                }
-            }
-            true
+/// Whether these are 1024 slots, of which those from `start` on are this index.
+fn are_from(slots: &[u16], start: usize, index: u16) -> bool {
+    if slots.len() != 1024 {
+        return false;
+    }
+    for i in start..1024 {
+        if slots[i] != index {
+            return false;
         }
-        _ => false,
+    }
+    true
+}
+
+/// Whether indices are stored as 1 from position 2 on.
+fn stores_ones(indices: &PrimitiveArray) -> bool {
+    indices.ptype() == PType::U16 && are_from(indices.as_slice::<u16>(), 2, 1)
+}
+
+/// Whether the indices of a column are stored so.
+fn has_stored_ones(column: Made, alloc: Global) -> bool {
+    match column {
+        Ok(array) => match runs::encode(alloc, &array) {
+            Ok(runs) => stores_ones(&runs.indices),
+            Err(_) => false,
+        },
+        Err(_) => false,
     }
 }
 
-/// Whether the indices of a column are stored as 1 from position 2 on.
-fn stores_ones(alloc: Global, array: &PrimitiveArray) -> Result<bool, FastLanesError> {
-    let runs = runs::encode(alloc, array)?;
-    Ok(stores_from(&runs.indices, 2, 1))
+/// 5, 5, 7, a null and 7.
+fn five_items(alloc: Global) -> Made {
+    PrimitiveArray::from_options(alloc, &[Some(5u8), Some(5), Some(7), None, Some(7)])
 }
 
-fn keeps_five_items(alloc: Global, array: &PrimitiveArray) -> Result<bool, FastLanesError> {
-    if !stores_ones(alloc, array)? {
-        return Ok(false);
-    }
-    let (zero, one) = (Some(0), Some(1));
-    let parts = Parts {
-        values: &[(1, Some(5)), (1, Some(7))],
-        indices: &[(2, zero), (1, one), (1, None), (1, one), (1019, None)],
-        offsets: &[(1, zero)],
-    };
-    is_kept(alloc, array, &parts)
-}
-
-fn five_items_are_kept(alloc: Global) -> Result<bool, FastLanesError> {
-    let items = [Some(5u8), Some(5), Some(7), None, Some(7)];
-    let array = PrimitiveArray::from_options(alloc, &items)?;
-    keeps_five_items(alloc, &array)
-}
+const FIVE_ITEMS: Parts<'_> = Parts {
+    values: &[(1, Some(5)), (1, Some(7))],
+    indices: &[
+        (2, Some(0)),
+        (1, Some(1)),
+        (1, None),
+        (1, Some(1)),
+        (1019, None),
+    ],
+    offsets: &[(1, Some(0))],
+};
 
 #[test]
-fn runs_of_a_short_chunk(rt: HostRuntime) -> Result<(), Fail> {
-    assert!(rt; five_items_are_kept(rt.alloc())?);
-    Ok(())
+fn runs_of_a_short_chunk(rt: HostRuntime) {
+    assert!(rt; has_stored_ones(five_items(rt.alloc()), rt.alloc()));
+    assert!(rt; keeps(five_items(rt.alloc()), rt.alloc(), &FIVE_ITEMS));
+}
+
+/// Whether what was made is of a type, and is these spans.
+fn are_spans(column: Made, ptype: PType, spans: &[Span]) -> bool {
+    match column {
+        Ok(array) => has_spans(&array, ptype, spans),
+        Err(_) => false,
+    }
 }
 
 /// Whether so many items of a column from the offset on, which its runs show, are these spans.
-fn shows(
-    alloc: Global,
-    array: &PrimitiveArray,
-    offset: usize,
-    len: usize,
-    spans: &[Span],
-) -> Result<bool, FastLanesError> {
-    let part = part_by_runs(alloc, array, offset, len)?;
-    Ok(has_spans(&part, array.ptype(), spans))
-}
-
-fn keeps_fours(alloc: Global, array: &PrimitiveArray) -> Result<bool, FastLanesError> {
-    if !shows(alloc, array, 1023, 2, &[(2, Some(4))])? {
-        return Ok(false);
+fn shows(column: Made, alloc: Global, offset: usize, len: usize, spans: &[Span]) -> bool {
+    match column {
+        Ok(array) => are_spans(
+            part_by_runs(alloc, &array, offset, len),
+            array.ptype(),
+            spans,
+        ),
+        Err(_) => false,
     }
-    let parts = Parts {
-        values: &[(2, Some(4))],
-        indices: &[(2048, Some(0))],
-        offsets: &[(1, Some(0)), (1, Some(1))],
-    };
-    is_kept(alloc, array, &parts)
 }
 
-fn fours_are_kept(alloc: Global) -> Result<bool, FastLanesError> {
-    let array = copies(alloc, 4u8, 1025)?;
-    keeps_fours(alloc, &array)
-}
+const FOURS: Parts<'_> = Parts {
+    values: &[(2, Some(4))],
+    indices: &[(2048, Some(0))],
+    offsets: &[(1, Some(0)), (1, Some(1))],
+};
 
 #[test]
-fn each_chunk_has_run_values_of_its_own(rt: HostRuntime) -> Result<(), Fail> {
-    assert!(rt; fours_are_kept(rt.alloc())?);
-    Ok(())
+fn each_chunk_has_run_values_of_its_own(rt: HostRuntime) {
+    let fours = copies(rt.alloc(), 4u8, 1025);
+    assert!(rt; shows(fours, rt.alloc(), 1023, 2, &[(2, Some(4))]));
+    assert!(rt; keeps(copies(rt.alloc(), 4u8, 1025), rt.alloc(), &FOURS));
 }
 
-fn no_items_are_kept(alloc: Global) -> Result<bool, FastLanesError> {
-    let array = PrimitiveArray::from_options::<i64>(alloc, &[])?;
-    let parts = Parts {
-        values: &[],
-        indices: &[],
-        offsets: &[],
-    };
-    is_kept(alloc, &array, &parts)
-}
+const NOTHING: Parts<'_> = Parts {
+    values: &[],
+    indices: &[],
+    offsets: &[],
+};
 
 #[test]
-fn an_empty_column_has_no_runs(rt: HostRuntime) -> Result<(), Fail> {
-    assert!(rt; no_items_are_kept(rt.alloc())?);
-    Ok(())
+fn an_empty_column_has_no_runs(rt: HostRuntime) {
+    let empty = PrimitiveArray::from_options::<i64>(rt.alloc(), &[]);
+    assert!(rt; keeps(empty, rt.alloc(), &NOTHING));
 }
 
 /// 1024 indices 0 and 1 in turn, but for the one at `at`, which is 999, and null if it is to be.
-fn indices_in_turn(
-    alloc: Global,
-    at: usize,
-    is_null: bool,
-) -> Result<PrimitiveArray, FastLanesError> {
+fn indices_in_turn(alloc: Global, at: usize, is_null: bool) -> Made {
     let mut slots = Vec::new(alloc);
     let mut bits = BitList::new(alloc);
     for i in 0..1024usize {
@@ -169,34 +157,43 @@ fn indices_in_turn(
     PrimitiveArray::new(slots, Validity::Array(bits))
 }
 
-/// The column that indices, run values and run offsets show from an offset on and of a length, or why
-/// there is none.
+/// The column of indices, run values and run offsets from an offset on and of a length, or why there
+/// is none.
 fn column_of(
+    indices: Made,
     alloc: Global,
-    indices: &PrimitiveArray,
     values: &[u32],
     offsets: &[u64],
     part: (usize, usize),
-) -> Result<PrimitiveArray, FastLanesError> {
+) -> Made {
+    let indices = indices?;
     let values = solid(alloc, values)?;
-    column_of_values(alloc, indices, &values, offsets, part)
+    column_of_values(&indices, alloc, &values, offsets, part)
 }
 
 fn column_of_values(
-    alloc: Global,
     indices: &PrimitiveArray,
+    alloc: Global,
     values: &PrimitiveArray,
     offsets: &[u64],
     part: (usize, usize),
-) -> Result<PrimitiveArray, FastLanesError> {
+) -> Made {
     let offsets = solid(alloc, offsets)?;
     unrolled(alloc, values, indices, &offsets, part.0, part.1)
 }
 
+/// Whether there are so many items, at even and at odd positions these, but for a null at `null`.
+fn takes_turns(column: Made, len: usize, items: (u32, u32), null: usize) -> bool {
+    match column {
+        Ok(array) => array.len() == len && are_in_turn(&array, items, null),
+        Err(_) => false,
+    }
+}
+
 /// Whether the items at even and at odd positions are these, but for a null at `null`.
-fn takes_turns(array: &PrimitiveArray, even: u32, odd: u32, null: usize) -> bool {
+fn are_in_turn(array: &PrimitiveArray, items: (u32, u32), null: usize) -> bool {
     for i in 0..array.len() {
-        let item = PValue::U32(if i % 2 == 0 { even } else { odd });
+        let item = PValue::U32(if i % 2 == 0 { items.0 } else { items.1 });
         if array.get(i) != (if i == null { None } else { Some(item) }) {
             return false;
         }
@@ -204,69 +201,88 @@ fn takes_turns(array: &PrimitiveArray, even: u32, odd: u32, null: usize) -> bool
     true
 }
 
-fn tolerates_a_null_index(alloc: Global, indices: &PrimitiveArray) -> Result<bool, FastLanesError> {
-    let column = column_of(alloc, indices, &[10, 20], &[0], (0, 1024))?;
-    Ok(column.len() == 1024 && takes_turns(&column, 10, 20, 100))
-}
-
-fn a_null_index_is_tolerated(alloc: Global) -> Result<bool, FastLanesError> {
-    let indices = indices_in_turn(alloc, 100, true)?;
-    tolerates_a_null_index(alloc, &indices)
-}
-
 #[test]
-fn test_decode_tolerates_garbage_index_at_null_position(rt: HostRuntime) -> Result<(), Fail> {
-    assert!(rt; a_null_index_is_tolerated(rt.alloc())?);
-    Ok(())
+fn test_decode_tolerates_garbage_index_at_null_position(rt: HostRuntime) {
+    let indices = indices_in_turn(rt.alloc(), 100, true);
+    let column = column_of(indices, rt.alloc(), &[10, 20], &[0], (0, 1024));
+    assert!(rt; takes_turns(column, 1024, (10, 20), 100));
 }
 
-/// Whether run offsets that don't begin with 0 count from the first one on.
-fn counts_from_the_first(alloc: Global, indices: &PrimitiveArray) -> Result<bool, FastLanesError> {
-    let column = column_of(alloc, indices, &[10, 20], &[7], (1, 1023))?;
-    Ok(column.len() == 1023 && takes_turns(&column, 20, 10, 2000))
-}
-
-fn offsets_count_from_the_first(alloc: Global) -> Result<bool, FastLanesError> {
-    let indices = indices_in_turn(alloc, 2000, false)?;
-    counts_from_the_first(alloc, &indices)
-}
-
+/// Run offsets that don't begin with 0 count from the first one on.
 #[test]
-fn test_decode_in_bounds_indices_roundtrip(rt: HostRuntime) -> Result<(), Fail> {
-    assert!(rt; offsets_count_from_the_first(rt.alloc())?);
-    Ok(())
+fn test_decode_in_bounds_indices_roundtrip(rt: HostRuntime) {
+    let indices = indices_in_turn(rt.alloc(), 2000, false);
+    let column = column_of(indices, rt.alloc(), &[10, 20], &[7], (1, 1023));
+    assert!(rt; takes_turns(column, 1023, (20, 10), 2000));
 }
 
-/// Whether indices in turn but for one of 999 are no runs with these run values and run offsets.
-fn are_refused(
-    alloc: Global,
+/// Parts that are no runs, and why.
+#[derive(Clone, Copy)]
+struct Wrong<'a> {
     at: usize,
-    values: &[u32],
-    offsets: &[u64],
+    values: &'a [u32],
+    offsets: &'a [u64],
     part: (usize, usize),
     refusal: FastLanesError,
-) -> Result<bool, FastLanesError> {
-    let indices = indices_in_turn(alloc, at, false)?;
-    match column_of(alloc, &indices, values, offsets, part) {
-        Err(error) if error.number() == refusal.number() => Ok(true),
-        Err(error) => Err(error),
-        Ok(_) => Ok(false),
+}
+
+const WRONG: &[Wrong<'_>] = &[
+    Wrong {
+        at: 2000,
+        values: &[10, 20],
+        offsets: &[0],
+        part: (1024, 0),
+        refusal: FastLanesError::OffsetTooLarge,
+    },
+    Wrong {
+        at: 2000,
+        values: &[10, 20],
+        offsets: &[0],
+        part: (1, 1024),
+        refusal: FastLanesError::RangeBeyondChild,
+    },
+    Wrong {
+        at: 2000,
+        values: &[10, 20],
+        offsets: &[0],
+        part: (1, usize::MAX),
+        refusal: FastLanesError::RangeBeyondChild,
+    },
+    Wrong {
+        at: 100,
+        values: &[10, 20],
+        offsets: &[0],
+        part: (0, 1),
+        refusal: FastLanesError::RunIndex,
+    },
+    Wrong {
+        at: 2000,
+        values: &[],
+        offsets: &[0],
+        part: (0, 1),
+        refusal: FastLanesError::RunOffsets,
+    },
+    Wrong {
+        at: 2000,
+        values: &[10, 20],
+        offsets: &[0, 1],
+        part: (0, 1),
+        refusal: FastLanesError::BlockOffsetsCount,
+    },
+];
+
+/// Whether indices in turn but for one of 999 are no runs with these run values and run offsets.
+fn are_refused(alloc: Global, wrong: &Wrong) -> bool {
+    let indices = indices_in_turn(alloc, wrong.at, false);
+    match column_of(indices, alloc, wrong.values, wrong.offsets, wrong.part) {
+        Err(error) => error == wrong.refusal,
+        Ok(_) => false,
     }
 }
 
 #[test]
-fn parts_that_are_no_runs(rt: HostRuntime) -> Result<(), Fail> {
-    let two = [10, 20];
-    let refusal = FastLanesError::OffsetTooLarge;
-    assert!(rt; are_refused(rt.alloc(), 2000, &two, &[0], (1024, 0), refusal)?);
-    let refusal = FastLanesError::RangeBeyondChild;
-    assert!(rt; are_refused(rt.alloc(), 2000, &two, &[0], (1, 1024), refusal)?);
-    assert!(rt; are_refused(rt.alloc(), 2000, &two, &[0], (1, usize::MAX), refusal)?);
-    let refusal = FastLanesError::RunIndex;
-    assert!(rt; are_refused(rt.alloc(), 100, &two, &[0], (0, 1), refusal)?);
-    let refusal = FastLanesError::RunOffsets;
-    assert!(rt; are_refused(rt.alloc(), 2000, &[], &[0], (0, 1), refusal)?);
-    let refusal = FastLanesError::BlockOffsetsCount;
-    assert!(rt; are_refused(rt.alloc(), 2000, &two, &[0, 1], (0, 1), refusal)?);
-    Ok(())
+fn parts_that_are_no_runs(rt: HostRuntime) {
+    for wrong in WRONG {
+        assert!(rt; are_refused(rt.alloc(), wrong));
+    }
 }

@@ -1,81 +1,73 @@
 //! Histograms, widths and exceptions by example.
 
-use crate::columns::{copies, half_null, solid, two_blocks};
+use crate::columns::{Made, copies, half_null, solid, two_blocks};
 use fl_plain::PrimitiveArray;
 use fl_types::*;
 use fl_widths::*;
 use std::alloc::Global;
-use std::test::Fail;
 
-#[test]
-fn best_bit_width(rt: HostRuntime) -> Result<(), Fail> {
-    let histogram = [0, 10, 20, 15, 1, 0, 0, 0];
-    assert!(rt; find_best_bit_width(PType::U8, &histogram)? == 3);
-    assert!(rt; find_best_bit_width(PType::I64, &[])? == 0);
-    let native = [0, 0, 0, 0, 0, 0, 0, 0, 100];
-    assert!(rt; find_best_bit_width(PType::U8, &native)? == 8);
-    Ok(())
-}
-
-/// The best width of a whole column.
-fn best_of(alloc: Global, array: &PrimitiveArray) -> Result<u8, FastLanesError> {
-    let histogram = bit_width_histogram(alloc, array)?;
-    find_best_bit_width(array.ptype(), &histogram)
-}
-
-fn best_of_full_bytes(alloc: Global) -> Result<u8, FastLanesError> {
-    let array = copies(alloc, 255u8, 100)?;
-    best_of(alloc, &array)
-}
-
-#[test]
-fn full_bytes_take_8_bits(rt: HostRuntime) -> Result<(), Fail> {
-    assert!(rt; best_of_full_bytes(rt.alloc())? == 8);
-    Ok(())
-}
-
-/// The best width of so many entries 0, or `None` where they are too many.
-fn best_of_zeros(alloc: Global, entries: usize) -> Result<Option<u8>, FastLanesError> {
-    let histogram = vec![in alloc; 0usize; entries]?;
-    match find_best_bit_width(PType::U8, &histogram) {
-        Ok(width) => Ok(Some(width)),
-        Err(FastLanesError::TooManyWidths) => Ok(None),
-        Err(error) => Err(error),
+/// Whether the best width of a histogram is this one, or there is none where its entries are too many.
+pub(crate) fn is_best(ptype: PType, histogram: &[usize], best: Option<u8>) -> bool {
+    match find_best_bit_width(ptype, histogram) {
+        Ok(width) => best == Some(width),
+        Err(FastLanesError::TooManyWidths) => best.is_none(),
+        Err(_) => false,
     }
 }
 
 #[test]
-fn refuses_too_many_widths(rt: HostRuntime) -> Result<(), Fail> {
-    assert!(rt; best_of_zeros(rt.alloc(), 255)? == Some(0));
-    assert!(rt; best_of_zeros(rt.alloc(), 256)? == None);
-    Ok(())
+fn best_bit_width(rt: HostRuntime) {
+    assert!(rt; is_best(PType::U8, &[0, 10, 20, 15, 1, 0, 0, 0], Some(3)));
+    assert!(rt; is_best(PType::I64, &[], Some(0)));
+    assert!(rt; is_best(PType::U8, &[0, 0, 0, 0, 0, 0, 0, 0, 100], Some(8)));
+}
+
+/// Whether the best width of a whole column is this one.
+fn has_best(alloc: Global, array: &PrimitiveArray, best: u8) -> bool {
+    match bit_width_histogram(alloc, array) {
+        Ok(histogram) => is_best(array.ptype(), &histogram, Some(best)),
+        Err(_) => false,
+    }
+}
+
+/// The same of what was made.
+fn takes(column: Made, alloc: Global, best: u8) -> bool {
+    match column {
+        Ok(array) => has_best(alloc, &array, best),
+        Err(_) => false,
+    }
 }
 
 #[test]
-fn costs_are_counted_in_128_bits(rt: HostRuntime) -> Result<(), Fail> {
-    let large = [0, usize::MAX, usize::MAX, 1];
-    assert!(rt; find_best_bit_width(PType::U64, &large)? == 2);
-    Ok(())
+fn full_bytes_take_8_bits(rt: HostRuntime) {
+    assert!(rt; takes(copies(rt.alloc(), 255u8, 100), rt.alloc(), 8));
+}
+
+/// Whether the best width of so many entries 0 is this one, or there is none where they are too many.
+fn is_best_of_zeros(alloc: Global, entries: usize, best: Option<u8>) -> bool {
+    match vec![in alloc; 0usize; entries] {
+        Ok(histogram) => is_best(PType::U8, &histogram, best),
+        Err(_) => false,
+    }
 }
 
 #[test]
-fn exceptions_are_those_above_a_width(rt: HostRuntime) -> Result<(), Fail> {
+fn refuses_too_many_widths(rt: HostRuntime) {
+    assert!(rt; is_best_of_zeros(rt.alloc(), 255, Some(0)));
+    assert!(rt; is_best_of_zeros(rt.alloc(), 256, None));
+}
+
+#[test]
+fn costs_are_counted_in_128_bits(rt: HostRuntime) {
+    assert!(rt; is_best(PType::U64, &[0, usize::MAX, usize::MAX, 1], Some(2)));
+}
+
+#[test]
+fn exceptions_are_those_above_a_width(rt: HostRuntime) {
     let histogram = [0, 10, 20, 15, 1];
     assert!(rt; count_exceptions(2, &histogram) == 16);
     assert!(rt; count_exceptions(4, &histogram) == 0);
     assert!(rt; count_exceptions(200, &histogram) == 0);
-    Ok(())
-}
-
-/// Whether the histogram of a column has so many entries, these and then 0.
-fn has_entries(
-    alloc: Global,
-    array: &PrimitiveArray,
-    len: usize,
-    head: &[usize],
-) -> Result<bool, FastLanesError> {
-    let histogram = bit_width_histogram(alloc, array)?;
-    Ok(are_entries(&histogram, len, head))
 }
 
 /// Whether there are so many entries, these and then 0.
@@ -88,75 +80,91 @@ fn are_entries(entries: &[usize], len: usize, head: &[usize]) -> bool {
     entries.len() == len
 }
 
-fn nulls_count_as_width_0(alloc: Global) -> Result<bool, FastLanesError> {
-    let array = half_null(alloc)?;
-    has_entries(alloc, &array, 33, &[9, 1, 2, 4, 8])
-}
-
-#[test]
-fn null_patches(rt: HostRuntime) -> Result<(), Fail> {
-    assert!(rt; nulls_count_as_width_0(rt.alloc())?);
-    Ok(())
-}
-
-/// Whether the blocks of an array have these best widths, which leave so many exceptions.
-fn has_widths(
-    alloc: Global,
-    array: &PrimitiveArray,
-    widths: &[u8],
-    exceptions: usize,
-) -> Result<bool, FastLanesError> {
-    let (best, count) = find_best_bit_widths(alloc, array)?;
-    Ok(count == exceptions && best.as_slice() == widths)
-}
-
-fn two_blocks_have_widths(alloc: Global) -> Result<bool, FastLanesError> {
-    let array = two_blocks(alloc)?;
-    has_widths(alloc, &array, &[2, 0], 1)
-}
-
-#[test]
-fn best_bit_widths(rt: HostRuntime) -> Result<(), Fail> {
-    assert!(rt; two_blocks_have_widths(rt.alloc())?);
-    Ok(())
-}
-
-fn no_items_have_no_widths(alloc: Global) -> Result<bool, FastLanesError> {
-    let array = solid::<u32>(alloc, &[])?;
-    has_widths(alloc, &array, &[], 0)
-}
-
-#[test]
-fn an_empty_column_has_no_widths(rt: HostRuntime) -> Result<(), Fail> {
-    assert!(rt; no_items_have_no_widths(rt.alloc())?);
-    Ok(())
-}
-
-/// Whether an array has no best widths for a negative item.
-fn is_refused(alloc: Global, array: &PrimitiveArray) -> Result<bool, FastLanesError> {
-    match find_best_bit_widths(alloc, array) {
-        Err(FastLanesError::NegativeValue) => Ok(true),
-        Err(error) => Err(error),
-        Ok(_) => Ok(false),
+/// The same of the histogram of a column.
+fn has_entries(alloc: Global, array: &PrimitiveArray, len: usize, head: &[usize]) -> bool {
+    match bit_width_histogram(alloc, array) {
+        Ok(histogram) => are_entries(&histogram, len, head),
+        Err(_) => false,
     }
 }
 
-fn are_refused(alloc: Global, items: &[Option<i16>]) -> Result<bool, FastLanesError> {
-    let array = PrimitiveArray::from_options(alloc, items)?;
-    is_refused(alloc, &array)
-}
-
-/// The same of -1 and -2 that are stored under nulls.
-fn nulls_are_refused(alloc: Global) -> Result<bool, FastLanesError> {
-    let items = Vec::from_slice(alloc, &[-1i16, -2])?;
-    let array = PrimitiveArray::new(items, Validity::AllInvalid)?;
-    is_refused(alloc, &array)
+/// The same of what was made.
+fn counts(column: Made, alloc: Global, len: usize, head: &[usize]) -> bool {
+    match column {
+        Ok(array) => has_entries(alloc, &array, len, head),
+        Err(_) => false,
+    }
 }
 
 #[test]
-fn negative_items_have_no_widths(rt: HostRuntime) -> Result<(), Fail> {
-    assert!(rt; are_refused(rt.alloc(), &[Some(1), Some(-1)])?);
-    assert!(rt; !are_refused(rt.alloc(), &[Some(1), None])?);
-    assert!(rt; !nulls_are_refused(rt.alloc())?);
-    Ok(())
+fn null_patches(rt: HostRuntime) {
+    assert!(rt; counts(half_null(rt.alloc()), rt.alloc(), 33, &[9, 1, 2, 4, 8]));
+}
+
+/// Whether the blocks of an array have these best widths, which leave so many exceptions.
+fn has_widths(alloc: Global, array: &PrimitiveArray, widths: &[u8], exceptions: usize) -> bool {
+    match find_best_bit_widths(alloc, array) {
+        Ok((best, count)) => count == exceptions && best.as_slice() == widths,
+        Err(_) => false,
+    }
+}
+
+/// The same of what was made.
+fn chooses(column: Made, alloc: Global, widths: &[u8], exceptions: usize) -> bool {
+    match column {
+        Ok(array) => has_widths(alloc, &array, widths, exceptions),
+        Err(_) => false,
+    }
+}
+
+#[test]
+fn best_bit_widths(rt: HostRuntime) {
+    assert!(rt; chooses(two_blocks(rt.alloc()), rt.alloc(), &[2, 0], 1));
+}
+
+#[test]
+fn an_empty_column_has_no_widths(rt: HostRuntime) {
+    assert!(rt; chooses(solid::<u32>(rt.alloc(), &[]), rt.alloc(), &[], 0));
+}
+
+/// Whether an array has no best widths for a negative item, or has some if it is not to be refused.
+fn is_refused(alloc: Global, array: &PrimitiveArray, refused: bool) -> bool {
+    match find_best_bit_widths(alloc, array) {
+        Ok(_) => !refused,
+        Err(FastLanesError::NegativeValue) => refused,
+        Err(_) => false,
+    }
+}
+
+/// The same of what was made.
+fn refuses(column: Made, alloc: Global, refused: bool) -> bool {
+    match column {
+        Ok(array) => is_refused(alloc, &array, refused),
+        Err(_) => false,
+    }
+}
+
+/// -1 and -2 that are stored under nulls.
+fn negative_nulls(alloc: Global) -> Made {
+    PrimitiveArray::new(Vec::from_slice(alloc, &[-1i16, -2])?, Validity::AllInvalid)
+}
+
+#[test]
+fn negative_items_have_no_widths(rt: HostRuntime) {
+    let (negative, null) = ([Some(1i16), Some(-1)], [Some(1i16), None]);
+    assert!(rt;
+        refuses(
+            PrimitiveArray::from_options(rt.alloc(), &negative),
+            rt.alloc(),
+            true
+        )
+    );
+    assert!(rt;
+        refuses(
+            PrimitiveArray::from_options(rt.alloc(), &null),
+            rt.alloc(),
+            false
+        )
+    );
+    assert!(rt; refuses(negative_nulls(rt.alloc()), rt.alloc(), false));
 }

@@ -1,22 +1,24 @@
 //! Histograms, widths and patches at every integer type, with ample memory.
 
-use crate::columns::TYPES;
+use crate::columns::{Made, TYPES};
+use crate::widths::is_best;
 use fl_patches::Patches;
 use fl_plain::PrimitiveArray;
 use fl_types::*;
 use fl_widths::*;
 use std::alloc::Global;
-use std::test::Fail;
 
 /// 1, a null, 5 and 100.
-fn bytes(alloc: Global) -> Result<PrimitiveArray, FastLanesError> {
+fn bytes(alloc: Global) -> Made {
     PrimitiveArray::from_options(alloc, &[Some(1u8), None, Some(5), Some(100)])
 }
 
 /// The same in a type.
-fn column(alloc: Global, ptype: PType) -> Result<PrimitiveArray, FastLanesError> {
-    let array = bytes(alloc)?;
-    array.cast(alloc, DType::Primitive(ptype, Nullability::Nullable))
+fn column(alloc: Global, ptype: PType) -> Made {
+    match bytes(alloc) {
+        Ok(array) => array.cast(alloc, DType::Primitive(ptype, Nullability::Nullable)),
+        Err(error) => Err(error),
+    }
 }
 
 /// Whether one item of each of 0, 1, 3 and 7 bits is counted.
@@ -29,24 +31,34 @@ fn are_entries(entries: &[usize], ptype: PType) -> bool {
     entries.len() == ptype.bit_width() + 1
 }
 
-fn has_entries(alloc: Global, array: &PrimitiveArray) -> Result<bool, FastLanesError> {
-    let histogram = bit_width_histogram(alloc, array)?;
-    Ok(are_entries(&histogram, array.ptype()))
+fn has_entries(alloc: Global, array: &PrimitiveArray, ptype: PType) -> bool {
+    match bit_width_histogram(alloc, array) {
+        Ok(histogram) => are_entries(&histogram, ptype),
+        Err(_) => false,
+    }
 }
 
-fn counts(alloc: Global, ptype: PType) -> Result<bool, FastLanesError> {
-    let array = column(alloc, ptype)?;
-    has_entries(alloc, &array)
+/// Whether the histogram of a type's column counts its items.
+fn counts(column: Made, alloc: Global, ptype: PType) -> bool {
+    match column {
+        Ok(array) => has_entries(alloc, &array, ptype),
+        Err(_) => false,
+    }
 }
 
-fn has_width(alloc: Global, array: &PrimitiveArray) -> Result<bool, FastLanesError> {
-    let (widths, exceptions) = find_best_bit_widths(alloc, array)?;
-    Ok(exceptions == 3 && widths.as_slice() == [0].as_slice())
+fn has_width(alloc: Global, array: &PrimitiveArray) -> bool {
+    match find_best_bit_widths(alloc, array) {
+        Ok((widths, exceptions)) => exceptions == 3 && widths.as_slice() == [0].as_slice(),
+        Err(_) => false,
+    }
 }
 
-fn chooses(alloc: Global, ptype: PType) -> Result<bool, FastLanesError> {
-    let array = column(alloc, ptype)?;
-    has_width(alloc, &array)
+/// Whether the one block of a column has the best width 0, which leaves 3 exceptions.
+fn chooses(column: Made, alloc: Global) -> bool {
+    match column {
+        Ok(array) => has_width(alloc, &array),
+        Err(_) => false,
+    }
 }
 
 /// Whether there are so many patches of a type, one of them at place 3.
@@ -63,58 +75,55 @@ fn are_patches(patches: &Option<Patches>, ptype: PType, count: usize) -> bool {
     }
 }
 
-fn has_two_patches(alloc: Global, array: &PrimitiveArray) -> Result<bool, FastLanesError> {
-    let patches = gather_patches(alloc, array, 2, 2)?;
-    Ok(are_patches(&patches, array.ptype(), 2))
+fn has_two_patches(alloc: Global, array: &PrimitiveArray, ptype: PType) -> bool {
+    match gather_patches(alloc, array, 2, 2) {
+        Ok(patches) => are_patches(&patches, ptype, 2),
+        Err(_) => false,
+    }
 }
 
-fn gathers(alloc: Global, ptype: PType) -> Result<bool, FastLanesError> {
-    let array = column(alloc, ptype)?;
-    has_two_patches(alloc, &array)
-}
-
-fn has_one_patch(alloc: Global, array: &PrimitiveArray) -> Result<bool, FastLanesError> {
+fn has_one_patch(alloc: Global, array: &PrimitiveArray, ptype: PType) -> bool {
     if array.len().div_ceil(1024) != 1 {
-        return Ok(false);
+        return false;
     }
-    let patches = gather_blocked_patches(alloc, array, &[3], 1)?;
-    Ok(are_patches(&patches, array.ptype(), 1))
+    match gather_blocked_patches(alloc, array, &[3], 1) {
+        Ok(patches) => are_patches(&patches, ptype, 1),
+        Err(_) => false,
+    }
 }
 
-fn gathers_by_block(alloc: Global, ptype: PType) -> Result<bool, FastLanesError> {
-    let array = column(alloc, ptype)?;
-    has_one_patch(alloc, &array)
-}
-
-#[test]
-fn counts_at_every_type(rt: HostRuntime) -> Result<(), Fail> {
-    for ptype in TYPES {
-        assert!(rt; counts(rt.alloc(), ptype)?);
+/// Whether a type's column has two patches at width 2, and one at width 3 for its block.
+fn gathers(column: Made, alloc: Global, ptype: PType) -> bool {
+    match column {
+        Ok(array) => has_two_patches(alloc, &array, ptype) && has_one_patch(alloc, &array, ptype),
+        Err(_) => false,
     }
-    Ok(())
 }
 
 #[test]
-fn chooses_at_every_type(rt: HostRuntime) -> Result<(), Fail> {
+fn counts_at_every_type(rt: HostRuntime) {
     for ptype in TYPES {
-        assert!(rt; chooses(rt.alloc(), ptype)?);
+        assert!(rt; counts(column(rt.alloc(), ptype), rt.alloc(), ptype));
     }
-    Ok(())
 }
 
 #[test]
-fn gathers_at_every_type(rt: HostRuntime) -> Result<(), Fail> {
+fn chooses_at_every_type(rt: HostRuntime) {
     for ptype in TYPES {
-        assert!(rt; gathers(rt.alloc(), ptype)?);
-        assert!(rt; gathers_by_block(rt.alloc(), ptype)?);
+        assert!(rt; chooses(column(rt.alloc(), ptype), rt.alloc()));
     }
-    Ok(())
 }
 
 #[test]
-fn a_width_at_every_type(rt: HostRuntime) -> Result<(), Fail> {
+fn gathers_at_every_type(rt: HostRuntime) {
     for ptype in TYPES {
-        assert!(rt; find_best_bit_width(ptype, &[0, 100])? == 1);
+        assert!(rt; gathers(column(rt.alloc(), ptype), rt.alloc(), ptype));
     }
-    Ok(())
+}
+
+#[test]
+fn a_width_at_every_type(rt: HostRuntime) {
+    for ptype in TYPES {
+        assert!(rt; is_best(ptype, &[0, 100], Some(1)));
+    }
 }

@@ -19,13 +19,26 @@ use std::marker::Model;
 /// Patches of an array: values at some of its positions. The patch at position `i` has the index
 /// `offset + i`, so that a slice can keep the indices of the array that it was cut from. Contracts
 /// see the parts, and the map from positions to values as `patched`.
-#[derive(Debug, Drop)]
+#[derive(Debug)]
 pub struct Patches {
     array_len: usize,
     offset: usize,
     indices: PrimitiveArray,
     values: PrimitiveArray,
     chunk_offsets: Option<PrimitiveArray>,
+}
+
+// Written out, so that letting one go is one call in each function that owns one.
+impl Drop for Patches {
+    fn drop(self) {
+        let Patches {
+            array_len: _,
+            offset: _,
+            indices: _,
+            values: _,
+            chunk_offsets: _,
+        } = self;
+    }
 }
 
 impl Model for Patches {

@@ -14,10 +14,20 @@ use std::marker::Model;
 
 /// A plain array of truth values: a truth value in each place, also under a null, and which of them
 /// count.
-#[derive(Debug, Drop)]
+#[derive(Debug)]
 pub struct BoolArray {
     bits: BitList,
     validity: Validity,
+}
+
+// Written out, so that letting one go is one call in each function that owns one.
+impl Drop for BoolArray {
+    fn drop(self) {
+        let BoolArray {
+            bits: _,
+            validity: _,
+        } = self;
+    }
 }
 
 impl Model for BoolArray {

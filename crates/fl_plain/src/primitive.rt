@@ -21,10 +21,20 @@ use std::marker::Model;
 
 /// A plain array of integers: a stored integer in each place, also under a null, and which of them
 /// are valid. Contracts see its type, its integers and its validity.
-#[derive(Debug, Drop)]
+#[derive(Debug)]
 pub struct PrimitiveArray {
     slots: Slots,
     validity: Validity,
+}
+
+// Written out, so that letting one go is one call in each function that owns one.
+impl Drop for PrimitiveArray {
+    fn drop(self) {
+        let PrimitiveArray {
+            slots: _,
+            validity: _,
+        } = self;
+    }
 }
 
 impl Model for PrimitiveArray {
@@ -90,7 +100,8 @@ impl PrimitiveArray {
         ensures validity { result.1 ≡ self.validity }
         ensures covers { IsTrue (covers self.validity (length self.slots)) }
     {
-        (self.slots, self.validity)
+        let PrimitiveArray { slots, validity } = self;
+        (slots, validity)
     }
 
     /// How many items there are.
