@@ -82,6 +82,14 @@ pub(crate) fn has_spans(array: &PrimitiveArray, ptype: PType, spans: &[Span]) ->
     start == array.len() && array.ptype() == ptype
 }
 
+/// Whether a column is made, of a type, and is these spans.
+pub(crate) fn are_spans(column: Made, ptype: PType, spans: &[Span]) -> bool {
+    match column {
+        Ok(array) => has_spans(&array, ptype, spans),
+        Err(_) => false,
+    }
+}
+
 /// Whether the item at an index is this value.
 pub(crate) fn is_at(array: &PrimitiveArray, i: usize, value: PValue) -> bool {
     i < array.len() && array.get(i) == Some(value)

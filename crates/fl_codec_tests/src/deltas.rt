@@ -1,6 +1,6 @@
 //! Deltas by example.
 
-use crate::columns::{Made, Span, copies, has_spans, is_at, one_valid, solid};
+use crate::columns::{Made, Span, are_spans, copies, has_spans, is_at, one_valid, solid};
 use crate::decoders::{deltas_make, part_by_deltas};
 use fl_codec::delta::delta_compress;
 use fl_plain::PrimitiveArray;
@@ -95,14 +95,6 @@ fn shows(column: Made, alloc: Global, offset: usize, len: usize, spans: &[Span])
             let part = part_by_deltas(alloc, &array, &Validity::NonNullable, offset, len);
             are_spans(part, array.ptype(), spans)
         }
-        Err(_) => false,
-    }
-}
-
-/// Whether what was made is of a type, and is these spans.
-fn are_spans(part: Made, ptype: PType, spans: &[Span]) -> bool {
-    match part {
-        Ok(part) => has_spans(&part, ptype, spans),
         Err(_) => false,
     }
 }

@@ -1,6 +1,6 @@
 //! Frames of reference by example.
 
-use crate::columns::{Made, Span, copies, has_spans, rising, solid};
+use crate::columns::{Made, Span, are_spans, copies, has_spans, rising, solid};
 use crate::decoders::{frame_makes, reference_makes, with_reference, with_references};
 use fl_codec::frame_of_reference::{self, Frame, GlobalFrame};
 use fl_plain::PrimitiveArray;
@@ -191,14 +191,6 @@ fn frames_signed_bytes(column: Made, alloc: Global) -> bool {
 #[test]
 fn test_overflow(rt: HostRuntime) {
     assert!(rt; frames_signed_bytes(signed_bytes(rt.alloc()), rt.alloc()));
-}
-
-/// Whether what was made is of a type, and is these spans.
-fn are_spans(column: Made, ptype: PType, spans: &[Span]) -> bool {
-    match column {
-        Ok(array) => has_spans(&array, ptype, spans),
-        Err(_) => false,
-    }
 }
 
 /// Whether a child and one reference make these spans.

@@ -6,7 +6,8 @@ ghost use Rattle.fl_patches.specs.PatchMaps.{numbers};
 ghost use Rattle.fl_packed.specs.Blocks.{are_blocks};
 
 use crate::columns::{
-    Made, Span, TYPES, has_spans, is_at, ones_and_nulls, rising, same_items, solid, two_blocks,
+    Made, Span, TYPES, are_spans, has_spans, is_at, ones_and_nulls, rising, same_items, solid,
+    two_blocks,
 };
 use fl_packed::decoding::{PackedColumn, unpack_bounded, unpack_even, unpack_single_primitive};
 use fl_packed::packing::{bitpack_blocked_unchecked, bitpack_into, bitpack_unchecked};
@@ -75,14 +76,6 @@ fn unpacked_solid(
     unpacked(alloc, bytes, &validity, ptype, width, offset, len)
 }
 
-/// Whether what was made is these spans of a type.
-fn is_made_of(column: Made, ptype: PType, spans: &[Span]) -> bool {
-    match column {
-        Ok(array) => has_spans(&array, ptype, spans),
-        Err(_) => false,
-    }
-}
-
 /// Whether bytes are 1 at every 16th place up to 48, and 0 else: 1 at width 1 at the places of lanes
 /// 0, 2, 4 and 6, the low bit of the last item too.
 fn are_ones_of_four_lanes(bytes: &[u8]) -> bool {
@@ -122,7 +115,7 @@ fn are_ones(alloc: Global, bytes: &[u8], validity: &Validity, patches: &Patches)
         offset: 0,
         len: 7,
     };
-    is_made_of(unpack_even(alloc, &column, 1), PType::U64, SEVEN)
+    are_spans(unpack_even(alloc, &column, 1), PType::U64, SEVEN)
 }
 
 /// Whether the ones and nulls come back from bytes with their one patch.
@@ -156,7 +149,7 @@ fn ones_and_nulls_pack_and_decode(rt: HostRuntime) {
 #[test]
 fn full_bytes_are_negative(rt: HostRuntime) {
     let array = unpacked_solid(rt.alloc(), &[255; 1024], PType::I8, 8, 0, 3);
-    assert!(rt; is_made_of(array, PType::I8, &[(3, Some(-1))]));
+    assert!(rt; are_spans(array, PType::I8, &[(3, Some(-1))]));
 }
 
 /// Whether there are so many bytes, all of them full.
@@ -335,7 +328,7 @@ fn are_low_bits<'a>(
         len: 2,
     };
     let back = unpack_bounded(alloc, &column, boundaries);
-    is_made_of(back, ptype, &[(1, Some(0)), (1, Some(1))])
+    are_spans(back, ptype, &[(1, Some(0)), (1, Some(1))])
 }
 
 /// Whether two items, packed as a block of width 1, keep their low bits, 0 and 1.

@@ -1,6 +1,6 @@
 //! Runs by example.
 
-use crate::columns::{Made, Span, copies, has_spans, one_valid, solid};
+use crate::columns::{Made, Span, are_spans, copies, has_spans, one_valid, solid};
 use crate::decoders::{part_by_runs, runs_show, unrolled};
 use fl_codec::runs::{self, Runs};
 use fl_plain::PrimitiveArray;
@@ -99,14 +99,6 @@ const FIVE_ITEMS: Parts<'_> = Parts {
 fn runs_of_a_short_chunk(rt: HostRuntime) {
     assert!(rt; has_stored_ones(five_items(rt.alloc()), rt.alloc()));
     assert!(rt; keeps(five_items(rt.alloc()), rt.alloc(), &FIVE_ITEMS));
-}
-
-/// Whether what was made is of a type, and is these spans.
-fn are_spans(column: Made, ptype: PType, spans: &[Span]) -> bool {
-    match column {
-        Ok(array) => has_spans(&array, ptype, spans),
-        Err(_) => false,
-    }
 }
 
 /// Whether so many items of a column from the offset on, which its runs show, are these spans.

@@ -1,5 +1,5 @@
 -- Integers and their patterns in packed blocks.
-use Rattle.std.proofs.Common.{◌≡◌, ◌≢◌, ℕ, ℤ, pos, ◌+◌, ◌*◌, ◌^◌, ◌/◌, ◌<◌, ◌≤◌, true, List, length, map, get_or, take, set, length-take, refl, ap, sym, ◌∙◌, arith, inl, inr}
+use Rattle.std.proofs.Common.{◌≡◌, ◌≢◌, ℕ, ℤ, pos, ◌+◌, ◌-◌, ◌*◌, ◌^◌, ◌/◌, ◌<◌, ◌≤◌, true, List, length, map, get_or, take, set, length-take, refl, ap, sym, ◌∙◌, arith, inl, inr}
 use Rattle.std.proofs.Math.Nat.{mod-eq_of_lt}
 use Rattle.std.proofs.Math.Pow.{pow_mono}
 use Rattle.std.proofs.lemmas.Bool.{cases_eq}
@@ -56,6 +56,20 @@ few_words _ _ width bits_8 h = omega arith
 few_words _ _ width bits_16 h = omega arith
 few_words _ _ width bits_32 h = omega arith
 few_words _ _ width bits_64 h = omega arith
+
+-- a block's bytes as words
+pub block_words : (T lanes width : ℕ) → IsWordWidth T lanes → 1024 * width / T * (T / 8) ≡ 128 * width
+block_words _ _ width bits_8 = omega arith
+block_words _ _ width bits_16 = omega arith
+block_words _ _ width bits_32 = omega arith
+block_words _ _ width bits_64 = omega arith
+
+-- fewer blocks have no more bytes
+pub fewer_blocks : (width count fewer len : ℕ) → len ≡ 128 * width * count → 128 * width * (count - fewer) ≤ len
+fewer_blocks width count fewer len all =
+    let few : count - fewer ≤ count = omega arith in
+    let within : 128 * width * (count - fewer) ≤ 128 * width * count = grind arith in
+    omega arith
 
 -- ---- items and words
 -- an unpacked item has its low bits alone

@@ -26,20 +26,31 @@ fn reread_all<P: FastLanes, S: PhysicalPType<Physical = P>, T: PhysicalPType<Phy
     Ok(read)
 }
 
+/// The slots of these values' patterns, read as another type.
+fn reread_typed<P: FastLanes, S: PhysicalPType<Physical = P>, T: PhysicalPType<Physical = P>>(
+    alloc: Global,
+    items: &[S],
+) -> Result<Slots, AllocError>
+    ensures typed { IfOk result (λ s. ptype_of s ≡ T.PTYPE) }
+    ensures slots { IfOk result (λ s. integers_of s ≡ map (λ z. read_as T.PTYPE (pattern_of S.PTYPE z)) (map S.value items.now)) }
+{
+    Ok(T::into_slots(reread_all::<P, S, T>(alloc, items)?))
+}
+
 /// The slots whose patterns are those of these slots, in the type of the other sign.
 fn reread_slots(slots: &Slots, alloc: Global) -> Result<Slots, AllocError>
     ensures typed { IfOk result (λ s. ptype_of s ≡ other_sign (ptype_of slots.now)) }
     ensures slots { IfOk result (λ s. integers_of s ≡ map (λ z. read_as (other_sign (ptype_of slots.now)) (pattern_of (ptype_of slots.now) z)) (integers_of slots.now)) }
 {
     match slots {
-        Slots::U8(items) => Ok(Slots::I8(reread_all::<u8, u8, i8>(alloc, items.as_slice())?)),
-        Slots::U16(items) => Ok(Slots::I16(reread_all::<u16, u16, i16>(alloc, items.as_slice())?)),
-        Slots::U32(items) => Ok(Slots::I32(reread_all::<u32, u32, i32>(alloc, items.as_slice())?)),
-        Slots::U64(items) => Ok(Slots::I64(reread_all::<u64, u64, i64>(alloc, items.as_slice())?)),
-        Slots::I8(items) => Ok(Slots::U8(reread_all::<u8, i8, u8>(alloc, items.as_slice())?)),
-        Slots::I16(items) => Ok(Slots::U16(reread_all::<u16, i16, u16>(alloc, items.as_slice())?)),
-        Slots::I32(items) => Ok(Slots::U32(reread_all::<u32, i32, u32>(alloc, items.as_slice())?)),
-        Slots::I64(items) => Ok(Slots::U64(reread_all::<u64, i64, u64>(alloc, items.as_slice())?)),
+        Slots::U8(items) => reread_typed::<u8, u8, i8>(alloc, items.as_slice()),
+        Slots::U16(items) => reread_typed::<u16, u16, i16>(alloc, items.as_slice()),
+        Slots::U32(items) => reread_typed::<u32, u32, i32>(alloc, items.as_slice()),
+        Slots::U64(items) => reread_typed::<u64, u64, i64>(alloc, items.as_slice()),
+        Slots::I8(items) => reread_typed::<u8, i8, u8>(alloc, items.as_slice()),
+        Slots::I16(items) => reread_typed::<u16, i16, u16>(alloc, items.as_slice()),
+        Slots::I32(items) => reread_typed::<u32, i32, u32>(alloc, items.as_slice()),
+        Slots::I64(items) => reread_typed::<u64, i64, u64>(alloc, items.as_slice()),
     }
 }
 

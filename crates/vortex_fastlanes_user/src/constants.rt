@@ -1,13 +1,12 @@
 //! Arrays of copies.
 
-use crate::items::{item_at, last_plain};
+use crate::items::{Built, item_at, last_plain};
 use std::alloc::Global;
-use std::test::Fail;
 use vortex_fastlanes::array::*;
 use vortex_fastlanes::*;
 
 /// Three copies of 7.
-fn sevens() -> Result<ArrayRef, FastLanesError> {
+fn sevens() -> Built {
     let seven = Scalar::primitive(PValue::I16(7), Nullability::Nullable);
     Ok(ConstantArray::new(seven, 3)?.into_array())
 }
@@ -26,12 +25,7 @@ fn are_sevens(array: &ArrayRef, alloc: Global, len: usize, plain: bool) -> bool 
 }
 
 /// An operation gave so many sevens, in an array that is plain or not.
-fn gave_sevens(
-    array: Result<ArrayRef, FastLanesError>,
-    alloc: Global,
-    len: usize,
-    plain: bool,
-) -> bool {
+fn gave_sevens(array: Built, alloc: Global, len: usize, plain: bool) -> bool {
     match array {
         Ok(array) => are_sevens(&array, alloc, len, plain),
         Err(_) => false,
@@ -46,13 +40,13 @@ fn slices(array: &ArrayRef, alloc: Global) -> bool {
 }
 
 /// What a take by the indices 2 and 0 gives.
-fn taken(array: &ArrayRef, alloc: Global) -> Result<ArrayRef, FastLanesError> {
+fn taken(array: &ArrayRef, alloc: Global) -> Built {
     let indices = PrimitiveArray::from_options(alloc, &[Some(2u32), Some(0)])?.into_array();
     array.take(alloc, &indices)
 }
 
 /// What a take by four copies of the index 1 gives.
-fn taken_by_copies(array: &ArrayRef, alloc: Global) -> Result<ArrayRef, FastLanesError> {
+fn taken_by_copies(array: &ArrayRef, alloc: Global) -> Built {
     let one = Scalar::primitive(PValue::U8(1), Nullability::NonNullable);
     let indices = ConstantArray::new(one, 4)?.into_array();
     array.take(alloc, &indices)
@@ -62,17 +56,29 @@ fn takes_ranges(array: &ArrayRef, alloc: Global) -> bool {
     gave_sevens(array.take_ranges(alloc, &[(1, 2), (0, 3)]), alloc, 5, true)
 }
 
+/// Whether a slice and a copy are copies, and the decoded array is plain.
+fn keeps(array: &ArrayRef, alloc: Global) -> bool {
+    slices(array, alloc)
+        && gave_sevens(array.try_clone(alloc), alloc, 3, false)
+        && gave_sevens(array.decode(alloc), alloc, 3, true)
+}
+
+fn takes(array: &ArrayRef, alloc: Global) -> bool {
+    gave_sevens(taken(array, alloc), alloc, 2, true)
+        && gave_sevens(taken_by_copies(array, alloc), alloc, 4, true)
+        && takes_ranges(array, alloc)
+}
+
+fn selects(array: Built, alloc: Global) -> bool {
+    match array {
+        Ok(array) => keeps(&array, alloc) && takes(&array, alloc),
+        Err(_) => false,
+    }
+}
+
 #[test]
-fn selects_copies(rt: HostRuntime) -> Result<(), Fail> {
-    let alloc = rt.alloc();
-    let array = sevens()?;
-    assert!(rt; slices(&array, alloc));
-    assert!(rt; gave_sevens(array.try_clone(alloc), alloc, 3, false));
-    assert!(rt; gave_sevens(array.decode(alloc), alloc, 3, true));
-    assert!(rt; gave_sevens(taken(&array, alloc), alloc, 2, true));
-    assert!(rt; gave_sevens(taken_by_copies(&array, alloc), alloc, 4, true));
-    assert!(rt; takes_ranges(&array, alloc));
-    Ok(())
+fn selects_copies(rt: HostRuntime) {
+    assert!(rt; selects(sevens(), rt.alloc()));
 }
 
 fn filters(array: &ArrayRef, alloc: Global, mask: &Mask, len: usize, plain: bool) -> bool {
@@ -100,14 +106,20 @@ fn casts(array: &ArrayRef, alloc: Global) -> Option<PValue> {
     }
 }
 
+fn filters_and_casts(array: Built, alloc: Global) -> bool {
+    match array {
+        Ok(array) => {
+            filters(&array, alloc, &Mask::AllTrue(3), 3, false)
+                && filters(&array, alloc, &Mask::AllFalse(3), 0, true)
+                && casts(&array, alloc) == Some(PValue::U64(7))
+        }
+        Err(_) => false,
+    }
+}
+
 #[test]
-fn filters_and_casts_copies(rt: HostRuntime) -> Result<(), Fail> {
-    let alloc = rt.alloc();
-    let array = sevens()?;
-    assert!(rt; filters(&array, alloc, &Mask::AllTrue(3), 3, false));
-    assert!(rt; filters(&array, alloc, &Mask::AllFalse(3), 0, true));
-    assert_eq!(rt; casts(&array, alloc), Some(PValue::U64(7)));
-    Ok(())
+fn filters_and_casts_copies(rt: HostRuntime) {
+    assert!(rt; filters_and_casts(sevens(), rt.alloc()));
 }
 
 /// What three tests say of the last item.
@@ -157,16 +169,27 @@ fn orders(array: &ArrayRef, alloc: Global) -> bool {
         && matches!(array.is_constant(alloc), Ok(true))
 }
 
+/// Whether it is of nullable integers, none of them null, and made of copies of 7.
+fn is_of_sevens(array: &ArrayRef, alloc: Global) -> bool {
+    array.dtype() == DType::Primitive(PType::I16, Nullability::Nullable)
+        && array.as_constant().is_some()
+        && is_all_valid(array, alloc)
+        && last_plain(array, alloc) == Some(PValue::I16(7))
+}
+
+fn answers(array: Built, alloc: Global) -> bool {
+    match array {
+        Ok(array) => {
+            is_of_sevens(&array, alloc)
+                && orders(&array, alloc)
+                && equals_seven(&array, alloc) == Some(true)
+                && lies_between(&array, alloc) == Some(true)
+        }
+        Err(_) => false,
+    }
+}
+
 #[test]
-fn answers_on_copies(rt: HostRuntime) -> Result<(), Fail> {
-    let alloc = rt.alloc();
-    let array = sevens()?;
-    assert!(rt; is_all_valid(&array, alloc));
-    assert!(rt; orders(&array, alloc));
-    assert_eq!(rt; last_plain(&array, alloc), Some(PValue::I16(7)));
-    assert!(rt; array.as_constant().is_some());
-    assert!(rt; array.dtype() == DType::Primitive(PType::I16, Nullability::Nullable));
-    assert_eq!(rt; equals_seven(&array, alloc), Some(true));
-    assert_eq!(rt; lies_between(&array, alloc), Some(true));
-    Ok(())
+fn answers_on_copies(rt: HostRuntime) {
+    assert!(rt; answers(sevens(), rt.alloc()));
 }

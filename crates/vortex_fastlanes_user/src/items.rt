@@ -4,6 +4,9 @@ use std::alloc::Global;
 use vortex_fastlanes::array::*;
 use vortex_fastlanes::*;
 
+/// What makes an array.
+pub(crate) type Built = Result<ArrayRef, FastLanesError>;
+
 /// The item at an index, or `None` of a null and past the end.
 pub(crate) fn item_at(array: &ArrayRef, alloc: Global, i: usize) -> Option<PValue> {
     if i >= array.len() {

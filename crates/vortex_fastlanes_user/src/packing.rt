@@ -1,7 +1,6 @@
 //! Widths, packed bytes and differences of plain arrays, by the names that users know.
 
 use std::alloc::Global;
-use std::test::Fail;
 use vortex_fastlanes::bitpack_compress::{
     bit_width_histogram, bitpack_primitive, find_best_bit_width,
 };
@@ -38,12 +37,18 @@ fn parts(array: &PrimitiveArray, alloc: Global) -> Option<(usize, usize)> {
     }
 }
 
+fn reads(array: Result<PrimitiveArray, FastLanesError>, alloc: Global) -> bool {
+    match array {
+        Ok(array) => best_width(&array, alloc) == Some(3)
+            && parts(&array, alloc) == Some((128, 1024)),
+        Err(_) => false,
+    }
+}
+
 #[test]
-fn reads_a_few_bytes(rt: HostRuntime) -> Result<(), Fail> {
-    let array = PrimitiveArray::from_options(rt.alloc(), &[Some(5u8), Some(6), Some(7)])?;
-    assert!(rt; best_width(&array, rt.alloc()) == Some(3));
-    assert!(rt; parts(&array, rt.alloc()) == Some((128, 1024)));
-    Ok(())
+fn reads_a_few_bytes(rt: HostRuntime) {
+    let items = [Some(5u8), Some(6), Some(7)];
+    assert!(rt; reads(PrimitiveArray::from_options(rt.alloc(), &items), rt.alloc()));
 }
 
 #[test]

@@ -1,9 +1,8 @@
 //! Plain arrays of integers, call by call.
 
-use crate::items::last_plain;
+use crate::items::{Built, last_plain};
 use crate::operations::{gave_bytes, three};
 use std::alloc::Global;
-use std::test::Fail;
 use vortex_fastlanes::array::*;
 use vortex_fastlanes::*;
 
@@ -24,17 +23,32 @@ fn has_bits(array: &ArrayRef, alloc: Global) -> bool {
     matches!(array.validity(alloc), Ok(Validity::Array(_)))
 }
 
+const ITEMS: &[Option<u8>] = &[Some(10), None, Some(30)];
+
+/// Whether a slice, a copy and the decoded array have the items.
+fn keeps_items(array: &ArrayRef, alloc: Global) -> bool {
+    slices(array, alloc)
+        && gave_bytes(array.try_clone(alloc), alloc, ITEMS)
+        && gave_bytes(array.decode(alloc), alloc, ITEMS)
+}
+
+/// Whether it is of nullable bytes, with a bit for each and 30 for its last.
+fn keeps_types(array: &ArrayRef, alloc: Global) -> bool {
+    array.dtype() == DType::Primitive(PType::U8, Nullability::Nullable)
+        && last_plain(array, alloc) == Some(PValue::U8(30))
+        && has_bits(array, alloc)
+}
+
+fn keeps(array: Built, alloc: Global) -> bool {
+    match array {
+        Ok(array) => {
+            keeps_items(&array, alloc) && keeps_types(&array, alloc) && is_mixed(&array, alloc)
+        }
+        Err(_) => false,
+    }
+}
+
 #[test]
-fn keeps_bytes_and_nulls(rt: HostRuntime) -> Result<(), Fail> {
-    let alloc = rt.alloc();
-    let array = three(alloc)?;
-    let items = [Some(10), None, Some(30)];
-    assert!(rt; array.dtype() == DType::Primitive(PType::U8, Nullability::Nullable));
-    assert!(rt; slices(&array, alloc));
-    assert!(rt; gave_bytes(array.try_clone(alloc), alloc, &items));
-    assert!(rt; gave_bytes(array.decode(alloc), alloc, &items));
-    assert!(rt; last_plain(&array, alloc) == Some(PValue::U8(30)));
-    assert!(rt; is_mixed(&array, alloc));
-    assert!(rt; has_bits(&array, alloc));
-    Ok(())
+fn keeps_bytes_and_nulls(rt: HostRuntime) {
+    assert!(rt; keeps(three(rt.alloc()), rt.alloc()));
 }

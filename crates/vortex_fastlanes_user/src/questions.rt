@@ -1,8 +1,8 @@
 //! Questions to plain arrays of integers.
 
+use crate::items::Built;
 use crate::operations::three;
 use std::alloc::Global;
-use std::test::Fail;
 use vortex_fastlanes::array::*;
 use vortex_fastlanes::*;
 
@@ -28,24 +28,30 @@ fn is_so(alloc: Global, items: &[Option<u8>], query: &Query) -> Result<bool, Fas
     answers_yes(alloc, &array, query)
 }
 
-#[test]
-fn a_null_is_below_every_integer(rt: HostRuntime) -> Result<(), Fail> {
-    let one_null = [None, Some(1), Some(1)];
-    assert!(rt; is_so(rt.alloc(), &one_null, &Query::IsSorted(false))?);
-    assert!(rt; !is_so(rt.alloc(), &one_null, &Query::IsSorted(true))?);
-    assert!(rt; !is_so(rt.alloc(), &one_null, &Query::IsConstant)?);
-    let last = [Some(1), None];
-    assert!(rt; !is_so(rt.alloc(), &last, &Query::IsSorted(false))?);
-    Ok(())
+/// Whether an array of these bytes and nulls is sorted, strictly or not.
+fn sorted(alloc: Global, items: &[Option<u8>], strict: bool) -> Result<bool, FastLanesError> {
+    is_so(alloc, items, &Query::IsSorted(strict))
+}
+
+/// Whether an array of these bytes and nulls is constant.
+fn constant(alloc: Global, items: &[Option<u8>]) -> Result<bool, FastLanesError> {
+    is_so(alloc, items, &Query::IsConstant)
 }
 
 #[test]
-fn nulls_are_equal(rt: HostRuntime) -> Result<(), Fail> {
-    let nulls = [None, None];
-    assert!(rt; is_so(rt.alloc(), &nulls, &Query::IsSorted(false))?);
-    assert!(rt; !is_so(rt.alloc(), &nulls, &Query::IsSorted(true))?);
-    assert!(rt; is_so(rt.alloc(), &nulls, &Query::IsConstant)?);
-    Ok(())
+fn a_null_is_below_every_integer(rt: HostRuntime) {
+    let one_null = [None, Some(1), Some(1)];
+    assert!(rt; sorted(rt.alloc(), &one_null, false) == Ok(true));
+    assert!(rt; sorted(rt.alloc(), &one_null, true) == Ok(false));
+    assert!(rt; constant(rt.alloc(), &one_null) == Ok(false));
+    assert!(rt; sorted(rt.alloc(), &[Some(1), None], false) == Ok(false));
+}
+
+#[test]
+fn nulls_are_equal(rt: HostRuntime) {
+    assert!(rt; sorted(rt.alloc(), &[None, None], false) == Ok(true));
+    assert!(rt; sorted(rt.alloc(), &[None, None], true) == Ok(false));
+    assert!(rt; constant(rt.alloc(), &[None, None]) == Ok(true));
 }
 
 /// The item at an index of an array, or why there is none.
@@ -63,14 +69,10 @@ fn read_of_three(alloc: Global, i: usize) -> Result<Option<PValue>, FastLanesErr
 }
 
 #[test]
-fn reads_an_item(rt: HostRuntime) -> Result<(), Fail> {
-    assert_eq!(rt; read_of_three(rt.alloc(), 2)?, Some(PValue::U8(30)));
-    assert_eq!(rt; read_of_three(rt.alloc(), 1)?, None);
-    assert_eq!(rt;
-        read_of_three(rt.alloc(), 3).err(),
-        Some(FastLanesError::IndexOutOfBounds)
-    );
-    Ok(())
+fn reads_an_item(rt: HostRuntime) {
+    assert!(rt; read_of_three(rt.alloc(), 2) == Ok(Some(PValue::U8(30))));
+    assert!(rt; read_of_three(rt.alloc(), 1) == Ok(None));
+    assert!(rt; read_of_three(rt.alloc(), 3) == Err(FastLanesError::IndexOutOfBounds));
 }
 
 /// The first and the last of three truth values with a null between them.
@@ -123,13 +125,26 @@ fn asks_for_below(array: &ArrayRef, alloc: Global) -> Option<(bool, bool)> {
     }
 }
 
+/// Whether the first end alone is below 30, asked in both ways.
+fn first_is_below(array: &ArrayRef, alloc: Global) -> bool {
+    compares(array, alloc) == Some((true, false))
+        && asks_for_below(array, alloc) == Some((true, false))
+}
+
+/// Whether the first end alone lies from 10 to below 30, and none from 30 to below 10.
+fn first_lies_between(array: &ArrayRef, alloc: Global) -> bool {
+    lies_between(array, alloc, 10, 30) == Some((true, false))
+        && lies_between(array, alloc, 30, 10) == Some((false, false))
+}
+
+fn tests_ends(array: Built, alloc: Global) -> bool {
+    match array {
+        Ok(array) => first_is_below(&array, alloc) && first_lies_between(&array, alloc),
+        Err(_) => false,
+    }
+}
+
 #[test]
-fn tests_each_item(rt: HostRuntime) -> Result<(), Fail> {
-    let alloc = rt.alloc();
-    let array = three(alloc)?;
-    assert_eq!(rt; compares(&array, alloc), Some((true, false)));
-    assert_eq!(rt; asks_for_below(&array, alloc), Some((true, false)));
-    assert_eq!(rt; lies_between(&array, alloc, 10, 30), Some((true, false)));
-    assert_eq!(rt; lies_between(&array, alloc, 30, 10), Some((false, false)));
-    Ok(())
+fn tests_each_item(rt: HostRuntime) {
+    assert!(rt; tests_ends(three(rt.alloc()), rt.alloc()));
 }

@@ -18,7 +18,7 @@ fn zigzag(value: i64) -> u64
     ensures { result ≡ zigzag_of value }
 {
     if value < 0 {
-        2 * (-(value + 1)) as u64 + 1
+        2 * !value as u64 + 1
     } else {
         2 * value as u64
     }
@@ -29,7 +29,7 @@ fn unzigzag(number: u64) -> i64
     ensures { result ≡ unzigzag_of number }
 {
     let half = (number / 2) as i64;
-    if number % 2 == 0 { half } else { -half - 1 }
+    if number % 2 == 0 { half } else { !half }
 }
 
 /// The greatest number that is written of a type's value.

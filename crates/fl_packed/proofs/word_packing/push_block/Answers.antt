@@ -1,7 +1,13 @@
-use Rattle.std.proofs.Common.{◌+◌, ◌∙◌, length, ap, sym}
-use Rattle.fl_packed.proofs.Natives.{packed_by_items}
+use Rattle.std.proofs.Common.{◌≡◌, ◌+◌, ◌*◌, ◌≤◌, ◌∙◌, length, arith, ap, sym}
+use Rattle.fl_packed.proofs.Natives.{few_words, packed_by_items}
 use Rattle.fl_packed.proofs.WordLaws.{block_added, front_words, words_kept, words_more}
 use Rattle.fl_packed.proofs.word_packing.push_block.Goals as goal
+
+pub slice_bounds-words-end : goal.slice_bounds-words-end
+slice_bounds-words-end g c =
+    let few : c.args.width * c.LANES-lanes.result ≤ 1024 = rw c.LANES-lanes.ensures (few_words g.T.Physical.FastLanes.T g.T.Physical.FastLanes.LANES c.args.width g.met.T.Physical.FastLanes.shape c.requires.width) in
+    let words = c.requires.words in
+    omega arith
 
 pub returns-clause-long : goal.returns-clause-long
 returns-clause-long g c =
