@@ -172,7 +172,7 @@ fn runs_operations_in_order(rt: HostRuntime) {
     assert!(rt; gave_bytes(run(alloc, &[]), alloc, &[Some(10), None, Some(30)]));
 }
 
-/// Why the three items have no such slice, and no items of it that so long a mask keeps.
+/// Why the three items up to `end`, filtered by a mask of so many, are refused.
 fn slice_refused(alloc: Global, end: usize, mask: usize) -> Option<FastLanesError> {
     run(alloc, &[Op::Slice(0..end), Op::Filter(Mask::AllTrue(mask))]).err()
 }
