@@ -9,7 +9,7 @@ ghost use Rattle.fastlanes.specs.Compared.{is_set, has_bit, IsAnswer, Answers};
 use crate::counts::Work;
 use crate::storage::AsWords;
 use crate::unpacking::items_of_row;
-use crate::widths::{at_width, bits, lanes};
+use crate::widths::{at_eight, bits, lanes};
 use crate::words::FastLanes;
 
 /// Sets bit `r` of each word whose item compares so with `rhs`, and no other.
@@ -93,77 +93,80 @@ fn compare_8<W: FastLanes, F: Fn(W, W) -> bool>(
 }
 
 /// The answers for the 16 rows of the lanes of group `g`.
-fn compare_16<W: FastLanes, F: Fn(W, W) -> bool, const WIDTH: usize>(
+fn compare_16<W: FastLanes, F: Fn(W, W) -> bool, const FIRST: usize, const MORE: usize>(
+    width: usize,
     words: &[W],
     cmp: &F,
     rhs: W,
     g: usize,
     held: W::Vector,
 ) -> W::Vector
-    requires width { WIDTH ≤ W.T }
-    requires block { length words.now ≡ WIDTH * W.LANES }
+    requires width { width ≤ W.T }
+    requires block { length words.now ≡ width * W.LANES }
     requires row { 16 ≤ W.T }
     requires group { 16 * g + 16 ≤ W.LANES }
     requires callable { F.IsAlwaysCallable cmp.now }
     requires whole { W.whole held }
-    requires held { Answers W.pattern (F.post cmp.now) rhs (item_of W.T W.LANES WIDTH (pattern_at W.pattern words.now)) g 0 (W.lane held) }
+    requires held { Answers W.pattern (F.post cmp.now) rhs (item_of W.T W.LANES width (pattern_at W.pattern words.now)) g 0 (W.lane held) }
     ensures whole { W.whole result }
-    ensures held { Answers W.pattern (F.post cmp.now) rhs (item_of W.T W.LANES WIDTH (pattern_at W.pattern words.now)) g 16 (W.lane result) }
+    ensures held { Answers W.pattern (F.post cmp.now) rhs (item_of W.T W.LANES width (pattern_at W.pattern words.now)) g 16 (W.lane result) }
 {
-    let held = compare_8(WIDTH, words, cmp, rhs, 0, g, held);
-    compare_8(WIDTH, words, cmp, rhs, 8, g, held)
+    let held = compare_8(width, words, cmp, rhs, 0, g, held);
+    compare_8(width, words, cmp, rhs, 8, g, held)
 }
 
 /// The answers for the 32 rows of the lanes of group `g`.
-fn compare_32<W: FastLanes, F: Fn(W, W) -> bool, const WIDTH: usize>(
+fn compare_32<W: FastLanes, F: Fn(W, W) -> bool, const FIRST: usize, const MORE: usize>(
+    width: usize,
     words: &[W],
     cmp: &F,
     rhs: W,
     g: usize,
     held: W::Vector,
 ) -> W::Vector
-    requires width { WIDTH ≤ W.T }
-    requires block { length words.now ≡ WIDTH * W.LANES }
+    requires width { width ≤ W.T }
+    requires block { length words.now ≡ width * W.LANES }
     requires row { 32 ≤ W.T }
     requires group { 16 * g + 16 ≤ W.LANES }
     requires callable { F.IsAlwaysCallable cmp.now }
     requires whole { W.whole held }
-    requires held { Answers W.pattern (F.post cmp.now) rhs (item_of W.T W.LANES WIDTH (pattern_at W.pattern words.now)) g 0 (W.lane held) }
+    requires held { Answers W.pattern (F.post cmp.now) rhs (item_of W.T W.LANES width (pattern_at W.pattern words.now)) g 0 (W.lane held) }
     ensures whole { W.whole result }
-    ensures held { Answers W.pattern (F.post cmp.now) rhs (item_of W.T W.LANES WIDTH (pattern_at W.pattern words.now)) g 32 (W.lane result) }
+    ensures held { Answers W.pattern (F.post cmp.now) rhs (item_of W.T W.LANES width (pattern_at W.pattern words.now)) g 32 (W.lane result) }
 {
-    let held = compare_8(WIDTH, words, cmp, rhs, 0, g, held);
-    let held = compare_8(WIDTH, words, cmp, rhs, 8, g, held);
-    let held = compare_8(WIDTH, words, cmp, rhs, 16, g, held);
-    compare_8(WIDTH, words, cmp, rhs, 24, g, held)
+    let held = compare_8(width, words, cmp, rhs, 0, g, held);
+    let held = compare_8(width, words, cmp, rhs, 8, g, held);
+    let held = compare_8(width, words, cmp, rhs, 16, g, held);
+    compare_8(width, words, cmp, rhs, 24, g, held)
 }
 
 /// The answers for the 64 rows of the lanes of group `g`.
-fn compare_64<W: FastLanes, F: Fn(W, W) -> bool, const WIDTH: usize>(
+fn compare_64<W: FastLanes, F: Fn(W, W) -> bool, const FIRST: usize, const MORE: usize>(
+    width: usize,
     words: &[W],
     cmp: &F,
     rhs: W,
     g: usize,
     held: W::Vector,
 ) -> W::Vector
-    requires width { WIDTH ≤ W.T }
-    requires block { length words.now ≡ WIDTH * W.LANES }
+    requires width { width ≤ W.T }
+    requires block { length words.now ≡ width * W.LANES }
     requires row { 64 ≤ W.T }
     requires group { 16 * g + 16 ≤ W.LANES }
     requires callable { F.IsAlwaysCallable cmp.now }
     requires whole { W.whole held }
-    requires held { Answers W.pattern (F.post cmp.now) rhs (item_of W.T W.LANES WIDTH (pattern_at W.pattern words.now)) g 0 (W.lane held) }
+    requires held { Answers W.pattern (F.post cmp.now) rhs (item_of W.T W.LANES width (pattern_at W.pattern words.now)) g 0 (W.lane held) }
     ensures whole { W.whole result }
-    ensures held { Answers W.pattern (F.post cmp.now) rhs (item_of W.T W.LANES WIDTH (pattern_at W.pattern words.now)) g 64 (W.lane result) }
+    ensures held { Answers W.pattern (F.post cmp.now) rhs (item_of W.T W.LANES width (pattern_at W.pattern words.now)) g 64 (W.lane result) }
 {
-    let held = compare_8(WIDTH, words, cmp, rhs, 0, g, held);
-    let held = compare_8(WIDTH, words, cmp, rhs, 8, g, held);
-    let held = compare_8(WIDTH, words, cmp, rhs, 16, g, held);
-    let held = compare_8(WIDTH, words, cmp, rhs, 24, g, held);
-    let held = compare_8(WIDTH, words, cmp, rhs, 32, g, held);
-    let held = compare_8(WIDTH, words, cmp, rhs, 40, g, held);
-    let held = compare_8(WIDTH, words, cmp, rhs, 48, g, held);
-    compare_8(WIDTH, words, cmp, rhs, 56, g, held)
+    let held = compare_8(width, words, cmp, rhs, 0, g, held);
+    let held = compare_8(width, words, cmp, rhs, 8, g, held);
+    let held = compare_8(width, words, cmp, rhs, 16, g, held);
+    let held = compare_8(width, words, cmp, rhs, 24, g, held);
+    let held = compare_8(width, words, cmp, rhs, 32, g, held);
+    let held = compare_8(width, words, cmp, rhs, 40, g, held);
+    let held = compare_8(width, words, cmp, rhs, 48, g, held);
+    compare_8(width, words, cmp, rhs, 56, g, held)
 }
 
 /// No answer yet.
@@ -178,29 +181,30 @@ fn none_held<W: FastLanes>() -> W::Vector
 /// The answers for all rows of the lanes of group `g`.
 #[inline(always)]
 #[tactic(auto, using(crate::proofs::ComparedBits::answers_none))]
-fn compare_group<W: FastLanes, F: Fn(W, W) -> bool, const WIDTH: usize>(
+fn compare_group<W: FastLanes, F: Fn(W, W) -> bool, const FIRST: usize, const MORE: usize>(
+    width: usize,
     words: &[W],
     cmp: &F,
     rhs: W,
     g: usize,
 ) -> W::Vector
-    requires width { WIDTH ≤ W.T }
-    requires block { length words.now ≡ WIDTH * W.LANES }
+    requires width { width ≤ W.T }
+    requires block { length words.now ≡ width * W.LANES }
     requires group { 16 * g + 16 ≤ W.LANES }
     requires callable { F.IsAlwaysCallable cmp.now }
     ensures whole { W.whole result }
-    ensures held { Answers W.pattern (F.post cmp.now) rhs (item_of W.T W.LANES WIDTH (pattern_at W.pattern words.now)) g W.T (W.lane result) }
+    ensures held { Answers W.pattern (F.post cmp.now) rhs (item_of W.T W.LANES width (pattern_at W.pattern words.now)) g W.T (W.lane result) }
 {
     let held = none_held::<W>();
     let t = bits::<W>();
     if t == 8 {
-        compare_8(WIDTH, words, cmp, rhs, 0, g, held)
+        compare_8(width, words, cmp, rhs, 0, g, held)
     } else if t == 16 {
-        compare_16::<W, F, WIDTH>(words, cmp, rhs, g, held)
+        compare_16::<W, F, FIRST, MORE>(width, words, cmp, rhs, g, held)
     } else if t == 32 {
-        compare_32::<W, F, WIDTH>(words, cmp, rhs, g, held)
+        compare_32::<W, F, FIRST, MORE>(width, words, cmp, rhs, g, held)
     } else {
-        compare_64::<W, F, WIDTH>(words, cmp, rhs, g, held)
+        compare_64::<W, F, FIRST, MORE>(width, words, cmp, rhs, g, held)
     }
 }
 
@@ -222,96 +226,139 @@ fn put_group<W: FastLanes>(held: W::Vector, g: usize, bytes: &mut [u8; 128])
 }
 
 /// Sets bit `r` of word `l` of these bytes where the item at row `r` of lane `l` compares so with `rhs`.
-fn compare_groups<W: FastLanes, F: Fn(W, W) -> bool, const WIDTH: usize>(
+///
+/// `FIRST` and `MORE` give each width a function of its own, in which the compiler knows it.
+fn compare_groups<W: FastLanes, F: Fn(W, W) -> bool, const FIRST: usize, const MORE: usize>(
+    width: usize,
     words: &[W],
     cmp: &F,
     rhs: W,
     bytes: &mut [u8; 128],
 )
-    requires width { WIDTH ≤ W.T }
-    requires block { length words.now ≡ WIDTH * W.LANES }
+    requires width { width ≤ W.T }
+    requires block { length words.now ≡ width * W.LANES }
     requires callable { F.IsAlwaysCallable cmp.now }
-    ensures set { (r l : ℕ) → r < W.T → l < W.LANES → IsAnswer W.pattern (F.post cmp.now) rhs (item_of W.T W.LANES WIDTH (pattern_at W.pattern words.now) r l) (is_set (word_at W.T bytes.new l) r) }
+    ensures set { (r l : ℕ) → r < W.T → l < W.LANES → IsAnswer W.pattern (F.post cmp.now) rhs (item_of W.T W.LANES width (pattern_at W.pattern words.now) r l) (is_set (word_at W.T bytes.new l) r) }
     ensures whole { length bytes.new ≡ 128 }
 {
     for g in 0..lanes::<W>() / 16 {
-        put_group::<W>(compare_group::<W, F, WIDTH>(words, cmp, rhs, g), g, bytes);
+        put_group::<W>(
+            compare_group::<W, F, FIRST, MORE>(width, words, cmp, rhs, g),
+            g,
+            bytes,
+        );
     }
 }
 
-/// Compares at a width of at most 8 bits.
-fn compare_to_8<W: FastLanes, F: Fn(W, W) -> bool>(
-    width: usize,
+/// Compares at a width that is a constant: `FIRST` bits and `MORE`.
+#[inline(never)]
+fn compare_at<W: FastLanes, F: Fn(W, W) -> bool, const FIRST: usize, const MORE: usize>(
     words: &[W],
     cmp: &F,
     rhs: W,
     bytes: &mut [u8; 128],
 )
-    requires most { width ≤ 8 }
-    requires width { width ≤ W.T }
-    requires block { length words.now ≡ width * W.LANES }
+    requires width { FIRST + MORE ≤ W.T }
+    requires block { length words.now ≡ (FIRST + MORE) * W.LANES }
     requires callable { F.IsAlwaysCallable cmp.now }
-    ensures set { (r l : ℕ) → r < W.T → l < W.LANES → IsAnswer W.pattern (F.post cmp.now) rhs (item_of W.T W.LANES width (pattern_at W.pattern words.now) r l) (is_set (word_at W.T bytes.new l) r) }
+    ensures set { (r l : ℕ) → r < W.T → l < W.LANES → IsAnswer W.pattern (F.post cmp.now) rhs (item_of W.T W.LANES (FIRST + MORE) (pattern_at W.pattern words.now) r l) (is_set (word_at W.T bytes.new l) r) }
     ensures whole { length bytes.new ≡ 128 }
 {
-    at_width!(width, [0 1 2 3 4 5 6 7], 8, compare_groups, [W, F], (words, cmp, rhs, bytes))
+    compare_groups::<W, F, FIRST, MORE>(FIRST + MORE, words, cmp, rhs, bytes);
 }
 
-/// Compares at a width of 9 to 16 bits.
-fn compare_to_16<W: FastLanes, F: Fn(W, W) -> bool>(
+/// Compares at one of the eight widths from `FIRST` on.
+fn compare_eight<W: FastLanes, F: Fn(W, W) -> bool, const FIRST: usize>(
     width: usize,
     words: &[W],
     cmp: &F,
     rhs: W,
     bytes: &mut [u8; 128],
 )
-    requires above { 8 < width }
-    requires most { width ≤ 16 }
+    requires first { FIRST ≤ width }
+    requires below { width < FIRST + 8 }
     requires width { width ≤ W.T }
     requires block { length words.now ≡ width * W.LANES }
     requires callable { F.IsAlwaysCallable cmp.now }
     ensures set { (r l : ℕ) → r < W.T → l < W.LANES → IsAnswer W.pattern (F.post cmp.now) rhs (item_of W.T W.LANES width (pattern_at W.pattern words.now) r l) (is_set (word_at W.T bytes.new l) r) }
     ensures whole { length bytes.new ≡ 128 }
 {
-    at_width!(width, [9 10 11 12 13 14 15], 16, compare_groups, [W, F], (words, cmp, rhs, bytes))
+    at_eight!(
+        width - FIRST,
+        compare_at,
+        [W, F, FIRST],
+        (words, cmp, rhs, bytes)
+    )
 }
 
-/// Compares at a width of 17 to 32 bits.
-fn compare_to_32<W: FastLanes, F: Fn(W, W) -> bool>(
+/// Compares at a width below 32 bits.
+fn compare_below_32<W: FastLanes, F: Fn(W, W) -> bool>(
     width: usize,
     words: &[W],
     cmp: &F,
     rhs: W,
     bytes: &mut [u8; 128],
 )
-    requires above { 16 < width }
-    requires most { width ≤ 32 }
-    requires width { width ≤ W.T }
+    requires below { width < 32 }
+    requires width { width < W.T }
     requires block { length words.now ≡ width * W.LANES }
     requires callable { F.IsAlwaysCallable cmp.now }
     ensures set { (r l : ℕ) → r < W.T → l < W.LANES → IsAnswer W.pattern (F.post cmp.now) rhs (item_of W.T W.LANES width (pattern_at W.pattern words.now) r l) (is_set (word_at W.T bytes.new l) r) }
     ensures whole { length bytes.new ≡ 128 }
 {
-    at_width!(width, [17 18 19 20 21 22 23 24 25 26 27 28 29 30 31], 32, compare_groups, [W, F], (words, cmp, rhs, bytes))
+    let t = bits::<W>();
+    if t == 8 || width < 8 {
+        compare_eight::<W, F, 0>(width, words, cmp, rhs, bytes);
+    } else if t == 16 || width < 16 {
+        compare_eight::<W, F, 8>(width, words, cmp, rhs, bytes);
+    } else if width < 24 {
+        compare_eight::<W, F, 16>(width, words, cmp, rhs, bytes);
+    } else {
+        compare_eight::<W, F, 24>(width, words, cmp, rhs, bytes);
+    }
 }
 
-/// Compares at a width of 33 to 64 bits.
-fn compare_to_64<W: FastLanes, F: Fn(W, W) -> bool>(
+/// Compares at a width of 32 to 63 bits.
+fn compare_from_32<W: FastLanes, F: Fn(W, W) -> bool>(
     width: usize,
     words: &[W],
     cmp: &F,
     rhs: W,
     bytes: &mut [u8; 128],
 )
-    requires above { 32 < width }
-    requires most { width ≤ 64 }
-    requires width { width ≤ W.T }
+    requires from { 32 ≤ width }
+    requires below { width < 64 }
+    requires width { width < W.T }
     requires block { length words.now ≡ width * W.LANES }
     requires callable { F.IsAlwaysCallable cmp.now }
     ensures set { (r l : ℕ) → r < W.T → l < W.LANES → IsAnswer W.pattern (F.post cmp.now) rhs (item_of W.T W.LANES width (pattern_at W.pattern words.now) r l) (is_set (word_at W.T bytes.new l) r) }
     ensures whole { length bytes.new ≡ 128 }
 {
-    at_width!(width, [33 34 35 36 37 38 39 40 41 42 43 44 45 46 47 48 49 50 51 52 53 54 55 56 57 58 59 60 61 62 63], 64, compare_groups, [W, F], (words, cmp, rhs, bytes))
+    if width < 40 {
+        compare_eight::<W, F, 32>(width, words, cmp, rhs, bytes);
+    } else if width < 48 {
+        compare_eight::<W, F, 40>(width, words, cmp, rhs, bytes);
+    } else if width < 56 {
+        compare_eight::<W, F, 48>(width, words, cmp, rhs, bytes);
+    } else {
+        compare_eight::<W, F, 56>(width, words, cmp, rhs, bytes);
+    }
+}
+
+/// Compares where the items have all bits of their words.
+#[inline(never)]
+fn compare_whole<W: FastLanes, F: Fn(W, W) -> bool>(
+    words: &[W],
+    cmp: &F,
+    rhs: W,
+    bytes: &mut [u8; 128],
+)
+    requires block { length words.now ≡ W.T * W.LANES }
+    requires callable { F.IsAlwaysCallable cmp.now }
+    ensures set { (r l : ℕ) → r < W.T → l < W.LANES → IsAnswer W.pattern (F.post cmp.now) rhs (item_of W.T W.LANES W.T (pattern_at W.pattern words.now) r l) (is_set (word_at W.T bytes.new l) r) }
+    ensures whole { length bytes.new ≡ 128 }
+{
+    compare_groups::<W, F, 64, 0>(bits::<W>(), words, cmp, rhs, bytes);
 }
 
 /// The same at any width.
@@ -329,14 +376,12 @@ fn compare_block<W: FastLanes, F: Fn(W, W) -> bool>(
     ensures whole { length bytes.new ≡ 128 }
 {
     let t = bits::<W>();
-    if t == 8 || width <= 8 {
-        compare_to_8(width, words, cmp, rhs, bytes);
-    } else if t == 16 || width <= 16 {
-        compare_to_16(width, words, cmp, rhs, bytes);
-    } else if t == 32 || width <= 32 {
-        compare_to_32(width, words, cmp, rhs, bytes);
+    if width == t {
+        compare_whole(words, cmp, rhs, bytes);
+    } else if t <= 32 || width < 32 {
+        compare_below_32(width, words, cmp, rhs, bytes);
     } else {
-        compare_to_64(width, words, cmp, rhs, bytes);
+        compare_from_32(width, words, cmp, rhs, bytes);
     }
 }
 

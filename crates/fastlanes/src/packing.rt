@@ -7,7 +7,7 @@ ghost use Rattle.fastlanes.specs.Filled.{Filled, word_of, word_place, held};
 
 use crate::layout::{FL_CHUNK_SIZE, pos};
 use crate::storage::{AsBytes, AsWords, Storage};
-use crate::widths::{at_width, begin, bits, group_at, lanes};
+use crate::widths::{at_eight, begin, bits, group_at, lanes};
 use crate::words::FastLanes;
 
 /// Puts the items at row `r` of the lanes of group `g` into the words that are being made, writes those that are whole, and gives the words that are begun.
@@ -78,77 +78,80 @@ fn pack_8<W: FastLanes, S: Storage<W>>(
 }
 
 /// Puts the items at the 16 rows into the words that are being made.
-fn pack_16<W: FastLanes, S: Storage<W>, const WIDTH: usize>(
+fn pack_16<W: FastLanes, S: Storage<W>, const FIRST: usize, const MORE: usize>(
+    width: usize,
     items: &[W; FL_CHUNK_SIZE],
     g: usize,
     begun: W::Vector,
     packed: &mut [S::Unit],
 ) -> W::Vector
-    requires some { 0 < WIDTH }
-    requires width { WIDTH ≤ W.T }
-    requires block { S.count (length packed.old) ≡ WIDTH * W.LANES }
+    requires some { 0 < width }
+    requires width { width ≤ W.T }
+    requires block { S.count (length packed.old) ≡ width * W.LANES }
     requires row { 16 ≤ W.T }
     requires group { 16 * g + 16 ≤ W.LANES }
     requires whole { W.whole begun }
-    requires begun { (j : ℕ) → j < 16 → W.lane begun j ≡ held W.T WIDTH (pattern_at W.pattern items.now) (0 * WIDTH) (16 * g + j) }
+    requires begun { (j : ℕ) → j < 16 → W.lane begun j ≡ held W.T width (pattern_at W.pattern items.now) (0 * width) (16 * g + j) }
     ensures whole { W.whole result }
-    ensures begun { (j : ℕ) → j < 16 → W.lane result j ≡ held W.T WIDTH (pattern_at W.pattern items.now) (16 * WIDTH) (16 * g + j) }
-    ensures words { Filled WIDTH W.LANES (word_place W.LANES) (word_of W.T WIDTH (pattern_at W.pattern items.now)) g (0 * WIDTH / W.T) (16 * WIDTH / W.T) (S.word packed.old) (S.word packed.new) }
+    ensures begun { (j : ℕ) → j < 16 → W.lane result j ≡ held W.T width (pattern_at W.pattern items.now) (16 * width) (16 * g + j) }
+    ensures words { Filled width W.LANES (word_place W.LANES) (word_of W.T width (pattern_at W.pattern items.now)) g (0 * width / W.T) (16 * width / W.T) (S.word packed.old) (S.word packed.new) }
 {
-    let begun = pack_8::<W, S>(WIDTH, items, 0, g, begun, packed);
-    pack_8::<W, S>(WIDTH, items, 8, g, begun, packed)
+    let begun = pack_8::<W, S>(width, items, 0, g, begun, packed);
+    pack_8::<W, S>(width, items, 8, g, begun, packed)
 }
 
 /// Puts the items at the 32 rows into the words that are being made.
-fn pack_32<W: FastLanes, S: Storage<W>, const WIDTH: usize>(
+fn pack_32<W: FastLanes, S: Storage<W>, const FIRST: usize, const MORE: usize>(
+    width: usize,
     items: &[W; FL_CHUNK_SIZE],
     g: usize,
     begun: W::Vector,
     packed: &mut [S::Unit],
 ) -> W::Vector
-    requires some { 0 < WIDTH }
-    requires width { WIDTH ≤ W.T }
-    requires block { S.count (length packed.old) ≡ WIDTH * W.LANES }
+    requires some { 0 < width }
+    requires width { width ≤ W.T }
+    requires block { S.count (length packed.old) ≡ width * W.LANES }
     requires row { 32 ≤ W.T }
     requires group { 16 * g + 16 ≤ W.LANES }
     requires whole { W.whole begun }
-    requires begun { (j : ℕ) → j < 16 → W.lane begun j ≡ held W.T WIDTH (pattern_at W.pattern items.now) (0 * WIDTH) (16 * g + j) }
+    requires begun { (j : ℕ) → j < 16 → W.lane begun j ≡ held W.T width (pattern_at W.pattern items.now) (0 * width) (16 * g + j) }
     ensures whole { W.whole result }
-    ensures begun { (j : ℕ) → j < 16 → W.lane result j ≡ held W.T WIDTH (pattern_at W.pattern items.now) (32 * WIDTH) (16 * g + j) }
-    ensures words { Filled WIDTH W.LANES (word_place W.LANES) (word_of W.T WIDTH (pattern_at W.pattern items.now)) g (0 * WIDTH / W.T) (32 * WIDTH / W.T) (S.word packed.old) (S.word packed.new) }
+    ensures begun { (j : ℕ) → j < 16 → W.lane result j ≡ held W.T width (pattern_at W.pattern items.now) (32 * width) (16 * g + j) }
+    ensures words { Filled width W.LANES (word_place W.LANES) (word_of W.T width (pattern_at W.pattern items.now)) g (0 * width / W.T) (32 * width / W.T) (S.word packed.old) (S.word packed.new) }
 {
-    let begun = pack_8::<W, S>(WIDTH, items, 0, g, begun, packed);
-    let begun = pack_8::<W, S>(WIDTH, items, 8, g, begun, packed);
-    let begun = pack_8::<W, S>(WIDTH, items, 16, g, begun, packed);
-    pack_8::<W, S>(WIDTH, items, 24, g, begun, packed)
+    let begun = pack_8::<W, S>(width, items, 0, g, begun, packed);
+    let begun = pack_8::<W, S>(width, items, 8, g, begun, packed);
+    let begun = pack_8::<W, S>(width, items, 16, g, begun, packed);
+    pack_8::<W, S>(width, items, 24, g, begun, packed)
 }
 
 /// Puts the items at the 64 rows into the words that are being made.
-fn pack_64<W: FastLanes, S: Storage<W>, const WIDTH: usize>(
+fn pack_64<W: FastLanes, S: Storage<W>, const FIRST: usize, const MORE: usize>(
+    width: usize,
     items: &[W; FL_CHUNK_SIZE],
     g: usize,
     begun: W::Vector,
     packed: &mut [S::Unit],
 ) -> W::Vector
-    requires some { 0 < WIDTH }
-    requires width { WIDTH ≤ W.T }
-    requires block { S.count (length packed.old) ≡ WIDTH * W.LANES }
+    requires some { 0 < width }
+    requires width { width ≤ W.T }
+    requires block { S.count (length packed.old) ≡ width * W.LANES }
     requires row { 64 ≤ W.T }
     requires group { 16 * g + 16 ≤ W.LANES }
     requires whole { W.whole begun }
-    requires begun { (j : ℕ) → j < 16 → W.lane begun j ≡ held W.T WIDTH (pattern_at W.pattern items.now) (0 * WIDTH) (16 * g + j) }
+    requires begun { (j : ℕ) → j < 16 → W.lane begun j ≡ held W.T width (pattern_at W.pattern items.now) (0 * width) (16 * g + j) }
     ensures whole { W.whole result }
-    ensures begun { (j : ℕ) → j < 16 → W.lane result j ≡ held W.T WIDTH (pattern_at W.pattern items.now) (64 * WIDTH) (16 * g + j) }
-    ensures words { Filled WIDTH W.LANES (word_place W.LANES) (word_of W.T WIDTH (pattern_at W.pattern items.now)) g (0 * WIDTH / W.T) (64 * WIDTH / W.T) (S.word packed.old) (S.word packed.new) }
+    ensures begun { (j : ℕ) → j < 16 → W.lane result j ≡ held W.T width (pattern_at W.pattern items.now) (64 * width) (16 * g + j) }
+    ensures words { Filled width W.LANES (word_place W.LANES) (word_of W.T width (pattern_at W.pattern items.now)) g (0 * width / W.T) (64 * width / W.T) (S.word packed.old) (S.word packed.new) }
 {
-    let begun = pack_8::<W, S>(WIDTH, items, 0, g, begun, packed);
-    let begun = pack_8::<W, S>(WIDTH, items, 8, g, begun, packed);
-    let begun = pack_8::<W, S>(WIDTH, items, 16, g, begun, packed);
-    let begun = pack_8::<W, S>(WIDTH, items, 24, g, begun, packed);
-    let begun = pack_8::<W, S>(WIDTH, items, 32, g, begun, packed);
-    let begun = pack_8::<W, S>(WIDTH, items, 40, g, begun, packed);
-    let begun = pack_8::<W, S>(WIDTH, items, 48, g, begun, packed);
-    pack_8::<W, S>(WIDTH, items, 56, g, begun, packed)
+    let begun = pack_8::<W, S>(width, items, 0, g, begun, packed);
+    let begun = pack_8::<W, S>(width, items, 8, g, begun, packed);
+    let begun = pack_8::<W, S>(width, items, 16, g, begun, packed);
+    let begun = pack_8::<W, S>(width, items, 24, g, begun, packed);
+    let begun = pack_8::<W, S>(width, items, 32, g, begun, packed);
+    let begun = pack_8::<W, S>(width, items, 40, g, begun, packed);
+    let begun = pack_8::<W, S>(width, items, 48, g, begun, packed);
+    pack_8::<W, S>(width, items, 56, g, begun, packed)
 }
 
 /// No bits of any word.
@@ -162,27 +165,28 @@ fn nothing_begun<W: FastLanes>(width: usize, items: &[W; FL_CHUNK_SIZE], g: usiz
 
 /// Packs the items of the lanes of group `g`.
 #[inline(always)]
-fn pack_group<W: FastLanes, S: Storage<W>, const WIDTH: usize>(
+fn pack_group<W: FastLanes, S: Storage<W>, const FIRST: usize, const MORE: usize>(
+    width: usize,
     items: &[W; FL_CHUNK_SIZE],
     g: usize,
     packed: &mut [S::Unit],
 )
-    requires some { 0 < WIDTH }
-    requires width { WIDTH ≤ W.T }
-    requires block { S.count (length packed.old) ≡ WIDTH * W.LANES }
+    requires some { 0 < width }
+    requires width { width ≤ W.T }
+    requires block { S.count (length packed.old) ≡ width * W.LANES }
     requires group { 16 * g + 16 ≤ W.LANES }
-    ensures words { Filled WIDTH W.LANES (word_place W.LANES) (word_of W.T WIDTH (pattern_at W.pattern items.now)) g 0 WIDTH (S.word packed.old) (S.word packed.new) }
+    ensures words { Filled width W.LANES (word_place W.LANES) (word_of W.T width (pattern_at W.pattern items.now)) g 0 width (S.word packed.old) (S.word packed.new) }
 {
-    let begun = nothing_begun(WIDTH, items, g);
+    let begun = nothing_begun(width, items, g);
     let t = bits::<W>();
     if t == 8 {
-        pack_8::<W, S>(WIDTH, items, 0, g, begun, packed);
+        pack_8::<W, S>(width, items, 0, g, begun, packed);
     } else if t == 16 {
-        pack_16::<W, S, WIDTH>(items, g, begun, packed);
+        pack_16::<W, S, FIRST, MORE>(width, items, g, begun, packed);
     } else if t == 32 {
-        pack_32::<W, S, WIDTH>(items, g, begun, packed);
+        pack_32::<W, S, FIRST, MORE>(width, items, g, begun, packed);
     } else {
-        pack_64::<W, S, WIDTH>(items, g, begun, packed);
+        pack_64::<W, S, FIRST, MORE>(width, items, g, begun, packed);
     }
 }
 
@@ -197,84 +201,111 @@ fn copy_items<W: FastLanes, S: Storage<W>>(items: &[W; FL_CHUNK_SIZE], packed: &
     }
 }
 
-/// Packs the low `WIDTH` bits of the items of a block.
-fn pack_groups<W: FastLanes, S: Storage<W>, const WIDTH: usize>(
+/// Packs the low `width` bits of the items of a block.
+///
+/// `FIRST` and `MORE` give each width a function of its own, in which the compiler knows it.
+fn pack_groups<W: FastLanes, S: Storage<W>, const FIRST: usize, const MORE: usize>(
+    width: usize,
     items: &[W; FL_CHUNK_SIZE],
     packed: &mut [S::Unit],
 )
-    requires width { WIDTH ≤ W.T }
-    requires room { S.count (length packed.old) ≡ WIDTH * W.LANES }
-    ensures { Packed W.T W.LANES WIDTH (pattern_at W.pattern items.now) (S.word packed.new) }
+    requires width { width ≤ W.T }
+    requires room { S.count (length packed.old) ≡ width * W.LANES }
+    ensures { Packed W.T W.LANES width (pattern_at W.pattern items.now) (S.word packed.new) }
 {
-    if WIDTH == 0 {
+    if width == 0 {
         return;
     }
-    if WIDTH == 8 && bits::<W>() == 8 {
+    if width == 8 && bits::<W>() == 8 {
         copy_items::<W, S>(items, packed);
         return;
     }
     for g in 0..lanes::<W>() / 16 {
-        pack_group::<W, S, WIDTH>(items, g, packed);
+        pack_group::<W, S, FIRST, MORE>(width, items, g, packed);
     }
 }
 
-/// Packs at a width of at most 8 bits.
-fn pack_to_8<W: FastLanes, S: Storage<W>>(
-    width: usize,
+/// Packs at a width that is a constant: `FIRST` bits and `MORE`.
+#[inline(never)]
+fn pack_at<W: FastLanes, S: Storage<W>, const FIRST: usize, const MORE: usize>(
     items: &[W; FL_CHUNK_SIZE],
     packed: &mut [S::Unit],
 )
-    requires most { width ≤ 8 }
-    requires width { width ≤ W.T }
-    requires room { S.count (length packed.old) ≡ width * W.LANES }
-    ensures { Packed W.T W.LANES width (pattern_at W.pattern items.now) (S.word packed.new) }
+    requires width { FIRST + MORE ≤ W.T }
+    requires room { S.count (length packed.old) ≡ (FIRST + MORE) * W.LANES }
+    ensures { Packed W.T W.LANES (FIRST + MORE) (pattern_at W.pattern items.now) (S.word packed.new) }
 {
-    at_width!(width, [0 1 2 3 4 5 6 7], 8, pack_groups, [W, S], (items, packed))
+    pack_groups::<W, S, FIRST, MORE>(FIRST + MORE, items, packed);
 }
 
-/// Packs at a width of 9 to 16 bits.
-fn pack_to_16<W: FastLanes, S: Storage<W>>(
+/// Packs at one of the eight widths from `FIRST` on.
+fn pack_eight<W: FastLanes, S: Storage<W>, const FIRST: usize>(
     width: usize,
     items: &[W; FL_CHUNK_SIZE],
     packed: &mut [S::Unit],
 )
-    requires above { 8 < width }
-    requires most { width ≤ 16 }
+    requires first { FIRST ≤ width }
+    requires below { width < FIRST + 8 }
     requires width { width ≤ W.T }
     requires room { S.count (length packed.old) ≡ width * W.LANES }
     ensures { Packed W.T W.LANES width (pattern_at W.pattern items.now) (S.word packed.new) }
 {
-    at_width!(width, [9 10 11 12 13 14 15], 16, pack_groups, [W, S], (items, packed))
+    at_eight!(width - FIRST, pack_at, [W, S, FIRST], (items, packed))
 }
 
-/// Packs at a width of 17 to 32 bits.
-fn pack_to_32<W: FastLanes, S: Storage<W>>(
+/// Packs at a width below 32 bits.
+fn pack_below_32<W: FastLanes, S: Storage<W>>(
     width: usize,
     items: &[W; FL_CHUNK_SIZE],
     packed: &mut [S::Unit],
 )
-    requires above { 16 < width }
-    requires most { width ≤ 32 }
-    requires width { width ≤ W.T }
+    requires below { width < 32 }
+    requires width { width < W.T }
     requires room { S.count (length packed.old) ≡ width * W.LANES }
     ensures { Packed W.T W.LANES width (pattern_at W.pattern items.now) (S.word packed.new) }
 {
-    at_width!(width, [17 18 19 20 21 22 23 24 25 26 27 28 29 30 31], 32, pack_groups, [W, S], (items, packed))
+    let t = bits::<W>();
+    if t == 8 || width < 8 {
+        pack_eight::<W, S, 0>(width, items, packed);
+    } else if t == 16 || width < 16 {
+        pack_eight::<W, S, 8>(width, items, packed);
+    } else if width < 24 {
+        pack_eight::<W, S, 16>(width, items, packed);
+    } else {
+        pack_eight::<W, S, 24>(width, items, packed);
+    }
 }
 
-/// Packs at a width of 33 to 64 bits.
-fn pack_to_64<W: FastLanes, S: Storage<W>>(
+/// Packs at a width of 32 to 63 bits.
+fn pack_from_32<W: FastLanes, S: Storage<W>>(
     width: usize,
     items: &[W; FL_CHUNK_SIZE],
     packed: &mut [S::Unit],
 )
-    requires above { 32 < width }
-    requires most { width ≤ 64 }
-    requires width { width ≤ W.T }
+    requires from { 32 ≤ width }
+    requires below { width < 64 }
+    requires width { width < W.T }
     requires room { S.count (length packed.old) ≡ width * W.LANES }
     ensures { Packed W.T W.LANES width (pattern_at W.pattern items.now) (S.word packed.new) }
 {
-    at_width!(width, [33 34 35 36 37 38 39 40 41 42 43 44 45 46 47 48 49 50 51 52 53 54 55 56 57 58 59 60 61 62 63], 64, pack_groups, [W, S], (items, packed))
+    if width < 40 {
+        pack_eight::<W, S, 32>(width, items, packed);
+    } else if width < 48 {
+        pack_eight::<W, S, 40>(width, items, packed);
+    } else if width < 56 {
+        pack_eight::<W, S, 48>(width, items, packed);
+    } else {
+        pack_eight::<W, S, 56>(width, items, packed);
+    }
+}
+
+/// Packs all bits of the items of a block.
+#[inline(never)]
+fn pack_whole<W: FastLanes, S: Storage<W>>(items: &[W; FL_CHUNK_SIZE], packed: &mut [S::Unit])
+    requires room { S.count (length packed.old) ≡ W.T * W.LANES }
+    ensures { Packed W.T W.LANES W.T (pattern_at W.pattern items.now) (S.word packed.new) }
+{
+    pack_groups::<W, S, 64, 0>(bits::<W>(), items, packed);
 }
 
 /// Packs the low `width` bits of the items of a block at any width.
@@ -288,14 +319,12 @@ fn pack_block<W: FastLanes, S: Storage<W>>(
     ensures { Packed W.T W.LANES width (pattern_at W.pattern items.now) (S.word packed.new) }
 {
     let t = bits::<W>();
-    if t == 8 || width <= 8 {
-        pack_to_8::<W, S>(width, items, packed);
-    } else if t == 16 || width <= 16 {
-        pack_to_16::<W, S>(width, items, packed);
-    } else if t == 32 || width <= 32 {
-        pack_to_32::<W, S>(width, items, packed);
+    if width == t {
+        pack_whole::<W, S>(items, packed);
+    } else if t <= 32 || width < 32 {
+        pack_below_32::<W, S>(width, items, packed);
     } else {
-        pack_to_64::<W, S>(width, items, packed);
+        pack_from_32::<W, S>(width, items, packed);
     }
 }
 

@@ -8,7 +8,7 @@ ghost use Rattle.fastlanes.specs.Filled.{Filled, IsReference, item_of, sum_of};
 use crate::counts::Work;
 use crate::layout::{FL_CHUNK_SIZE, pos};
 use crate::storage::{AsBytes, AsWords, Storage};
-use crate::widths::{at_width, begin, bits, group_at, lanes};
+use crate::widths::{at_eight, begin, bits, group_at, lanes};
 use crate::words::FastLanes;
 
 /// The items at row `r` of the lanes of group `g`.
@@ -106,98 +106,102 @@ fn unpack_8<W: FastLanes, S: Storage<W>, const FRAMED: bool>(
 }
 
 /// Writes the items at the 16 rows of the lanes of group `g`, plus the reference.
-fn unpack_16<W: FastLanes, S: Storage<W>, const FRAMED: bool, const WIDTH: usize>(
-    words: &[S::Unit],
-    reference: W::Vector,
-    g: usize,
-    items: &mut [W; FL_CHUNK_SIZE],
-)
-    requires width { WIDTH ≤ W.T }
-    requires block { S.count (length words.now) ≡ WIDTH * W.LANES }
+fn unpack_16<
+    W: FastLanes,
+    S: Storage<W>,
+    const FRAMED: bool,
+    const FIRST: usize,
+    const MORE: usize,
+>(width: usize, words: &[S::Unit], reference: W::Vector, g: usize, items: &mut [W; FL_CHUNK_SIZE])
+    requires width { width ≤ W.T }
+    requires block { S.count (length words.now) ≡ width * W.LANES }
     requires reference { W.whole reference }
     requires frame { IsReference FRAMED (W.lane reference) }
     requires row { 16 ≤ W.T }
     requires group { 16 * g + 16 ≤ W.LANES }
-    ensures filled { Filled W.T W.LANES place (sum_of W.T W.LANES WIDTH (S.word words.now) (W.lane reference)) g 0 16 (pattern_at W.pattern items.old) (pattern_at W.pattern items.new) }
+    ensures filled { Filled W.T W.LANES place (sum_of W.T W.LANES width (S.word words.now) (W.lane reference)) g 0 16 (pattern_at W.pattern items.old) (pattern_at W.pattern items.new) }
     ensures whole { length items.new ≡ 1024 }
 {
-    unpack_8::<W, S, FRAMED>(WIDTH, words, reference, 0, g, items);
-    unpack_8::<W, S, FRAMED>(WIDTH, words, reference, 8, g, items);
+    unpack_8::<W, S, FRAMED>(width, words, reference, 0, g, items);
+    unpack_8::<W, S, FRAMED>(width, words, reference, 8, g, items);
 }
 
 /// Writes the items at the 32 rows of the lanes of group `g`, plus the reference.
-fn unpack_32<W: FastLanes, S: Storage<W>, const FRAMED: bool, const WIDTH: usize>(
-    words: &[S::Unit],
-    reference: W::Vector,
-    g: usize,
-    items: &mut [W; FL_CHUNK_SIZE],
-)
-    requires width { WIDTH ≤ W.T }
-    requires block { S.count (length words.now) ≡ WIDTH * W.LANES }
+fn unpack_32<
+    W: FastLanes,
+    S: Storage<W>,
+    const FRAMED: bool,
+    const FIRST: usize,
+    const MORE: usize,
+>(width: usize, words: &[S::Unit], reference: W::Vector, g: usize, items: &mut [W; FL_CHUNK_SIZE])
+    requires width { width ≤ W.T }
+    requires block { S.count (length words.now) ≡ width * W.LANES }
     requires reference { W.whole reference }
     requires frame { IsReference FRAMED (W.lane reference) }
     requires row { 32 ≤ W.T }
     requires group { 16 * g + 16 ≤ W.LANES }
-    ensures filled { Filled W.T W.LANES place (sum_of W.T W.LANES WIDTH (S.word words.now) (W.lane reference)) g 0 32 (pattern_at W.pattern items.old) (pattern_at W.pattern items.new) }
+    ensures filled { Filled W.T W.LANES place (sum_of W.T W.LANES width (S.word words.now) (W.lane reference)) g 0 32 (pattern_at W.pattern items.old) (pattern_at W.pattern items.new) }
     ensures whole { length items.new ≡ 1024 }
 {
-    unpack_8::<W, S, FRAMED>(WIDTH, words, reference, 0, g, items);
-    unpack_8::<W, S, FRAMED>(WIDTH, words, reference, 8, g, items);
-    unpack_8::<W, S, FRAMED>(WIDTH, words, reference, 16, g, items);
-    unpack_8::<W, S, FRAMED>(WIDTH, words, reference, 24, g, items);
+    unpack_8::<W, S, FRAMED>(width, words, reference, 0, g, items);
+    unpack_8::<W, S, FRAMED>(width, words, reference, 8, g, items);
+    unpack_8::<W, S, FRAMED>(width, words, reference, 16, g, items);
+    unpack_8::<W, S, FRAMED>(width, words, reference, 24, g, items);
 }
 
 /// Writes the items at the 64 rows of the lanes of group `g`, plus the reference.
-fn unpack_64<W: FastLanes, S: Storage<W>, const FRAMED: bool, const WIDTH: usize>(
-    words: &[S::Unit],
-    reference: W::Vector,
-    g: usize,
-    items: &mut [W; FL_CHUNK_SIZE],
-)
-    requires width { WIDTH ≤ W.T }
-    requires block { S.count (length words.now) ≡ WIDTH * W.LANES }
+fn unpack_64<
+    W: FastLanes,
+    S: Storage<W>,
+    const FRAMED: bool,
+    const FIRST: usize,
+    const MORE: usize,
+>(width: usize, words: &[S::Unit], reference: W::Vector, g: usize, items: &mut [W; FL_CHUNK_SIZE])
+    requires width { width ≤ W.T }
+    requires block { S.count (length words.now) ≡ width * W.LANES }
     requires reference { W.whole reference }
     requires frame { IsReference FRAMED (W.lane reference) }
     requires row { 64 ≤ W.T }
     requires group { 16 * g + 16 ≤ W.LANES }
-    ensures filled { Filled W.T W.LANES place (sum_of W.T W.LANES WIDTH (S.word words.now) (W.lane reference)) g 0 64 (pattern_at W.pattern items.old) (pattern_at W.pattern items.new) }
+    ensures filled { Filled W.T W.LANES place (sum_of W.T W.LANES width (S.word words.now) (W.lane reference)) g 0 64 (pattern_at W.pattern items.old) (pattern_at W.pattern items.new) }
     ensures whole { length items.new ≡ 1024 }
 {
-    unpack_8::<W, S, FRAMED>(WIDTH, words, reference, 0, g, items);
-    unpack_8::<W, S, FRAMED>(WIDTH, words, reference, 8, g, items);
-    unpack_8::<W, S, FRAMED>(WIDTH, words, reference, 16, g, items);
-    unpack_8::<W, S, FRAMED>(WIDTH, words, reference, 24, g, items);
-    unpack_8::<W, S, FRAMED>(WIDTH, words, reference, 32, g, items);
-    unpack_8::<W, S, FRAMED>(WIDTH, words, reference, 40, g, items);
-    unpack_8::<W, S, FRAMED>(WIDTH, words, reference, 48, g, items);
-    unpack_8::<W, S, FRAMED>(WIDTH, words, reference, 56, g, items);
+    unpack_8::<W, S, FRAMED>(width, words, reference, 0, g, items);
+    unpack_8::<W, S, FRAMED>(width, words, reference, 8, g, items);
+    unpack_8::<W, S, FRAMED>(width, words, reference, 16, g, items);
+    unpack_8::<W, S, FRAMED>(width, words, reference, 24, g, items);
+    unpack_8::<W, S, FRAMED>(width, words, reference, 32, g, items);
+    unpack_8::<W, S, FRAMED>(width, words, reference, 40, g, items);
+    unpack_8::<W, S, FRAMED>(width, words, reference, 48, g, items);
+    unpack_8::<W, S, FRAMED>(width, words, reference, 56, g, items);
 }
 
 /// Writes the items at all rows of the lanes of group `g`, plus the reference.
 #[inline(always)]
-fn unpack_group<W: FastLanes, S: Storage<W>, const FRAMED: bool, const WIDTH: usize>(
-    words: &[S::Unit],
-    reference: W::Vector,
-    g: usize,
-    items: &mut [W; FL_CHUNK_SIZE],
-)
-    requires width { WIDTH ≤ W.T }
-    requires block { S.count (length words.now) ≡ WIDTH * W.LANES }
+fn unpack_group<
+    W: FastLanes,
+    S: Storage<W>,
+    const FRAMED: bool,
+    const FIRST: usize,
+    const MORE: usize,
+>(width: usize, words: &[S::Unit], reference: W::Vector, g: usize, items: &mut [W; FL_CHUNK_SIZE])
+    requires width { width ≤ W.T }
+    requires block { S.count (length words.now) ≡ width * W.LANES }
     requires reference { W.whole reference }
     requires frame { IsReference FRAMED (W.lane reference) }
     requires group { 16 * g + 16 ≤ W.LANES }
-    ensures filled { Filled W.T W.LANES place (sum_of W.T W.LANES WIDTH (S.word words.now) (W.lane reference)) g 0 W.T (pattern_at W.pattern items.old) (pattern_at W.pattern items.new) }
+    ensures filled { Filled W.T W.LANES place (sum_of W.T W.LANES width (S.word words.now) (W.lane reference)) g 0 W.T (pattern_at W.pattern items.old) (pattern_at W.pattern items.new) }
     ensures whole { length items.new ≡ 1024 }
 {
     let t = bits::<W>();
     if t == 8 {
-        unpack_8::<W, S, FRAMED>(WIDTH, words, reference, 0, g, items);
+        unpack_8::<W, S, FRAMED>(width, words, reference, 0, g, items);
     } else if t == 16 {
-        unpack_16::<W, S, FRAMED, WIDTH>(words, reference, g, items);
+        unpack_16::<W, S, FRAMED, FIRST, MORE>(width, words, reference, g, items);
     } else if t == 32 {
-        unpack_32::<W, S, FRAMED, WIDTH>(words, reference, g, items);
+        unpack_32::<W, S, FRAMED, FIRST, MORE>(width, words, reference, g, items);
     } else {
-        unpack_64::<W, S, FRAMED, WIDTH>(words, reference, g, items);
+        unpack_64::<W, S, FRAMED, FIRST, MORE>(width, words, reference, g, items);
     }
 }
 
@@ -238,102 +242,143 @@ fn copy_words<W: FastLanes, S: Storage<W>>(words: &[S::Unit], items: &mut [W; FL
 }
 
 /// Writes the items of a block, plus the reference.
-fn unpack_groups<W: FastLanes, S: Storage<W>, const FRAMED: bool, const WIDTH: usize>(
-    words: &[S::Unit],
-    reference: W,
-    items: &mut [W; FL_CHUNK_SIZE],
-)
-    requires width { WIDTH ≤ W.T }
-    requires block { S.count (length words.now) ≡ WIDTH * W.LANES }
+///
+/// `FIRST` and `MORE` give each width a function of its own, in which the compiler knows it.
+fn unpack_groups<
+    W: FastLanes,
+    S: Storage<W>,
+    const FRAMED: bool,
+    const FIRST: usize,
+    const MORE: usize,
+>(width: usize, words: &[S::Unit], reference: W, items: &mut [W; FL_CHUNK_SIZE])
+    requires width { width ≤ W.T }
+    requires block { S.count (length words.now) ≡ width * W.LANES }
     requires frame { FRAMED ≡ false → W.pattern reference ≡ 0 }
-    ensures items { (i : ℕ) → i < 1024 → pattern_at W.pattern items.new i ≡ (unpacked_item W.T W.LANES WIDTH (S.word words.now) i + W.pattern reference) % 2 ^ W.T }
+    ensures items { (i : ℕ) → i < 1024 → pattern_at W.pattern items.new i ≡ (unpacked_item W.T W.LANES width (S.word words.now) i + W.pattern reference) % 2 ^ W.T }
     ensures whole { length items.new ≡ 1024 }
 {
     reference.in_range();
     W::in_memory();
-    if WIDTH == 0 {
+    if width == 0 {
         fill(reference, items);
         return;
     }
-    if WIDTH == 8 && !FRAMED && bits::<W>() == 8 {
+    if width == 8 && !FRAMED && bits::<W>() == 8 {
         copy_words::<W, S>(words, items);
         return;
     }
     let reference = splat_reference::<W, FRAMED>(reference);
     for g in 0..lanes::<W>() / 16 {
-        unpack_group::<W, S, FRAMED, WIDTH>(words, reference, g, items);
+        unpack_group::<W, S, FRAMED, FIRST, MORE>(width, words, reference, g, items);
     }
 }
 
-/// Unpacks at a width of at most 8 bits.
-fn unpack_to_8<W: FastLanes, S: Storage<W>, const FRAMED: bool>(
-    width: usize,
-    words: &[S::Unit],
-    reference: W,
-    items: &mut [W; FL_CHUNK_SIZE],
-)
-    requires most { width ≤ 8 }
-    requires width { width ≤ W.T }
-    requires block { S.count (length words.now) ≡ width * W.LANES }
+/// Unpacks at a width that is a constant: `FIRST` bits and `MORE`.
+#[inline(never)]
+fn unpack_at<
+    W: FastLanes,
+    S: Storage<W>,
+    const FRAMED: bool,
+    const FIRST: usize,
+    const MORE: usize,
+>(words: &[S::Unit], reference: W, items: &mut [W; FL_CHUNK_SIZE])
+    requires width { FIRST + MORE ≤ W.T }
+    requires block { S.count (length words.now) ≡ (FIRST + MORE) * W.LANES }
     requires frame { FRAMED ≡ false → W.pattern reference ≡ 0 }
-    ensures items { (i : ℕ) → i < 1024 → pattern_at W.pattern items.new i ≡ (unpacked_item W.T W.LANES width (S.word words.now) i + W.pattern reference) % 2 ^ W.T }
+    ensures items { (i : ℕ) → i < 1024 → pattern_at W.pattern items.new i ≡ (unpacked_item W.T W.LANES (FIRST + MORE) (S.word words.now) i + W.pattern reference) % 2 ^ W.T }
     ensures whole { length items.new ≡ 1024 }
 {
-    at_width!(width, [0 1 2 3 4 5 6 7], 8, unpack_groups, [W, S, FRAMED], (words, reference, items))
+    unpack_groups::<W, S, FRAMED, FIRST, MORE>(FIRST + MORE, words, reference, items);
 }
 
-/// Unpacks at a width of 9 to 16 bits.
-fn unpack_to_16<W: FastLanes, S: Storage<W>, const FRAMED: bool>(
+/// Unpacks at one of the eight widths from `FIRST` on.
+fn unpack_eight<W: FastLanes, S: Storage<W>, const FRAMED: bool, const FIRST: usize>(
     width: usize,
     words: &[S::Unit],
     reference: W,
     items: &mut [W; FL_CHUNK_SIZE],
 )
-    requires above { 8 < width }
-    requires most { width ≤ 16 }
+    requires first { FIRST ≤ width }
+    requires below { width < FIRST + 8 }
     requires width { width ≤ W.T }
     requires block { S.count (length words.now) ≡ width * W.LANES }
     requires frame { FRAMED ≡ false → W.pattern reference ≡ 0 }
     ensures items { (i : ℕ) → i < 1024 → pattern_at W.pattern items.new i ≡ (unpacked_item W.T W.LANES width (S.word words.now) i + W.pattern reference) % 2 ^ W.T }
     ensures whole { length items.new ≡ 1024 }
 {
-    at_width!(width, [9 10 11 12 13 14 15], 16, unpack_groups, [W, S, FRAMED], (words, reference, items))
+    at_eight!(
+        width - FIRST,
+        unpack_at,
+        [W, S, FRAMED, FIRST],
+        (words, reference, items)
+    )
 }
 
-/// Unpacks at a width of 17 to 32 bits.
-fn unpack_to_32<W: FastLanes, S: Storage<W>, const FRAMED: bool>(
+/// Unpacks at a width below 32 bits.
+fn unpack_below_32<W: FastLanes, S: Storage<W>, const FRAMED: bool>(
     width: usize,
     words: &[S::Unit],
     reference: W,
     items: &mut [W; FL_CHUNK_SIZE],
 )
-    requires above { 16 < width }
-    requires most { width ≤ 32 }
-    requires width { width ≤ W.T }
+    requires below { width < 32 }
+    requires width { width < W.T }
     requires block { S.count (length words.now) ≡ width * W.LANES }
     requires frame { FRAMED ≡ false → W.pattern reference ≡ 0 }
     ensures items { (i : ℕ) → i < 1024 → pattern_at W.pattern items.new i ≡ (unpacked_item W.T W.LANES width (S.word words.now) i + W.pattern reference) % 2 ^ W.T }
     ensures whole { length items.new ≡ 1024 }
 {
-    at_width!(width, [17 18 19 20 21 22 23 24 25 26 27 28 29 30 31], 32, unpack_groups, [W, S, FRAMED], (words, reference, items))
+    let t = bits::<W>();
+    if t == 8 || width < 8 {
+        unpack_eight::<W, S, FRAMED, 0>(width, words, reference, items);
+    } else if t == 16 || width < 16 {
+        unpack_eight::<W, S, FRAMED, 8>(width, words, reference, items);
+    } else if width < 24 {
+        unpack_eight::<W, S, FRAMED, 16>(width, words, reference, items);
+    } else {
+        unpack_eight::<W, S, FRAMED, 24>(width, words, reference, items);
+    }
 }
 
-/// Unpacks at a width of 33 to 64 bits.
-fn unpack_to_64<W: FastLanes, S: Storage<W>, const FRAMED: bool>(
+/// Unpacks at a width of 32 to 63 bits.
+fn unpack_from_32<W: FastLanes, S: Storage<W>, const FRAMED: bool>(
     width: usize,
     words: &[S::Unit],
     reference: W,
     items: &mut [W; FL_CHUNK_SIZE],
 )
-    requires above { 32 < width }
-    requires most { width ≤ 64 }
-    requires width { width ≤ W.T }
+    requires from { 32 ≤ width }
+    requires below { width < 64 }
+    requires width { width < W.T }
     requires block { S.count (length words.now) ≡ width * W.LANES }
     requires frame { FRAMED ≡ false → W.pattern reference ≡ 0 }
     ensures items { (i : ℕ) → i < 1024 → pattern_at W.pattern items.new i ≡ (unpacked_item W.T W.LANES width (S.word words.now) i + W.pattern reference) % 2 ^ W.T }
     ensures whole { length items.new ≡ 1024 }
 {
-    at_width!(width, [33 34 35 36 37 38 39 40 41 42 43 44 45 46 47 48 49 50 51 52 53 54 55 56 57 58 59 60 61 62 63], 64, unpack_groups, [W, S, FRAMED], (words, reference, items))
+    if width < 40 {
+        unpack_eight::<W, S, FRAMED, 32>(width, words, reference, items);
+    } else if width < 48 {
+        unpack_eight::<W, S, FRAMED, 40>(width, words, reference, items);
+    } else if width < 56 {
+        unpack_eight::<W, S, FRAMED, 48>(width, words, reference, items);
+    } else {
+        unpack_eight::<W, S, FRAMED, 56>(width, words, reference, items);
+    }
+}
+
+/// Unpacks where the items have all bits of their words.
+#[inline(never)]
+fn unpack_whole<W: FastLanes, S: Storage<W>, const FRAMED: bool>(
+    words: &[S::Unit],
+    reference: W,
+    items: &mut [W; FL_CHUNK_SIZE],
+)
+    requires block { S.count (length words.now) ≡ W.T * W.LANES }
+    requires frame { FRAMED ≡ false → W.pattern reference ≡ 0 }
+    ensures items { (i : ℕ) → i < 1024 → pattern_at W.pattern items.new i ≡ (unpacked_item W.T W.LANES W.T (S.word words.now) i + W.pattern reference) % 2 ^ W.T }
+    ensures whole { length items.new ≡ 1024 }
+{
+    unpack_groups::<W, S, FRAMED, 64, 0>(bits::<W>(), words, reference, items);
 }
 
 /// Writes the items of a block at any width, plus the reference.
@@ -350,14 +395,12 @@ pub(crate) fn unpack_block<W: FastLanes, S: Storage<W>, const FRAMED: bool>(
     ensures whole { length items.new ≡ 1024 }
 {
     let t = bits::<W>();
-    if t == 8 || width <= 8 {
-        unpack_to_8::<W, S, FRAMED>(width, words, reference, items);
-    } else if t == 16 || width <= 16 {
-        unpack_to_16::<W, S, FRAMED>(width, words, reference, items);
-    } else if t == 32 || width <= 32 {
-        unpack_to_32::<W, S, FRAMED>(width, words, reference, items);
+    if width == t {
+        unpack_whole::<W, S, FRAMED>(words, reference, items);
+    } else if t <= 32 || width < 32 {
+        unpack_below_32::<W, S, FRAMED>(width, words, reference, items);
     } else {
-        unpack_to_64::<W, S, FRAMED>(width, words, reference, items);
+        unpack_from_32::<W, S, FRAMED>(width, words, reference, items);
     }
 }
 

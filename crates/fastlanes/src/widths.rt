@@ -51,20 +51,20 @@ pub(crate) fn group_at<W: FastLanes>(width: usize, k: usize, g: usize) -> usize
     k * lanes::<W>() + 16 * g
 }
 
-/// Calls a kernel with its width as a constant, which is one of those listed or else the last.
-macro_rules! at_width {
-    ($width:expr, [$($each:literal)*], $last:literal, $kernel:ident, [$first:ident, $second:ident], $args:tt) => {
-        match $width {
-            $($each => $kernel::<$first, $second, $each> $args,)*
-            _ => $kernel::<$first, $second, $last> $args,
-        }
-    };
-    ($width:expr, [$($each:literal)*], $last:literal, $kernel:ident, [$first:ident, $second:ident, $third:ident], $args:tt) => {
-        match $width {
-            $($each => $kernel::<$first, $second, $third, $each> $args,)*
-            _ => $kernel::<$first, $second, $third, $last> $args,
+/// Calls a kernel with its width as a constant: the first of eight widths, and what it has more.
+macro_rules! at_eight {
+    ($more:expr, $kernel:ident, [$($given:ident),*], $args:tt) => {
+        match $more {
+            0 => $kernel::<$($given,)* 0> $args,
+            1 => $kernel::<$($given,)* 1> $args,
+            2 => $kernel::<$($given,)* 2> $args,
+            3 => $kernel::<$($given,)* 3> $args,
+            4 => $kernel::<$($given,)* 4> $args,
+            5 => $kernel::<$($given,)* 5> $args,
+            6 => $kernel::<$($given,)* 6> $args,
+            _ => $kernel::<$($given,)* 7> $args,
         }
     };
 }
 
-pub(crate) use at_width;
+pub(crate) use at_eight;

@@ -6,6 +6,7 @@ ghost use Rattle.fl_types.specs.Integers.{FitsIn};
 use fl_messages::messages::*;
 use fl_types::{FastLanesError, PType};
 use std::alloc::Global;
+use std::fmt::Debug;
 use std::process::Abort;
 use std::test::Fail;
 
@@ -53,9 +54,14 @@ fn no_patch(chunk_offsets: Option<PType>) -> PatchesMetadata {
     }
 }
 
+/// What came is what was wanted.
+fn same<T: PartialEq + Debug>(rt: &impl Abort, came: &T, wanted: &T) {
+    assert_eq!(rt; *came, *wanted);
+}
+
 /// What a bit-packed message says, or why it is refused.
 fn bit_packed_is(rt: &impl Abort, bytes: &[u8], wanted: Result<BitPackedMetadata, FastLanesError>) {
-    assert_eq!(rt; BitPackedMetadata::decode(bytes), wanted);
+    same(rt, &BitPackedMetadata::decode(bytes), &wanted);
 }
 
 /// These bytes are a bit-packed message that says this width, and no more.
@@ -74,12 +80,12 @@ fn blocked_is(
     bytes: &[u8],
     wanted: Result<BitPackedBlockedMetadata, FastLanesError>,
 ) {
-    assert_eq!(rt; BitPackedBlockedMetadata::decode(bytes), wanted);
+    same(rt, &BitPackedBlockedMetadata::decode(bytes), &wanted);
 }
 
 /// Why an RLE message is refused.
 fn rle_refused(rt: &impl Abort, bytes: &[u8], wanted: FastLanesError) {
-    assert_eq!(rt; RLEMetadata::decode(bytes), Err(wanted));
+    same(rt, &RLEMetadata::decode(bytes), &Err(wanted));
 }
 
 /// The number that a scalar's message says, or why it is refused.
@@ -89,7 +95,7 @@ fn scalar_is(
     bytes: &[u8],
     wanted: Result<Option<i128>, FastLanesError>,
 ) {
-    assert_eq!(rt; decode_scalar(ptype, bytes), wanted);
+    same(rt, &decode_scalar(ptype, bytes), &wanted);
 }
 
 /// A Delta's message is written as this text, and read back.
@@ -99,8 +105,8 @@ fn delta_and_back(
     message: DeltaMetadata,
     text: &[u8],
 ) -> Result<(), Fail> {
-    assert_eq!(rt; message.encode(alloc)?.as_slice(), text);
-    assert_eq!(rt; DeltaMetadata::decode(text), Ok(message));
+    same(rt, &message.encode(alloc)?.as_slice(), &text);
+    same(rt, &DeltaMetadata::decode(text), &Ok(message));
     Ok(())
 }
 
@@ -112,8 +118,8 @@ fn for_chunked_and_back(
     text: &[u8],
 ) -> Result<(), Fail> {
     let message = FoRChunkedMetadata { offset };
-    assert_eq!(rt; message.encode(alloc)?.as_slice(), text);
-    assert_eq!(rt; FoRChunkedMetadata::decode(text), Ok(message));
+    same(rt, &message.encode(alloc)?.as_slice(), &text);
+    same(rt, &FoRChunkedMetadata::decode(text), &Ok(message));
     Ok(())
 }
 
@@ -124,7 +130,7 @@ fn bit_packed_and_back(
     message: BitPackedMetadata,
     text: &[u8],
 ) -> Result<(), Fail> {
-    assert_eq!(rt; message.encode(alloc)?.as_slice(), text);
+    same(rt, &message.encode(alloc)?.as_slice(), &text);
     bit_packed_is(rt, text, Ok(message));
     Ok(())
 }
@@ -136,7 +142,7 @@ fn blocked_and_back(
     message: BitPackedBlockedMetadata,
     text: &[u8],
 ) -> Result<(), Fail> {
-    assert_eq!(rt; message.encode(alloc)?.as_slice(), text);
+    same(rt, &message.encode(alloc)?.as_slice(), &text);
     blocked_is(rt, text, Ok(message));
     Ok(())
 }
@@ -148,8 +154,8 @@ fn patches_and_back(
     message: PatchesMetadata,
     text: &[u8],
 ) -> Result<(), Fail> {
-    assert_eq!(rt; message.encode(alloc)?.as_slice(), text);
-    assert_eq!(rt; PatchesMetadata::decode(text), Ok(message));
+    same(rt, &message.encode(alloc)?.as_slice(), &text);
+    same(rt, &PatchesMetadata::decode(text), &Ok(message));
     Ok(())
 }
 
@@ -163,7 +169,7 @@ fn scalar_and_back(
 ) -> Result<(), Fail>
     requires { ForSome value (FitsIn ptype) }
 {
-    assert_eq!(rt; encode_scalar(alloc, ptype, value)?.as_slice(), text);
+    same(rt, &encode_scalar(alloc, ptype, value)?.as_slice(), &text);
     scalar_is(rt, ptype, text, Ok(value));
     Ok(())
 }
@@ -202,8 +208,8 @@ fn rle(rt: HostRuntime) -> Result<(), Fail> {
         offset: 0,
     };
     let text = empty.encode(rt.alloc())?;
-    assert_eq!(rt; text.as_slice(), [0x18, 0x01, 0x28, 0x03].as_slice());
-    assert_eq!(rt; RLEMetadata::decode(&text), Ok(empty));
+    same(&rt, &text.as_slice(), &[0x18, 0x01, 0x28, 0x03].as_slice());
+    same(&rt, &RLEMetadata::decode(&text), &Ok(empty));
     Ok(())
 }
 
@@ -214,7 +220,7 @@ fn rle_types_and_offsets(rt: HostRuntime) -> Result<(), Fail> {
     let highest = [
         0x30, 0xff, 0xff, 0xff, 0xff, 0xff, 0xff, 0xff, 0xff, 0xff, 0x01,
     ];
-    assert_eq!(rt; RLEMetadata::decode(&highest)?.offset, u64::MAX);
+    same(&rt, &RLEMetadata::decode(&highest)?.offset, &u64::MAX);
     Ok(())
 }
 
@@ -305,8 +311,12 @@ fn patches_are_there(rt: HostRuntime) -> Result<(), Fail> {
         patches_of(&[0x08, 0x02, 0x1a, 0x00]),
         Ok(Some(no_patch(None)))
     );
-    assert_eq!(rt; PatchesMetadata::decode(&[0x20, 0x07])?.chunk_offsets, None);
-    assert_eq!(rt; PatchesMetadata::decode(&[0x28, 0x0a]), Err(UNKNOWN));
+    same(
+        &rt,
+        &PatchesMetadata::decode(&[0x20, 0x07])?.chunk_offsets,
+        &None,
+    );
+    same(&rt, &PatchesMetadata::decode(&[0x28, 0x0a]), &Err(UNKNOWN));
     Ok(())
 }
 
@@ -325,10 +335,10 @@ fn the_last_value_wins(rt: HostRuntime) {
 #[test]
 fn the_last_message_wins(rt: HostRuntime) -> Result<(), Fail> {
     let two = [0x1a, 0x01, 0xff, 0x1a, 0x02, 0x08, 0x05];
-    assert_eq!(rt; patches_of(&two)?.ok_or("no patches")?.len, 5);
+    same(&rt, &patches_of(&two)?.ok_or("no patches")?.len, &5);
     // The later message takes the place of the earlier one, whole.
     let merged = [0x1a, 0x02, 0x10, 0x07, 0x1a, 0x02, 0x08, 0x05];
-    assert_eq!(rt; patches_of(&merged)?.ok_or("no patches")?.offset, 0);
+    same(&rt, &patches_of(&merged)?.ok_or("no patches")?.offset, &0);
     Ok(())
 }
 

@@ -15,7 +15,7 @@ loop-g-preserved g c = record {
         let lane : 16 * c.loop-g.g + (m - 16 * c.loop-g.g) ≡ m = omega arith in
         let near : m - 16 * c.loop-g.g < 16 = omega arith in
         let here = rw lane at (c.put_group.ensures.put (m - 16 * c.loop-g.g) near) in
-        rw here (c.compare_group.ensures.held.each r (m - 16 * c.loop-g.g) p near x (e ∙ ap (λ (n : ℕ). item_of g.W.FastLanes.T g.W.FastLanes.LANES g.row.WIDTH (pattern_at g.W.FastLanes.pattern c.args.words.now) r n) (sym lane)))
+        rw here (c.compare_group.ensures.held.each r (m - 16 * c.loop-g.g) p near x (e ∙ ap (λ (n : ℕ). item_of g.W.FastLanes.T g.W.FastLanes.LANES c.args.width (pattern_at g.W.FastLanes.pattern c.args.words.now) r n) (sym lane)))
   ];
   whole = c.put_group.ensures.whole;
 }

@@ -5,6 +5,6 @@ use Rattle.fastlanes.proofs.packing.pack_groups.Given as goal
 
 abbrev pub invariant-loop-g : goal.invariant-loop-g
 invariant-loop-g g l = record {
-  filled : (s m : ℕ) → s < g.row.WIDTH → m < 16 * l.g → g.S.Storage.word l.packed (word_place g.W.FastLanes.LANES s m) ≡ word_of g.W.FastLanes.T g.row.WIDTH (pattern_at g.W.FastLanes.pattern l.items) s m;
-  whole : g.S.Storage.count (length l.packed) ≡ g.row.WIDTH * g.W.FastLanes.LANES;
+  filled : (s m : ℕ) → s < l.width → m < 16 * l.g → g.S.Storage.word l.packed (word_place g.W.FastLanes.LANES s m) ≡ word_of g.W.FastLanes.T l.width (pattern_at g.W.FastLanes.pattern l.items) s m;
+  whole : g.S.Storage.count (length l.packed) ≡ l.width * g.W.FastLanes.LANES;
 }
