@@ -1,20 +1,22 @@
--- Worked examples of every kind of array: the column of a tree, by computation.
+-- Worked examples of every kind of array, by computation: the column of a tree, its type, its kind and its height.
 use Rattle.std.specs.Prelude.{◌≡◌, ◌%◌, ◌==◌, ℕ, ℤ, pos, negsuc, Bool, true, false, List, [], ◌∷◌, ◌++◌, map, replicate, Some, None, refl, slice_index_or, if◌then◌else◌}
 use Rattle.fastlanes.specs.Layout.{from_bits, packed_bit, place, row_of, segment, segment_lane, unpacked_bits, unpacked_item}
 use Rattle.fl_types.specs.declared.dtype.PType.{PType}
 use Rattle.fl_types.specs.declared.dtype.PType.TheVariants.{I16, I8, U16, U64, U8}
 use Rattle.fl_types.specs.declared.dtype.DType.TheVariants as dtypes
-use Rattle.fl_types.specs.declared.dtype.Nullability.TheVariants.{NonNullable}
+use Rattle.fl_types.specs.declared.dtype.Nullability.TheVariants.{NonNullable, Nullable}
 use Rattle.fl_types.specs.declared.validity.Validity.TheVariants as valid
 use Rattle.fl_types.specs.Bits.{table}
 use Rattle.fl_types.specs.Values.{Cell}
-use Rattle.fl_plain.specs.Columns.{Plain}
+use Rattle.fl_plain.specs.Columns.{Column, Plain}
+use Rattle.fl_plain.specs.Operations.{slice_of}
 use Rattle.fl_patches.specs.PatchMaps.{PatchMap}
 use Rattle.fl_codec.specs.Deltas.{block_integer, lane_sum}
 use Rattle.fl_packed.specs.Blocks.{block_item, item_of_blocks}
 use Rattle.fl_packed.specs.Columns.{PackedParts, packed_item}
-use Rattle.fl_array.specs.Trees.{Tree, column}
+use Rattle.fl_array.specs.Trees.{Tree, column, height}
 use Rattle.fl_array.specs.Trees as tree
+use Rattle.fl_array.specs.Kinds.{IsBitPackedBlocked, IsBool, IsDelta, IsFoR, IsFoRChunked, IsPrimitive, IsRLE, has_delta, kind, plain_kind, slice_kind}
 
 -- a plain array without nulls
 abbrev solid : PType → List ℤ → Plain
@@ -50,6 +52,15 @@ patch_under_a_null : (column (tree.BitPackedGlobal (ones_and_nulls (true ∷ fal
 unfolding packed_item item_of_blocks block_item unpacked_item unpacked_bits from_bits packed_bit row_of
 patch_under_a_null = refl
 
+-- where there is a bit for each item, nulls may stand in the column
+nullable : (column (tree.BitPackedGlobal (ones_and_nulls (true ∷ true ∷ true ∷ true ∷ true ∷ true ∷ true ∷ [])) 1)).dtype ≡ dtypes.Primitive U64 Nullable
+nullable = refl
+
+-- the last two items of a block of threes at width 2, and the first two of a block of zeros behind it
+across_blocks : (column (tree.BitPackedGlobal (record { packed = replicate 256 255 ++ replicate 256 0; ptype = U16; validity = valid.NonNullable; patches = None; offset = 1022; len = 4 }) 2)).items ≡ Some (pos 3) ∷ Some (pos 3) ∷ Some (pos 0) ∷ Some (pos 0) ∷ []
+unfolding packed_item item_of_blocks block_item unpacked_item unpacked_bits from_bits packed_bit row_of
+across_blocks = refl
+
 -- an unsigned pattern is read as the type
 signed_bytes : (column (tree.BitPackedGlobal (record { packed = replicate 1024 255; ptype = I8; validity = valid.NonNullable; patches = None; offset = 0; len = 3 }) 8)).items ≡ Some (negsuc 0) ∷ Some (negsuc 0) ∷ Some (negsuc 0) ∷ []
 unfolding packed_item item_of_blocks block_item unpacked_item unpacked_bits from_bits packed_bit row_of
@@ -79,6 +90,17 @@ below_zero = refl
 chunked : (column (tree.FoRChunked (plain I16 (replicate 30 (pos 0))) (plain I16 (pos 5 ∷ negsuc 6 ∷ [])) 1000)).items ≡ replicate 24 (Some (pos 5)) ++ replicate 6 (Some (negsuc 6))
 chunked = refl
 
+-- the same as a slice of two chunks of zeros
+abbrev two_chunks : Tree
+two_chunks = tree.FoRChunked (plain I16 (replicate 2048 (pos 0))) (plain I16 (pos 5 ∷ negsuc 6 ∷ [])) 0
+
+chunked_slice : (slice_of 1000 1030 (column two_chunks)).items ≡ replicate 24 (Some (pos 5)) ++ replicate 6 (Some (negsuc 6))
+chunked_slice = refl
+
+-- a frame has the type of what it encodes
+framed_type : (column two_chunks).dtype ≡ dtypes.Primitive I16 NonNullable
+framed_type = refl
+
 -- a frame over a frame adds both references
 nested : (column (tree.FoRGlobal (tree.FoRGlobal (plain U8 (pos 1 ∷ pos 2 ∷ [])) (reference U8 (pos 250))) (reference U8 (pos 10)))).items ≡ Some (pos 5) ∷ Some (pos 6) ∷ []
 nested = refl
@@ -90,6 +112,10 @@ few_indices = record { ptype = U16; slots = pos 0 ∷ pos 0 ∷ replicate 1022 (
 
 runs : (column (tree.RLE (plain U8 (pos 5 ∷ pos 7 ∷ [])) (tree.Primitive few_indices) (plain U64 (pos 0 ∷ [])) (record { offset = 0; len = 5 }))).items ≡ Some (pos 5) ∷ Some (pos 5) ∷ Some (pos 7) ∷ None ∷ Some (pos 7) ∷ []
 runs = refl
+
+-- nulls may stand in runs where they may in the indices, and the integers are of the values' type
+runs_type : (column (tree.RLE (plain U8 (pos 5 ∷ pos 7 ∷ [])) (tree.Primitive few_indices) (plain U64 (pos 0 ∷ [])) (record { offset = 0; len = 5 }))).dtype ≡ dtypes.Primitive U8 Nullable
+runs_type = refl
 
 -- run offsets are counted from the first one
 later_runs : (column (tree.RLE (plain U8 (pos 1 ∷ pos 2 ∷ pos 3 ∷ pos 4 ∷ [])) (plain U8 (replicate 2048 (pos 1))) (plain U64 (pos 3 ∷ pos 5 ∷ [])) (record { offset = 1022; len = 4 }))).items ≡ Some (pos 2) ∷ Some (pos 2) ∷ Some (pos 4) ∷ Some (pos 4) ∷ []
@@ -108,3 +134,46 @@ in_turn = refl
 three_bases : map (λ k. slice_index_or bases_in_turn k (pos 0)) (1 ∷ 4 ∷ 16 ∷ []) ≡ pos 64 ∷ pos 0 ∷ pos 32 ∷ []
 unfolding segment
 three_bases = refl
+
+-- a part of that block, from an offset on, with a null
+part_in_turn : column (tree.Delta (plain U8 bases_in_turn) (plain U8 (replicate 128 (pos 0) ++ replicate 896 (pos 1))) (record { validity = valid.Array (true ∷ false ∷ true ∷ []); offset = 254; len = 3 })) ≡ record { dtype = dtypes.Primitive U8 Nullable; items = Some (pos 254) ∷ None ∷ Some (pos 0) ∷ [] }
+unfolding block_integer lane_sum segment segment_lane place
+part_in_turn = refl
+
+-- ---- kinds and heights
+-- a frame over packed blocks of widths of their own, whose boundaries are kept as differences
+abbrev deep : Tree
+deep = tree.FoRGlobal (tree.BitPackedBlocked threes (tree.Delta (plain U16 []) (plain U16 []) (record { validity = valid.NonNullable; offset = 0; len = 0 }))) (reference U16 (pos 1))
+
+deep_kind : kind deep ≡ IsFoR (IsBitPackedBlocked (IsDelta IsPrimitive IsPrimitive))
+deep_kind = refl
+
+deep_height : height deep ≡ 3
+deep_height = refl
+
+-- its slice decodes the blocks and keeps the frame
+deep_slice : slice_kind (kind deep) ≡ IsFoR IsPrimitive
+deep_slice = refl
+
+deep_sums : has_delta (kind deep) ≡ true
+deep_sums = refl
+
+deep_decoded : plain_kind (kind deep) ≡ IsPrimitive
+deep_decoded = refl
+
+-- runs of plain values, whose indices are a chunked frame
+abbrev framed_runs : Tree
+framed_runs = tree.RLE (plain U8 []) two_chunks (plain U64 []) (record { offset = 0; len = 0 })
+
+framed_runs_slice : slice_kind (kind framed_runs) ≡ IsRLE IsPrimitive (IsFoRChunked IsPrimitive IsPrimitive) IsPrimitive
+framed_runs_slice = refl
+
+framed_runs_height : height framed_runs ≡ 2
+framed_runs_height = refl
+
+framed_runs_sum_nothing : has_delta (kind framed_runs) ≡ false
+framed_runs_sum_nothing = refl
+
+-- truth values stay such
+truths_decoded : plain_kind (kind (tree.Bool (record { bits = true ∷ []; validity = valid.NonNullable }))) ≡ IsBool
+truths_decoded = refl

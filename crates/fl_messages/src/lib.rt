@@ -1,4 +1,4 @@
-//! The parts of encoded columns, over slices and bytes.
+//! The metadata messages of encoded columns in their serialized form.
 #![tactic(auto)]
 
 pub mod messages;

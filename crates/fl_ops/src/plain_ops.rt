@@ -163,6 +163,7 @@ pub(crate) fn is_constant(alloc: Global, array: &ArrayRef) -> Result<bool, FastL
         return Ok(plain.is_constant());
     }
     if let Some(copies) = array.as_constant() {
+        // Its contract says that copies are of integers, so that they are asked and not refused.
         let _ptype = copies.ptype();
         return Ok(copies.is_constant());
     }
@@ -181,6 +182,7 @@ pub(crate) fn is_sorted(
         return Ok(plain.is_sorted(strict));
     }
     if let Some(copies) = array.as_constant() {
+        // Its contract says that copies are of integers, so that they are asked and not refused.
         let _ptype = copies.ptype();
         return Ok(copies.is_sorted(strict));
     }

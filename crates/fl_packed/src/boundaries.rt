@@ -1,7 +1,6 @@
 //! The boundaries of blocks that each have a width.
 
 ghost use Rattle.std.specs.Prelude.{◌≡◌, ◌*◌, ◌<◌, ◌^◌, ◌++◌, ◌∷◌, [], IfOk, Ok, OnOk, SomeIff, sum};
-ghost use Rattle.fl_types.specs.Integers.{smallest_type};
 ghost use Rattle.fl_types.specs.Refusals.{Answers};
 ghost use Rattle.fl_packed.specs.Blocks.{boundaries_of, boundary_array};
 
@@ -47,21 +46,6 @@ fn push_number(numbers: &mut Vec<u64>, number: u64) -> Result<(), AllocError>
     Ok(())
 }
 
-/// The smallest unsigned type that holds a number.
-fn smallest_type(number: usize) -> PType
-    ensures { result ≡ smallest_type number }
-{
-    if number < 1 << 8 {
-        PType::U8
-    } else if number < 1 << 16 {
-        PType::U16
-    } else if number < 1 << 32 {
-        PType::U32
-    } else {
-        PType::U64
-    }
-}
-
 /// The boundaries of blocks of these widths, which have so many bytes, as an array of the smallest
 /// type that holds the last of them.
 pub(crate) fn boundary_array(
@@ -73,6 +57,9 @@ pub(crate) fn boundary_array(
     ensures { Answers (λ a. a) result (Ok (boundary_array widths.now)) }
 {
     let boundaries = boundary_numbers(alloc, widths)?;
-    let target = DType::Primitive(smallest_type(size), Nullability::NonNullable);
+    let target = DType::Primitive(
+        PType::min_unsigned_ptype_for_value(size as u64),
+        Nullability::NonNullable,
+    );
     PrimitiveArray::new(boundaries, Validity::NonNullable)?.cast(alloc, target)
 }

@@ -2,7 +2,8 @@
 
 ghost use Rattle.std.specs.Prelude.{◌≡◌, ◌+◌, ◌*◌, ◌/◌, ◌<◌, ◌≤◌, ◌^◌, ℕ, IfOk, IfSome, IsTrue, Ok, OnOk, length, min, unwrap_or};
 ghost use Rattle.std.specs.Option.{option_copied};
-ghost use Rattle.fl_types.specs.Integers.{bits_of_type, read_as};
+ghost use Rattle.fastlanes.specs.Layout.{row_of, words_of_item};
+ghost use Rattle.fl_types.specs.Integers.{bits_of_type, lanes_of_type, read_as};
 ghost use Rattle.fl_types.specs.Refusals.{Answers};
 ghost use Rattle.fl_plain.specs.Columns.{column_of_plain};
 ghost use Rattle.fl_patches.specs.PatchMaps.{chunk_count, numbers, patched_in};
@@ -39,7 +40,7 @@ pub struct PackedColumn<'a> {
 }
 
 /// The item at `index` of a packed block of `128 * width` bytes, read without its neighbours. It reads
-/// at most two words, and none at width 0.
+/// each word that holds a bit of the item once, so at most two, and none at width 0.
 pub fn unpack_block_item<T: PhysicalPType>(
     width: usize,
     block: &[u8],
@@ -51,13 +52,14 @@ pub fn unpack_block_item<T: PhysicalPType>(
     requires index { index < 1024 }
     ensures item { T.value result ≡ block_item T.PTYPE width block.now index }
     ensures no_word { width ≡ 0 → work.new.words ≡ work.old.words }
+    ensures words { 0 < width → work.new.words ≡ min (work.old.words + words_of_item (bits_of_type T.PTYPE) width (row_of (lanes_of_type T.PTYPE) index)) u64.MAX }
     ensures few { work.new.words ≤ work.old.words + 2 }
     ensures blocks { work.new.blocks ≡ work.old.blocks }
 {
     T::from_physical(unpack_single(width, block, index, work))
 }
 
-/// Item `i` of a column that was packed at one width, without patches. It reads at most two words.
+/// Item `i` of a column that was packed at one width, without patches.
 ///
 /// The width is at most the type's bits, and the block of the item lies in the bytes.
 pub fn unpack_single_primitive<T: PhysicalPType>(packed: &[u8], width: usize, i: usize) -> T

@@ -13,5 +13,3 @@ mod patching;
 pub mod unpack_iter;
 mod unpacked_items;
 pub mod word_packing;
-
-pub use crate::blocks::Widths;

@@ -4,7 +4,7 @@ use Rattle.std.specs.List.{list_all}
 use Rattle.std.proofs.lemmas.Bool.{ltb-true}
 use Rattle.std.proofs.lemmas.List.{map-append, map_more, take_all, length-map}
 use Rattle.fl_types.specs.Refusals.{Answers}
-use Rattle.fl_types.specs.Validities.{nullability_of}
+use Rattle.fl_types.specs.Validities.{full_validity, nullability_of}
 use Rattle.fl_types.specs.declared.dtype.PType.{PType}
 use Rattle.fl_types.specs.declared.dtype.Nullability.{Nullability}
 use Rattle.fl_types.specs.declared.dtype.Nullability.TheVariants.{NonNullable, Nullable}
@@ -13,7 +13,7 @@ use Rattle.fl_types.specs.declared.validity.Validity.{Validity}
 use Rattle.fl_plain.specs.Columns.{Plain, new_plain}
 use Rattle.fl_plain.proofs.GatherLaws.{mapped_more, value_read}
 use Rattle.fl_plain.proofs.ListLaws.{all_at}
-use Rattle.fl_patches.specs.PatchMaps.{AreFound, full_validity, rank_of, ranks_at}
+use Rattle.fl_patches.specs.PatchMaps.{AreFound, rank_of, ranks_at}
 use Rattle.fl_patches.proofs.Rising.{read}
 
 -- the value of one more rank

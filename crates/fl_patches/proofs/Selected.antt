@@ -6,7 +6,7 @@ use Rattle.std.specs.List.{list_all, list_any}
 use Rattle.std.specs.Prelude.{is_none}
 use Rattle.fl_types.specs.Integers.{smallest_type}
 use Rattle.fl_types.specs.Refusals.{Answers}
-use Rattle.fl_types.specs.Validities.{items_of, nullability_of}
+use Rattle.fl_types.specs.Validities.{full_validity, items_of, nullability_of}
 use Rattle.fl_types.specs.declared.dtype.Nullability.{Nullability}
 use Rattle.fl_types.specs.declared.dtype.Nullability.TheVariants.{NonNullable, Nullable}
 use Rattle.fl_types.specs.declared.dtype.PType.{PType}
@@ -15,7 +15,7 @@ use Rattle.fl_types.specs.declared.validity.Validity.TheVariants as valid
 use Rattle.fl_plain.specs.Columns.{Plain}
 use Rattle.fl_plain.specs.Selections.{positions_in}
 use Rattle.fl_plain.proofs.SelectionLaws.{ok_positions}
-use Rattle.fl_patches.specs.PatchMaps.{AreFound, AreOrdered, ranks_at, ArePatches, PatchMap, full_validity, is_index_within, is_rising, numbers, patched, patches_at, patches_of_items, patched_in_take, places_from, select_patches, rank_of, refusal_of, values_in}
+use Rattle.fl_patches.specs.PatchMaps.{AreFound, AreOrdered, ranks_at, ArePatches, PatchMap, is_index_within, is_rising, numbers, patched, patches_at, patches_of_items, patched_in_take, places_from, select_patches, rank_of, refusal_of, values_in}
 use Rattle.fl_patches.proofs.Narrowed.{none_null, smallest_unsigned}
 use Rattle.fl_patches.proofs.Parts.{AreSound, patches_none, patches_some, unrefused_parts}
 use Rattle.fl_patches.proofs.Sparse.{found_at, found_ordered, found_patches, numbers_of_places, ranked_values, ranks_below, places_below, places_even, places_rise}

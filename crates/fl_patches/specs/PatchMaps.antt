@@ -3,17 +3,15 @@ use Rattle.std.specs.Prelude.{◌≡◌, ◌+◌, ◌-◌, ◌*◌, ◌/◌, ◌
 use Rattle.std.specs.List.{list_all, list_any, enumerate_from}
 use Rattle.fl_types.specs.declared.dtype.PType.{PType}
 use Rattle.fl_types.specs.declared.dtype.Nullability.{Nullability}
-use Rattle.fl_types.specs.declared.dtype.Nullability.TheVariants.{NonNullable, Nullable}
 use Rattle.fl_types.specs.declared.error.FastLanesError.{FastLanesError}
 use Rattle.fl_types.specs.declared.error.FastLanesError.TheVariants.{PatchType, PatchLength, PatchContent}
 use Rattle.fl_types.specs.declared.mask.Mask.{Mask}
-use Rattle.fl_types.specs.declared.validity.Validity.{Validity}
 use Rattle.fl_types.specs.declared.validity.Validity.TheVariants as valid
 use Rattle.fl_types.specs.Bits.{table}
 use Rattle.fl_types.specs.Integers.{smallest_type}
 use Rattle.fl_types.specs.Masks.{mask_bits}
 use Rattle.fl_types.specs.Types.{is_index_type}
-use Rattle.fl_types.specs.Validities.{nullability_of}
+use Rattle.fl_types.specs.Validities.{full_validity, nullability_of}
 use Rattle.fl_plain.specs.Columns.{Plain, column_of_plain, option_all, slice_plain}
 use Rattle.fl_plain.specs.Operations.{kept}
 use Rattle.fl_plain.specs.Questions.{each_next}
@@ -134,11 +132,6 @@ abbrev pub values_in : {A : Type 0} → List (Option A) → List A
 values_in [] = []
 values_in (None ∷ items) = values_in items
 values_in (Some x ∷ items) = x ∷ values_in items
-
--- the validity of an array without a null
-abbrev pub full_validity : Nullability → Validity
-full_validity NonNullable = valid.NonNullable
-full_validity Nullable = valid.AllValid
 
 -- patches with these places and values, if there is one
 abbrev pub patches_at : ℕ → PType → Nullability → List ℕ → List ℤ → Option PatchMap

@@ -2,18 +2,15 @@
 
 ghost use Rattle.std.specs.Prelude.{◌≡◌, ◌<◌, ◌^◌, ◌++◌, ◌∷◌, [], ℕ, true, pos, List, Option, IfOk, IfErr, IsTrue, OnOk, Ok, length, map, nat_lt, slice_index_or};
 ghost use Rattle.std.specs.List.{list_all};
-ghost use Rattle.fl_types.specs.Integers.{smallest_type};
 ghost use Rattle.fl_types.specs.Refusals.{Answers};
-ghost use Rattle.fl_types.specs.Validities.{nullability_of};
+ghost use Rattle.fl_types.specs.Validities.{full_validity, nullability_of};
 ghost use Rattle.fl_types.specs.declared.error.FastLanesError.TheVariants.{OutOfMemory};
-ghost use Rattle.fl_types.specs.declared.validity.Validity.TheVariants.{NonNullable};
-ghost use Rattle.fl_patches.specs.PatchMaps.{AreFound, AreOrdered, full_validity, patches_at};
+ghost use Rattle.fl_patches.specs.PatchMaps.{AreFound, AreOrdered, patches_at};
 
+use crate::index_arrays::index_array;
 use crate::patches::Patches;
 use fl_plain::PrimitiveArray;
-use fl_types::{
-    DType, FastLanesError, NativePType, Nullability, PType, Validity, match_each_integer_ptype,
-};
+use fl_types::{FastLanesError, NativePType, Validity, match_each_integer_ptype};
 use std::alloc::Global;
 
 /// The patches of selected items, found one by one: the places of the items that have one, and for
@@ -68,44 +65,6 @@ impl Found {
     }
 }
 
-/// The smallest unsigned type that holds a number.
-fn smallest_type(number: usize) -> PType
-    ensures { result ≡ smallest_type number }
-{
-    if number < 1 << 8 {
-        PType::U8
-    } else if number < 1 << 16 {
-        PType::U16
-    } else if number < 1 << 32 {
-        PType::U32
-    } else {
-        PType::U64
-    }
-}
-
-/// Places among `len` items as indices, of the smallest type that holds the length.
-fn index_array(
-    alloc: Global,
-    places: Vec<u64>,
-    len: usize,
-) -> Result<PrimitiveArray, FastLanesError>
-    requires { IsTrue (list_all (λ place. nat_lt place len) places.items) }
-    ensures { Answers (λ a. a) result (Ok (record { ptype = smallest_type len; slots = map pos places.items; validity = NonNullable })) }
-{
-    let target = DType::Primitive(smallest_type(len), Nullability::NonNullable);
-    PrimitiveArray::new(places, Validity::NonNullable)?.cast(alloc, target)
-}
-
-/// The validity of an array without a null.
-fn full_validity(nullability: Nullability) -> Validity
-    ensures { result ≡ full_validity nullability }
-{
-    match nullability {
-        Nullability::NonNullable => Validity::NonNullable,
-        Nullability::Nullable => Validity::AllValid,
-    }
-}
-
 fn values_at_typed<T: NativePType>(
     values: &PrimitiveArray,
     alloc: Global,
@@ -120,7 +79,7 @@ fn values_at_typed<T: NativePType>(
     for rank in ranks {
         picked.push(slots[*rank])?;
     }
-    PrimitiveArray::new(picked, full_validity(values.nullability()))
+    PrimitiveArray::new(picked, Validity::from(values.nullability()))
 }
 
 /// The values of these ranks, which are no nulls.

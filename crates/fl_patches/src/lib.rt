@@ -3,8 +3,10 @@
 
 mod checks;
 mod found;
+pub mod index_arrays;
 mod indices;
 pub mod patches;
 mod selection;
 
+pub use crate::index_arrays::index_array;
 pub use crate::patches::Patches;

@@ -72,18 +72,6 @@ fn select(
     found.finish(alloc, patches.values(), positions.len())
 }
 
-/// Whether a mask keeps the item at a position.
-fn keeps(mask: &Mask, i: usize) -> bool
-    requires { i < mask_len mask.now }
-    ensures { result ≡ slice_index_or (mask_bits mask.now) i false }
-{
-    match mask {
-        Mask::AllTrue(_) => true,
-        Mask::AllFalse(_) => false,
-        Mask::Values(bits) => bits.get(i),
-    }
-}
-
 /// The rank of an index that so many of the rising indices are below, and how many are below the
 /// next index.
 fn step<I: NativePType>(indices: &[I], below: usize, index: u128) -> (Option<usize>, usize)
@@ -120,7 +108,7 @@ fn find_kept<I: NativePType>(
     for i in 0..mask.len() {
         let (rank, next) = step(indices, below, offset as u128 + i as u128);
         below = next;
-        if keeps(mask, i) {
+        if mask.get(i) {
             found.push(len, rank)?;
             len += 1;
         }

@@ -6,7 +6,7 @@ use Rattle.num_traits.specs.Laws.{wrap_signed, wrap_unsigned}
 use Rattle.fl_types.specs.declared.dtype.PType.{PType}
 use Rattle.fl_types.specs.declared.dtype.PType.TheVariants.{U8, U16, U32, U64, I8, I16, I32, I64}
 
--- the integer of the type that equals this one modulo 2 to its width
+-- the integer of the type that equals this one modulo 2 to the power of the type's bits
 abbrev pub wrap : PType → ℤ → ℤ
 wrap U8 z = wrap_unsigned 8 z
 wrap U16 z = wrap_unsigned 16 z

@@ -13,6 +13,11 @@ nullability_of valid.AllValid = Nullable
 nullability_of valid.AllInvalid = Nullable
 nullability_of (valid.Array bits) = Nullable
 
+-- the validity of an array without a null, where nulls may stand or not
+abbrev pub full_validity : Nullability → Validity
+full_validity NonNullable = valid.NonNullable
+full_validity Nullable = valid.AllValid
+
 -- an item where its bit is set, a null where it is not
 abbrev pub masked : {A : Type 0} → List Bool → List A → List (Option A)
 masked [] items = []

@@ -43,7 +43,7 @@ impl BitList {
         }
     }
 
-    /// How many there are.
+    /// How many truth values there are.
     #[tactic(auto, using(crate::proofs::BitLists::length_first_bits))]
     pub fn len(&self) -> usize
         ensures { result ≡ length self.now }
@@ -51,7 +51,7 @@ impl BitList {
         self.len
     }
 
-    /// The one at an index.
+    /// The truth value at an index.
     #[tactic(auto, using(crate::proofs::BitLists::length_first_bits, crate::proofs::BitLists::get_first_bits))]
     pub fn get(&self, i: usize) -> bool
         requires { i < length self.now }

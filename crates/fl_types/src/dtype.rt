@@ -1,7 +1,7 @@
 //! Types of columns.
 
 ghost use Rattle.std.specs.Prelude.{◌≡◌};
-ghost use Rattle.fl_types.specs.Integers.{bits_of_type, is_unsigned};
+ghost use Rattle.fl_types.specs.Integers.{bits_of_type, is_unsigned, smallest_type};
 ghost use Rattle.fl_types.specs.Types.{either_nullable, nullability_in, integer_type, with_nullability};
 
 /// An integer type.
@@ -35,6 +35,21 @@ impl PType {
             PType::U16 | PType::I16 => 16,
             PType::U32 | PType::I32 => 32,
             PType::U64 | PType::I64 => 64,
+        }
+    }
+
+    /// The smallest unsigned type that holds a value.
+    pub fn min_unsigned_ptype_for_value(value: u64) -> PType
+        ensures { result ≡ smallest_type value }
+    {
+        if value < 1 << 8 {
+            PType::U8
+        } else if value < 1 << 16 {
+            PType::U16
+        } else if value < 1 << 32 {
+            PType::U32
+        } else {
+            PType::U64
         }
     }
 

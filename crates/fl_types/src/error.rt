@@ -12,85 +12,85 @@ use thiserror::Error;
 #[derive(Clone, Copy, Debug, Error, PartialEq, Eq, Hash)]
 pub enum FastLanesError {
     /// A growth of memory was refused.
-    OutOfMemory,
+    OutOfMemory = 1,
     /// Truth values, or a type of truth values, where integers are needed.
-    NotInteger,
+    NotInteger = 2,
     /// An item that is no null is negative.
-    NegativeValue,
+    NegativeValue = 3,
     /// A width above the bits of the type.
-    WidthTooLarge,
+    WidthTooLarge = 4,
     /// A list of widths that has a width and only widths of the whole type.
-    AllBlocksNative,
+    AllBlocksNative = 5,
     /// Not one width for each block.
-    BlockCount,
+    BlockCount = 6,
     /// An offset of 1024 or more.
-    OffsetTooLarge,
+    OffsetTooLarge = 7,
     /// A length, rounded up to whole blocks where they are counted, is above `usize::MAX`.
-    LengthOverflow,
+    LengthOverflow = 8,
     /// The bits of a validity are not one for each item.
-    ValidityLength,
+    ValidityLength = 9,
     /// Indices or chunk offsets of patches are not unsigned and non-nullable, or their values are of another integer type than the column.
-    PatchType,
+    PatchType = 10,
     /// The parts of patches have lengths that do not fit.
-    PatchLength,
+    PatchLength = 11,
     /// Indices of patches do not rise or lie outside, a value is null, or a chunk offset is not the number of patches before its chunk.
-    PatchContent,
+    PatchContent = 12,
     /// A buffer is not as long as its array needs.
-    PackedLength,
+    PackedLength = 13,
     /// Boundaries of blocks, or offsets of runs, are not unsigned and non-nullable.
-    BlockOffsetsType,
+    BlockOffsetsType = 14,
     /// Boundaries are not one more than the blocks, or offsets of runs not one for each chunk.
-    BlockOffsetsCount,
+    BlockOffsetsCount = 15,
     /// Two boundaries between which no block of any width lies.
-    BlockBoundary,
+    BlockBoundary = 16,
     /// The last boundary less the first is not the length of the packed buffer.
-    BlockSpan,
+    BlockSpan = 17,
     /// Integer types differ, or an integer type meets truth values.
-    TypeMismatch,
+    TypeMismatch = 18,
     /// A reference is null.
-    NullReference,
+    NullReference = 19,
     /// Not one reference for each chunk.
-    ReferenceCount,
+    ReferenceCount = 20,
     /// An empty column, or one of nulls alone, has no least item.
-    NoMinimum,
+    NoMinimum = 21,
     /// A child that must be non-nullable is nullable.
-    ChildNullable,
+    ChildNullable = 22,
     /// A child's length is no multiple of 1024, or does not fit that of another child.
-    ChildLength,
+    ChildLength = 23,
     /// The items reach beyond the child.
-    RangeBeyondChild,
+    RangeBeyondChild = 24,
     /// Run indices are neither `u8` nor `u16`.
-    RunIndexType,
+    RunIndexType = 25,
     /// Offsets of runs fall, or a chunk has no run or more than 1024.
-    RunOffsets,
+    RunOffsets = 26,
     /// A valid run index is not below the number of runs of its chunk.
-    RunIndex,
+    RunIndex = 27,
     /// A histogram of more than 255 entries.
-    TooManyWidths,
+    TooManyWidths = 28,
     /// The array has a width for each block.
-    NotGlobal,
+    NotGlobal = 29,
     /// An index is negative, or not below the length.
-    IndexOutOfBounds,
+    IndexOutOfBounds = 30,
     /// A range reaches beyond the length, or its start lies behind its end.
-    RangeOutOfBounds,
+    RangeOutOfBounds = 31,
     /// A mask is not as long as the array.
-    MaskLength,
+    MaskLength = 32,
     /// A null meets a target that is non-nullable.
-    CastNull,
+    CastNull = 33,
     /// An item does not fit the target.
-    CastOutOfRange,
+    CastOutOfRange = 34,
     /// The name of an encoding is not known.
-    UnknownId,
+    UnknownId = 35,
     /// Metadata are no message of their kind.
-    BadMetadata,
+    BadMetadata = 36,
     /// A type has a number that no type has.
-    UnknownType,
+    UnknownType = 37,
     /// A node has another number of buffers than its kind.
-    BufferCount,
+    BufferCount = 38,
     /// A node has another number of children than its kind.
-    ChildCount,
+    ChildCount = 39,
     /// A child is not of the type or the length that its place needs.
-    ChildMismatch,
+    ChildMismatch = 40,
 }
 
 /// The name of the refusal.
@@ -105,48 +105,7 @@ impl FastLanesError {
     pub fn number(self) -> u8
         ensures { result ≡ number_of self }
     {
-        match self {
-            FastLanesError::OutOfMemory => 1,
-            FastLanesError::NotInteger => 2,
-            FastLanesError::NegativeValue => 3,
-            FastLanesError::WidthTooLarge => 4,
-            FastLanesError::AllBlocksNative => 5,
-            FastLanesError::BlockCount => 6,
-            FastLanesError::OffsetTooLarge => 7,
-            FastLanesError::LengthOverflow => 8,
-            FastLanesError::ValidityLength => 9,
-            FastLanesError::PatchType => 10,
-            FastLanesError::PatchLength => 11,
-            FastLanesError::PatchContent => 12,
-            FastLanesError::PackedLength => 13,
-            FastLanesError::BlockOffsetsType => 14,
-            FastLanesError::BlockOffsetsCount => 15,
-            FastLanesError::BlockBoundary => 16,
-            FastLanesError::BlockSpan => 17,
-            FastLanesError::TypeMismatch => 18,
-            FastLanesError::NullReference => 19,
-            FastLanesError::ReferenceCount => 20,
-            FastLanesError::NoMinimum => 21,
-            FastLanesError::ChildNullable => 22,
-            FastLanesError::ChildLength => 23,
-            FastLanesError::RangeBeyondChild => 24,
-            FastLanesError::RunIndexType => 25,
-            FastLanesError::RunOffsets => 26,
-            FastLanesError::RunIndex => 27,
-            FastLanesError::TooManyWidths => 28,
-            FastLanesError::NotGlobal => 29,
-            FastLanesError::IndexOutOfBounds => 30,
-            FastLanesError::RangeOutOfBounds => 31,
-            FastLanesError::MaskLength => 32,
-            FastLanesError::CastNull => 33,
-            FastLanesError::CastOutOfRange => 34,
-            FastLanesError::UnknownId => 35,
-            FastLanesError::BadMetadata => 36,
-            FastLanesError::UnknownType => 37,
-            FastLanesError::BufferCount => 38,
-            FastLanesError::ChildCount => 39,
-            FastLanesError::ChildMismatch => 40,
-        }
+        self as u8
     }
 }
 

@@ -2,7 +2,7 @@
 
 ghost use Rattle.std.specs.Prelude.{◌≡◌, ◌<◌, ◌≤◌, IsTrue, Ok};
 ghost use Rattle.fl_types.specs.Refusals.{Answers};
-ghost use Rattle.fl_types.specs.Validities.{covers, is_valid_at, nullability_of, validity_between};
+ghost use Rattle.fl_types.specs.Validities.{covers, full_validity, is_valid_at, nullability_of, validity_between};
 
 use crate::bits::BitList;
 use crate::dtype::Nullability;
@@ -20,6 +20,18 @@ pub enum Validity {
     AllInvalid,
     /// The items whose bits are set are not null.
     Array(BitList),
+}
+
+/// The validity of an array without a null.
+impl From<Nullability> for Validity {
+    ghost from_gives = { λ nullability validity. validity ≡ full_validity nullability };
+
+    fn from(nullability: Nullability) -> Validity {
+        match nullability {
+            Nullability::NonNullable => Validity::NonNullable,
+            Nullability::Nullable => Validity::AllValid,
+        }
+    }
 }
 
 impl Validity {
@@ -45,7 +57,7 @@ impl Validity {
         }
     }
 
-    /// Whether there is a bit for each of so many items.
+    /// Whether it is one for so many items: a list has a bit for each, the other forms fit any number.
     pub fn covers(&self, len: usize) -> bool
         ensures { result ≡ covers self.now len }
     {

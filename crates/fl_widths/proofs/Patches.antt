@@ -16,10 +16,10 @@ use Rattle.fl_types.specs.declared.validity.Validity.TheVariants as valid
 use Rattle.fl_types.specs.Bits.{table}
 use Rattle.fl_types.specs.Integers.{is_unsigned, smallest_type}
 use Rattle.fl_types.specs.Refusals.{Answers}
-use Rattle.fl_types.specs.Validities.{covers, items_of, nullability_of}
+use Rattle.fl_types.specs.Validities.{covers, full_validity, items_of, nullability_of}
 use Rattle.fl_plain.specs.Columns.{Plain}
 use Rattle.fl_plain.proofs.ItemLaws.{length-items_of}
-use Rattle.fl_patches.specs.PatchMaps.{ArePatches, PatchMap, accepted, chunk_count, count_below, full_validity, is_index_within, is_rising, new_patches, patch_contents_fit, patch_lengths_fit, patch_types_fit, places_from, rank_of, refusal_of, values_in}
+use Rattle.fl_patches.specs.PatchMaps.{ArePatches, PatchMap, accepted, chunk_count, count_below, is_index_within, is_rising, new_patches, patch_contents_fit, patch_lengths_fit, patch_types_fit, places_from, rank_of, refusal_of, values_in}
 use Rattle.fl_patches.proofs.Chunks.{chunks_count}
 use Rattle.fl_patches.proofs.Narrowed.{none_null, smallest_unsigned}
 use Rattle.fl_patches.proofs.Parts.{patches_none, patches_some, sound}

@@ -7,9 +7,9 @@ use Rattle.fl_types.specs.declared.dtype.Nullability.{Nullability}
 use Rattle.fl_types.specs.declared.validity.Validity.TheVariants as valid
 use Rattle.fl_types.specs.Bits.{table}
 use Rattle.fl_types.specs.Integers.{smallest_type}
-use Rattle.fl_types.specs.Validities.{items_of, nullability_of}
+use Rattle.fl_types.specs.Validities.{full_validity, items_of, nullability_of}
 use Rattle.fl_plain.specs.Columns.{Plain}
-use Rattle.fl_patches.specs.PatchMaps.{PatchMap, chunk_count, count_below, full_validity, is_rising, places_from, values_in}
+use Rattle.fl_patches.specs.PatchMaps.{PatchMap, chunk_count, count_below, is_rising, places_from, values_in}
 use Rattle.fl_widths.specs.Exceptions.{exception, exceptions_of, one_width, width_of_block}
 
 -- for each chunk of 1024 of so many items, how many of the places stand before it

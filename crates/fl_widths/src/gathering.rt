@@ -4,16 +4,16 @@ ghost use Rattle.std.specs.Prelude.{◌≡◌, ◌+◌, ◌*◌, ◌/◌, ◌<�
 ghost use Rattle.fl_types.specs.Bits.{between, table};
 ghost use Rattle.fl_types.specs.Integers.{pattern_of, smallest_type};
 ghost use Rattle.fl_types.specs.Refusals.{Answers};
-ghost use Rattle.fl_types.specs.Validities.{covers, items_of, masked, nullability_of};
+ghost use Rattle.fl_types.specs.Validities.{covers, full_validity, items_of, masked, nullability_of};
+ghost use Rattle.fl_types.specs.declared.dtype.PType.TheVariants.{U64};
 ghost use Rattle.fl_types.specs.declared.validity.Validity.TheVariants as valid;
-ghost use Rattle.fl_patches.specs.PatchMaps.{ArePatches, chunk_count, full_validity, places_from};
+ghost use Rattle.fl_patches.specs.PatchMaps.{ArePatches, chunk_count, places_from};
 ghost use Rattle.fl_widths.specs.Exceptions.{bit_count, exception, exceptions_of, one_width, width_of_block};
 ghost use Rattle.fl_widths.specs.PatchParts.{AreChunked, AreGathered, HasBlocks, blocked_patches, counts_before, exception_at, exception_patches, global_patches, patches_with};
 
-use crate::index_types::{index_array, number_array};
 use crate::patterns::{Pattern, bit_count, bits_of};
 use fastlanes::FL_CHUNK_SIZE;
-use fl_patches::Patches;
+use fl_patches::{Patches, index_array};
 use fl_plain::PrimitiveArray;
 use fl_types::{BitList, FastLanesError, Nullability, Validity, match_each_integer_ptype};
 use std::alloc::{AllocError, Global};
@@ -187,14 +187,11 @@ fn find_blocked<T: Pattern>(
     Ok((found, offsets))
 }
 
-/// The validity of an array without a null.
-fn full_validity(nullability: Nullability) -> Validity
-    ensures { result ≡ full_validity nullability }
+/// Numbers of 64 bits, none of which may be null.
+fn number_array(numbers: Vec<u64>) -> PrimitiveArray
+    ensures { result ≡ record { ptype = U64; slots = map pos numbers.items; validity = valid.NonNullable } }
 {
-    match nullability {
-        Nullability::NonNullable => Validity::NonNullable,
-        Nullability::Nullable => Validity::AllValid,
-    }
+    PrimitiveArray::new(numbers, Validity::NonNullable).unwrap()
 }
 
 /// Values without a null.
@@ -202,7 +199,7 @@ fn full_validity(nullability: Nullability) -> Validity
 fn value_array<T: Pattern>(values: Vec<T>, nullability: Nullability) -> PrimitiveArray
     ensures { result ≡ record { ptype = T.PTYPE; slots = map T.value values.items; validity = full_validity nullability } }
 {
-    PrimitiveArray::new(values, full_validity(nullability)).unwrap()
+    PrimitiveArray::new(values, Validity::from(nullability)).unwrap()
 }
 
 /// The patches of an array's exceptions, which were found with how many stand before each block, or

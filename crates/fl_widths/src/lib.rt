@@ -6,7 +6,6 @@ pub mod best_width;
 pub mod block_widths;
 pub mod gathering;
 pub mod histogram;
-mod index_types;
 pub mod laws;
 mod patterns;
 

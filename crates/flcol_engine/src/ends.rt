@@ -84,6 +84,8 @@ impl<R: Read> Source for ReadEnd<R> {
     ghost has_failed = { λ s. s.failed };
 
     fn read(&mut self, buf: &mut [u8]) -> Result<usize, ReadFault> {
+        // A call that a signal interrupted is made again. A count that nobody will reach stands in place
+        // of a loop without an end, so that each call returns.
         for _ in 0..u64::MAX {
             match self.inner.read(buf) {
                 Ok(n) => return Ok(n),
@@ -131,6 +133,7 @@ impl<W: Write> Sink for WriteEnd<W> {
 
     fn write(&mut self, buf: &[u8]) -> Result<usize, WriteFault> {
         self.flushed = false;
+        // Made again where it was interrupted, up to a count that nobody will reach.
         for _ in 0..u64::MAX {
             match self.inner.write(buf) {
                 Ok(n) => {

@@ -1,7 +1,6 @@
 //! The words of a run: `pack TYPE WIDTH`.
 
 ghost use Rattle.std.specs.Prelude.{◌≡◌, map, string_bytes};
-ghost use Rattle.flcol_engine.specs.Engine.{bits_of};
 ghost use Rattle.flcol_engine.specs.Text.{number_up_to};
 ghost use Rattle.flcol_engine.specs.Command.{type_of, width_of, command_of, usage_line};
 
@@ -17,30 +16,23 @@ pub fn usage() -> &'static str
 /// The type of a column's items.
 #[derive(Clone, Copy, Debug, PartialEq, Eq)]
 pub enum ColumnType {
+    /// Whole numbers below 2^8.
     U8,
+    /// Whole numbers below 2^16.
     U16,
+    /// Whole numbers below 2^32.
     U32,
+    /// Whole numbers below 2^64.
     U64,
-}
-
-impl ColumnType {
-    /// The bits of an item.
-    pub fn bits(self) -> u8
-        ensures { result ≡ bits_of self }
-    {
-        match self {
-            ColumnType::U8 => 8,
-            ColumnType::U16 => 16,
-            ColumnType::U32 => 32,
-            ColumnType::U64 => 64,
-        }
-    }
 }
 
 /// The command `pack`: the type of the column, and the bits that are kept of each item.
 #[derive(Clone, Copy, Debug, PartialEq, Eq)]
 pub struct Pack {
+    /// The type of the column's items.
     pub column_type: ColumnType,
+    /// The bits that are kept of each item, as the word says; whether the type has as many is judged
+    /// when the column has been read.
     pub width: u8,
 }
 

@@ -5,9 +5,10 @@
 pub mod array;
 pub mod bitpack_compress;
 pub mod bitpack_decompress;
+pub mod laws;
 pub mod unpack_iter;
 
-pub use fastlanes::FL_CHUNK_SIZE;
+pub use fastlanes::{FL_CHUNK_SIZE, Work};
 pub use fl_codec::delta::delta_compress;
 pub use fl_column::{
     BetweenOptions, BitList, BoolArray, CompareOperator, ConstantArray, DType, FastLanesError,

@@ -1,5 +1,6 @@
 //! Reading packed columns block by block.
 
 pub use fl_packed::unpack_iter::{
-    BitPacked, BitPackingStrategy, BitUnpackIterator, UnpackStrategy, UnpackedChunks, UnpackedItems,
+    BitCount, BitPacked, BitPackingStrategy, BitUnpackIterator, UnpackStrategy, UnpackedChunks,
+    UnpackedItems,
 };

@@ -1,4 +1,4 @@
-use Rattle.std.proofs.Common.{◌≡◌, ◌+◌, ◌*◌, ◌≤◌, ◌∙◌, length, arith, ap, sym}
+use Rattle.std.proofs.Common.{◌+◌, ◌*◌, ◌≤◌, ◌∙◌, length, arith, ap, sym}
 use Rattle.fl_packed.proofs.Natives.{few_words, packed_by_items}
 use Rattle.fl_packed.proofs.WordLaws.{block_added, front_words, words_kept, words_more}
 use Rattle.fl_packed.proofs.word_packing.push_block.Goals as goal

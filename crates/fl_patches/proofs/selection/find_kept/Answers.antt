@@ -6,7 +6,7 @@ use Rattle.fl_patches.specs.PatchMaps.{count_below, ranks_at}
 use Rattle.fl_patches.proofs.Kept.{kept_to, kept_to_end, kept_to_no, kept_to_yes, ranks_more}
 use Rattle.fl_patches.proofs.Rising.{read}
 use Rattle.fl_patches.proofs.selection.find_kept.Goals as goal
-use Rattle.fl_patches.proofs.selection.find_kept.Goals.{then-keeps+in_ok-push, else-keeps}
+use Rattle.fl_patches.proofs.selection.find_kept.Goals.{then-get+in_ok-push, else-get}
 
 pub loop-i-preserved : goal.loop-i-preserved
 loop-i-preserved g c =
@@ -21,9 +21,9 @@ loop-i-preserved g c =
     let below : c.step-rank.result.1 ≡ count_below (offset + (i + 1)) indices = rw next c.step-rank.ensures.next in
     let positions = kept_to bits n i in
     let inv = c.loop-i.invariant in
-    elim c.if-keeps.branch [
-      | then-keeps+in_ok-push w ↦ (
-          let more = kept_to_yes bits n i each within (sym c.keeps.ensures ∙ w.if-keeps.true) in
+    elim c.if-get.branch [
+      | then-get+in_ok-push w ↦ (
+          let more = kept_to_yes bits n i each within (sym c.get.ensures ∙ w.if-get.true) in
           let items = ranks_at offset indices (map (λ j. Some j) positions) in
           let so_far : length items ≡ c.loop-i.len = length-map (map (λ j. Some j) positions) _ ∙ (length-map positions _ ∙ sym inv.len) in
           let pushed = w.in_ok-push.ensures.found items so_far inv.found in
@@ -34,8 +34,8 @@ loop-i-preserved g c =
             short = (let is = w.len-is in let short = inv.short in omega arith);
             found = rw (w.found-is, more, ranks_more offset indices positions i, ← rank) pushed;
           })
-      | else-keeps w ↦ (
-          let more = kept_to_no bits n i each within (sym c.keeps.ensures ∙ w.if-keeps.false) in
+      | else-get w ↦ (
+          let more = kept_to_no bits n i each within (sym c.get.ensures ∙ w.if-get.false) in
           record {
             below = below;
             len = w.len-is ∙ (inv.len ∙ ap length (sym more));

@@ -1,8 +1,7 @@
 use Rattle.std.proofs.Common.{◌<◌, ◌∙◌, Ok, Some, ap, map, sym, length, arith}
 use Rattle.fl_types.specs.Integers.{smallest_type}
-use Rattle.fl_types.specs.Validities.{nullability_of}
+use Rattle.fl_types.specs.Validities.{full_validity, nullability_of}
 use Rattle.fl_plain.specs.Columns.{Plain}
-use Rattle.fl_patches.specs.PatchMaps.{full_validity}
 use Rattle.fl_patches.proofs.Parts.{ok_same}
 use Rattle.fl_widths.proofs.Patches.{below_more, ok_from, parts, parts_are, patches_some_of}
 use Rattle.fl_widths.proofs.gathering.patches_of.Goals as goal

@@ -1,4 +1,4 @@
-use Rattle.std.proofs.Common.{◌≡◌, ◌*◌, ◌≤◌, length, rules}
+use Rattle.std.proofs.Common.{◌≤◌, length, rules}
 use Rattle.fl_types.specs.Integers.{bits_of_type, lanes_of_type}
 use Rattle.fl_packed.proofs.Natives.{block_words, fewer_blocks, word_width}
 use Rattle.fl_packed.proofs.unpack_iter.UnpackedChunks+T+BitPackingStrategy.full_chunks.Goals as goal

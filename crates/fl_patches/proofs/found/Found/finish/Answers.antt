@@ -1,6 +1,6 @@
 use Rattle.std.proofs.Common.{◌≡◌, ℕ, ℤ, pos, Some, None, Ok, get_or, length, map, ap, subst, sym, ◌∙◌, arith}
-use Rattle.fl_types.specs.Validities.{nullability_of}
-use Rattle.fl_patches.specs.PatchMaps.{PatchMap, full_validity, refusal_of}
+use Rattle.fl_types.specs.Validities.{full_validity, nullability_of}
+use Rattle.fl_patches.specs.PatchMaps.{PatchMap, refusal_of}
 use Rattle.fl_patches.proofs.Parts.{ok_same}
 use Rattle.fl_patches.proofs.Selected.{picked_accepted, picked_at, picked_is}
 use Rattle.fl_patches.proofs.found.Found.finish.Goals as goal
