@@ -1,8 +1,8 @@
-//! Each kernel at each word type: packing and unpacking beside bodies that go bit by bit, and blocks worked out by hand.
+//! Packing and unpacking beside bodies that go bit by bit, each kernel at each word type, and blocks worked out by hand.
 
 ghost use Rattle.std.specs.Prelude.{◌≡◌, ◌*◌, ◌≤◌, length};
 
-use fastlanes::round_trips::runs_and_back;
+use fastlanes::round_trips::{delta_and_back, runs_and_back, undelta_and_back};
 use fastlanes::*;
 use std::process::Abort;
 
@@ -306,18 +306,36 @@ fn packed_items_are_read<W: FastLanes>(rt: &impl Abort)
     items_are_compared(rt, packed);
 }
 
-/// Squares, of which three stand in a row, through the transposition and back.
+/// The items through the transposition and back.
 fn places_come_back<W: FastLanes>(rt: &impl Abort, items: &[W; FL_CHUNK_SIZE]) {
     W::in_memory();
     let mut stored = [W::zero(); FL_CHUNK_SIZE];
     transpose(items, &mut stored);
-    assert!(rt; stored[128].same(items[1]) && stored[1].same(items[64]));
+    assert!(rt; number(stored[128]) == number(items[1]) && number(stored[1]) == number(items[64]));
     let mut back = [W::zero(); FL_CHUNK_SIZE];
     untranspose(&stored, &mut back);
     assert!(rt; are_same(&back, items));
 }
 
-/// The same through the runs and back.
+/// The items through deltas beside bases that count up, and back; and through sums, and back.
+fn deltas_come_back<W: FastLanes>(rt: &impl Abort, items: &[W; FL_CHUNK_SIZE])
+    requires { 1 ≤ W.T }
+{
+    W::in_memory();
+    let mut bases = [W::zero(); FL_CHUNK_SIZE];
+    for l in 0..FL_CHUNK_SIZE {
+        bases[l] = word(l as u64);
+    }
+    let bases = &bases[..block_size::<W>(1)];
+    let mut other = [W::zero(); FL_CHUNK_SIZE];
+    let mut back = [W::zero(); FL_CHUNK_SIZE];
+    delta_and_back(items, bases, &mut other, &mut back);
+    assert!(rt; are_same(&back, items));
+    undelta_and_back(items, bases, &mut other, &mut back);
+    assert!(rt; are_same(&back, items));
+}
+
+/// The items through the runs and back.
 fn runs_come_back<W: FastLanes>(rt: &impl Abort, items: &[W; FL_CHUNK_SIZE]) {
     W::in_memory();
     let mut values = [W::zero(); FL_CHUNK_SIZE];
@@ -327,14 +345,17 @@ fn runs_come_back<W: FastLanes>(rt: &impl Abort, items: &[W; FL_CHUNK_SIZE]) {
     assert!(rt; are_same(&back, items));
 }
 
-/// Squares, of which three stand in a row, through the transposition and the runs, and back.
-fn blocks_come_back<W: FastLanes>(rt: &impl Abort) {
+/// Squares from 1 on, of which three stand in a row, through the kernels that undo each other.
+fn blocks_come_back<W: FastLanes>(rt: &impl Abort)
+    requires { 1 ≤ W.T }
+{
     W::in_memory();
     let mut items = [W::zero(); FL_CHUNK_SIZE];
     for p in 0..FL_CHUNK_SIZE {
-        items[p] = word(item_of_block(2, p / 3));
+        items[p] = word(item_of_block(2, p / 3 + 1));
     }
     places_come_back(rt, &items);
+    deltas_come_back(rt, &items);
     runs_come_back(rt, &items);
 }
 

@@ -1,4 +1,4 @@
-//! Blocks worked out by hand from the layout, and each kernel at each word type.
+//! Packed blocks worked out by hand from the layout.
 
 ghost use Rattle.std.specs.Prelude.{◌≡◌, ◌+◌, ◌*◌, ◌/◌, ◌≤◌, length};
 

@@ -2,8 +2,9 @@
 
 use crate::columns::{Made, TYPES, is_at};
 use crate::decoders::{deltas_make, frame_makes, runs_show};
-use crate::frames::is_framed;
+use crate::frames::{halves, is_framed};
 use fl_codec::delta::delta_compress;
+use fl_codec::frame_of_reference::Frame;
 use fl_codec::runs::Runs;
 use fl_codec::{frame_of_reference, runs};
 use fl_plain::PrimitiveArray;
@@ -71,6 +72,36 @@ fn frames(column: Made, alloc: Global, ptype: PType) -> bool {
     }
 }
 
+/// A chunk of the least value of a type, and one of its greatest.
+fn two_chunks(alloc: Global, ptype: PType) -> Made {
+    match ptype {
+        PType::U8 => halves(alloc, 1024, Some(u8::MIN), Some(u8::MAX)),
+        PType::U16 => halves(alloc, 1024, Some(u16::MIN), Some(u16::MAX)),
+        PType::U32 => halves(alloc, 1024, Some(u32::MIN), Some(u32::MAX)),
+        PType::U64 => halves(alloc, 1024, Some(u64::MIN), Some(u64::MAX)),
+        PType::I8 => halves(alloc, 1024, Some(i8::MIN), Some(i8::MAX)),
+        PType::I16 => halves(alloc, 1024, Some(i16::MIN), Some(i16::MAX)),
+        PType::I32 => halves(alloc, 1024, Some(i32::MIN), Some(i32::MAX)),
+        PType::I64 => halves(alloc, 1024, Some(i64::MIN), Some(i64::MAX)),
+    }
+}
+
+/// Whether the chunks of a column have references of their own, and make it again.
+fn has_references(alloc: Global, array: &PrimitiveArray) -> bool {
+    match frame_of_reference::encode_chunked(alloc, array) {
+        Ok(frame) => matches!(frame, Frame::Chunked(..)) && frame_makes(alloc, &frame, array),
+        Err(_) => false,
+    }
+}
+
+/// The same of what was made.
+fn frames_chunks(column: Made, alloc: Global) -> bool {
+    match column {
+        Ok(array) => has_references(alloc, &array),
+        Err(_) => false,
+    }
+}
+
 /// Whether bases and deltas of one block are of a type, and base 1 is its least value.
 fn are_deltas(parts: &(PrimitiveArray, PrimitiveArray), ptype: PType) -> bool {
     parts.0.ptype() == ptype
@@ -118,6 +149,13 @@ fn runs_of(column: Made, alloc: Global, ptype: PType) -> bool {
 fn frames_at_each_type(rt: HostRuntime) {
     for ptype in TYPES {
         assert!(rt; frames(column(rt.alloc(), ptype), rt.alloc(), ptype));
+    }
+}
+
+#[test]
+fn chunked_frames_at_each_type(rt: HostRuntime) {
+    for ptype in TYPES {
+        assert!(rt; frames_chunks(two_chunks(rt.alloc(), ptype), rt.alloc()));
     }
 }
 

@@ -142,6 +142,15 @@ pub(crate) fn ones_and_nulls(alloc: Global) -> Made {
     PrimitiveArray::from_options(alloc, &[one, None, one, None, one, None, last])
 }
 
+/// 0 to 512.
+pub(crate) fn up_to_512(alloc: Global) -> Made {
+    let mut items = Vec::new(alloc);
+    for i in 0..513i32 {
+        items.push(i)?;
+    }
+    PrimitiveArray::new(items, Validity::NonNullable)
+}
+
 /// 1024 of 3, then 1000.
 pub(crate) fn two_blocks(alloc: Global) -> Made {
     let mut items = Vec::new(alloc);

@@ -241,14 +241,26 @@ fn frames_no_items(column: Made, alloc: Global) -> bool {
     }
 }
 
-/// Whether a frame is one of nulls, and makes a column.
+/// Whether a frame is one of nulls, with the reference 0 of a type.
+fn has_zero_for_nulls(frame: &Frame, zero: PValue) -> bool {
+    match frame {
+        Frame::Nulls(_, reference) => {
+            *reference == Scalar::primitive(zero, Nullability::NonNullable)
+        }
+        _ => false,
+    }
+}
+
+/// Whether a frame of bytes is one of nulls, with the reference 0, and makes a column.
 fn is_of_nulls(
     frame: Result<Frame, FastLanesError>,
     alloc: Global,
     array: &PrimitiveArray,
 ) -> bool {
     match frame {
-        Ok(frame) => matches!(frame, Frame::Nulls(..)) && frame_makes(alloc, &frame, array),
+        Ok(frame) => {
+            has_zero_for_nulls(&frame, PValue::U8(0)) && frame_makes(alloc, &frame, array)
+        }
         Err(_) => false,
     }
 }
@@ -273,7 +285,12 @@ fn columns_without_an_item_have_no_minimum(rt: HostRuntime) {
 }
 
 /// So many items of `first`, and then as many of `second`.
-fn halves(alloc: Global, each: usize, first: Option<i16>, second: Option<i16>) -> Made {
+pub(crate) fn halves<T: NativePType>(
+    alloc: Global,
+    each: usize,
+    first: Option<T>,
+    second: Option<T>,
+) -> Made {
     let mut items = Vec::new(alloc);
     for _ in 0..each {
         items.push(first)?;
@@ -313,7 +330,7 @@ fn frames_two_chunks(column: Made, alloc: Global) -> bool {
 
 #[test]
 fn chunks_have_references_of_their_own(rt: HostRuntime) {
-    let array = halves(rt.alloc(), 1024, Some(5), Some(-7));
+    let array = halves(rt.alloc(), 1024, Some(5i16), Some(-7));
     assert!(rt; frames_two_chunks(array, rt.alloc()));
 }
 
@@ -352,6 +369,6 @@ fn chunks_share(column: Made, alloc: Global, reference: PValue) -> bool {
 
 #[test]
 fn equal_references_are_one(rt: HostRuntime) {
-    let array = halves(rt.alloc(), 1024, None, Some(9));
+    let array = halves(rt.alloc(), 1024, None, Some(9i16));
     assert!(rt; chunks_share(array, rt.alloc(), PValue::I16(9)));
 }

@@ -2,19 +2,23 @@
 
 ghost use Rattle.std.specs.Prelude.{◌≡◌, IsTrue, length};
 ghost use Rattle.fl_types.specs.Integers.{bits_of_type};
+ghost use Rattle.fl_types.specs.declared.dtype.PType.TheVariants.{U16};
 ghost use Rattle.fl_patches.specs.PatchMaps.{numbers};
 ghost use Rattle.fl_packed.specs.Blocks.{are_blocks};
 
 use crate::columns::{
     Made, Span, TYPES, are_spans, has_spans, is_at, ones_and_nulls, rising, same_items, solid,
-    two_blocks,
+    two_blocks, up_to_512,
 };
-use fl_packed::decoding::{PackedColumn, unpack_bounded, unpack_even, unpack_single_primitive};
+use fastlanes::Work;
+use fl_packed::decoding::{
+    PackedColumn, unpack_block_item, unpack_bounded, unpack_even, unpack_single_primitive,
+};
 use fl_packed::packing::{bitpack_blocked_unchecked, bitpack_into, bitpack_unchecked};
 use fl_patches::Patches;
 use fl_plain::PrimitiveArray;
 use fl_types::*;
-use fl_widths::gather_patches;
+use fl_widths::{gather_blocked_patches, gather_patches};
 use std::alloc::Global;
 
 /// What makes packed bytes.
@@ -46,8 +50,11 @@ fn unpacked<'a>(
     offset: usize,
     len: usize,
 ) -> Made {
-    if offset >= 1024 || len >= 1 << 32 || width > ptype.bit_width() || !validity.covers(len) {
-        return Err(FastLanesError::LengthOverflow);
+    if offset >= 1024 || len >= 1 << 32 || !validity.covers(len) {
+        return Err(FastLanesError::ValidityLength);
+    }
+    if width > ptype.bit_width() {
+        return Err(FastLanesError::WidthTooLarge);
     }
     if 128 * width * (offset + len).div_ceil(1024) > bytes.len() {
         return Err(FastLanesError::PackedLength);
@@ -98,30 +105,42 @@ const SEVEN: &[Span] = &[
     (1, Some(18_446_744_073_709_551_615)),
 ];
 
-/// Whether seven items of these bytes at width 1, under a validity and with patches, are the ones and
-/// nulls.
-fn are_ones(alloc: Global, bytes: &[u8], validity: &Validity, patches: &Patches) -> bool {
-    if bytes.len() < 128 || patches.array_len() != 7 || patches.values().ptype() != PType::U64 {
-        return false;
+/// As many items as an array has, of its type and under its validity, read from bytes at one width with
+/// patches, which must fit each other.
+fn patched<'a>(
+    alloc: Global,
+    array: &'a PrimitiveArray,
+    bytes: &'a [u8],
+    width: usize,
+    patches: &'a Patches,
+) -> Made {
+    let (ptype, len) = (array.ptype(), array.len());
+    if patches.array_len() != len || patches.values().ptype() != ptype {
+        return Err(FastLanesError::PatchLength);
     }
-    if !validity.covers(7) {
-        return false;
+    if len >= 1 << 32 || width > ptype.bit_width() {
+        return Err(FastLanesError::WidthTooLarge);
+    }
+    if 128 * width * len.div_ceil(1024) > bytes.len() {
+        return Err(FastLanesError::PackedLength);
     }
     let column = PackedColumn {
         packed: bytes,
-        ptype: PType::U64,
-        validity,
+        ptype,
+        validity: array.validity(),
         patches: Some(patches),
         offset: 0,
-        len: 7,
+        len,
     };
-    are_spans(unpack_even(alloc, &column, 1), PType::U64, SEVEN)
+    unpack_even(alloc, &column, width)
 }
 
 /// Whether the ones and nulls come back from bytes with their one patch.
 fn ones_decode(alloc: Global, array: &PrimitiveArray, bytes: &[u8]) -> bool {
     match gather_patches(alloc, array, 1, 1) {
-        Ok(Some(patches)) => are_ones(alloc, bytes, array.validity(), &patches),
+        Ok(Some(patches)) => {
+            are_spans(patched(alloc, array, bytes, 1, &patches), PType::U64, SEVEN)
+        }
         _ => false,
     }
 }
@@ -142,14 +161,83 @@ fn packs_ones(column: Made, alloc: Global) -> bool {
 }
 
 #[test]
-fn ones_and_nulls_pack_and_decode(rt: HostRuntime) {
+fn test_encode(rt: HostRuntime) {
     assert!(rt; packs_ones(ones_and_nulls(rt.alloc()), rt.alloc()));
+}
+
+/// Whether 0 to 512 come back from bytes at width 9 with their one patch.
+fn signed_decode(alloc: Global, array: &PrimitiveArray, bytes: &[u8]) -> bool {
+    match gather_patches(alloc, array, 9, 1) {
+        Ok(Some(patches)) => is_array(patched(alloc, array, bytes, 9, &patches), array),
+        _ => false,
+    }
+}
+
+fn signed_pack(alloc: Global, array: &PrimitiveArray) -> bool {
+    match packed(alloc, array, 9) {
+        Ok(bytes) => signed_decode(alloc, array, &bytes),
+        Err(_) => false,
+    }
+}
+
+fn packs_signed(column: Made, alloc: Global) -> bool {
+    match column {
+        Ok(array) => signed_pack(alloc, &array),
+        Err(_) => false,
+    }
+}
+
+#[test]
+fn signed_with_patches(rt: HostRuntime) {
+    assert!(rt; packs_signed(up_to_512(rt.alloc()), rt.alloc()));
 }
 
 #[test]
 fn full_bytes_are_negative(rt: HostRuntime) {
     let array = unpacked_solid(rt.alloc(), &[255; 1024], PType::I8, 8, 0, 3);
     assert!(rt; are_spans(array, PType::I8, &[(3, Some(-1))]));
+    let single: i8 = unpack_single_primitive(&[255; 1024], 8, 0);
+    assert!(rt; single == -1);
+}
+
+/// An item of a block whose bits are all set, at width 11, and how many words were read for it.
+fn item_of_ones(index: usize) -> Option<(u32, u64)> {
+    if index >= 1024 {
+        return None;
+    }
+    let mut work = Work::new();
+    let item: u32 = unpack_block_item(11, &[255; 1408], index, &mut work);
+    Some((item, work.words()))
+}
+
+/// The item at row 0 of lane 0 lies in one word, that at row 2 across two.
+#[test]
+fn an_item_is_read_from_its_words(rt: HostRuntime) {
+    assert!(rt; item_of_ones(0) == Some((2047, 1)));
+    assert!(rt; item_of_ones(256) == Some((2047, 2)));
+}
+
+/// Whether the array's items are packed into nothing at width 0, and so many zeros are read of it.
+fn vanish(alloc: Global, array: &PrimitiveArray, len: usize) -> bool {
+    match packed(alloc, array, 0) {
+        Ok(bytes) => {
+            let zeros = unpacked_solid(alloc, &bytes, array.ptype(), 0, 0, len);
+            bytes.is_empty() && are_spans(zeros, array.ptype(), &[(len, Some(0))])
+        }
+        Err(_) => false,
+    }
+}
+
+fn vanishes(column: Made, alloc: Global, len: usize) -> bool {
+    match column {
+        Ok(array) => vanish(alloc, &array, len),
+        Err(_) => false,
+    }
+}
+
+#[test]
+fn width_0_keeps_nothing(rt: HostRuntime) {
+    assert!(rt; vanishes(two_blocks(rt.alloc()), rt.alloc(), 1025));
 }
 
 /// Whether there are so many bytes, all of them full.
@@ -436,4 +524,64 @@ fn two_blocks_come_back(column: Made, alloc: Global) -> bool {
 #[test]
 fn blocks_of_two_widths_come_back(rt: HostRuntime) {
     assert!(rt; two_blocks_come_back(two_blocks(rt.alloc()), rt.alloc()));
+}
+
+/// Whether two blocks of `u16`, which lie between boundaries, are an array but for its patches.
+fn are_between_with<'a>(
+    alloc: Global,
+    bytes: &'a [u8],
+    boundaries: &PrimitiveArray,
+    array: &'a PrimitiveArray,
+    patches: &'a Patches,
+) -> bool
+    requires typed { array.now.ptype ≡ U16 }
+    requires long { length array.now.slots ≡ 1025 }
+    requires count { length boundaries.now.slots ≡ 3 }
+    requires blocks { IsTrue (are_blocks 16 (length bytes.now) (numbers boundaries.now)) }
+{
+    if patches.array_len() != 1025 || patches.values().ptype() != PType::U16 {
+        return false;
+    }
+    let column = PackedColumn {
+        packed: bytes,
+        ptype: PType::U16,
+        validity: array.validity(),
+        patches: Some(patches),
+        offset: 0,
+        len: 1025,
+    };
+    is_array(unpack_bounded(alloc, &column, boundaries), array)
+}
+
+/// Whether two blocks of widths 2 and 0 come back with their patches.
+fn come_back_with(alloc: Global, array: &PrimitiveArray, patches: &Patches) -> bool {
+    if array.len() != 1025 || array.ptype() != PType::U16 {
+        return false;
+    }
+    match bitpack_blocked_unchecked(alloc, array, &[2, 0]) {
+        Ok(parts) => are_between_with(alloc, parts.0.as_slice(), &parts.1, array, patches),
+        Err(_) => false,
+    }
+}
+
+fn patches_come_back(alloc: Global, array: &PrimitiveArray) -> bool {
+    if array.len() != 1025 {
+        return false;
+    }
+    match gather_blocked_patches(alloc, array, &[2, 0], 1) {
+        Ok(Some(patches)) => come_back_with(alloc, array, &patches),
+        _ => false,
+    }
+}
+
+fn patched_blocks_come_back(column: Made, alloc: Global) -> bool {
+    match column {
+        Ok(array) => patches_come_back(alloc, &array),
+        Err(_) => false,
+    }
+}
+
+#[test]
+fn blocks_come_back_with_their_patches(rt: HostRuntime) {
+    assert!(rt; patched_blocks_come_back(two_blocks(rt.alloc()), rt.alloc()));
 }

@@ -1,6 +1,8 @@
 //! The patches of columns by example.
 
-use crate::columns::{Made, Span, copies, half_null, has_spans, ones_and_nulls, solid, two_blocks};
+use crate::columns::{
+    Made, Span, copies, half_null, has_spans, ones_and_nulls, solid, two_blocks, up_to_512,
+};
 use fl_patches::Patches;
 use fl_plain::PrimitiveArray;
 use fl_types::*;
@@ -121,17 +123,16 @@ fn patch_values_may_be_null_where_items_may(rt: HostRuntime) {
     assert!(rt; keeps_validity(solid(rt.alloc(), &[1u8, 2]), rt.alloc(), false));
 }
 
-/// 4096 items 0 but for 1048576 at four places.
-fn four_of_many(alloc: Global) -> Made {
+/// So many items 0, but for 1048576 at these places.
+fn zeros_but_at(alloc: Global, len: usize, places: &[usize]) -> Made {
     let mut items = Vec::new(alloc);
-    for i in 0..4096usize {
-        let is_large = matches!(i, 100 | 200 | 3000 | 3100);
-        items.push(if is_large { 1048576u32 } else { 0 })?;
+    for i in 0..len {
+        items.push(if places.contains(&i) { 1048576u32 } else { 0 })?;
     }
     PrimitiveArray::new(items, Validity::NonNullable)
 }
 
-/// The patches of those items: the four.
+/// The patches of 4096 items 0 but at four places.
 const FOUR_ITEMS: Parts = Parts {
     index_type: PType::U16,
     value_type: PType::U32,
@@ -146,9 +147,58 @@ const FOUR_ITEMS: Parts = Parts {
 };
 
 #[test]
-fn chunk_offsets_count_the_patches_before(rt: HostRuntime) {
-    let four = Some(&FOUR_ITEMS);
-    assert!(rt; keeps(four_of_many(rt.alloc()), rt.alloc(), 4, 4, four));
+fn test_chunk_offsets(rt: HostRuntime) {
+    let column = zeros_but_at(rt.alloc(), 4096, &[100, 200, 3000, 3100]);
+    assert!(rt; keeps(column, rt.alloc(), 4, 4, Some(&FOUR_ITEMS)));
+}
+
+/// Whether the patches of a column at width 4 have these chunk offsets.
+fn gathers_offsets(alloc: Global, array: &PrimitiveArray, offsets: &[Span]) -> bool {
+    match gather_patches(alloc, array, 4, 2) {
+        Ok(Some(patches)) => are_offsets(patches.chunk_offsets(), offsets),
+        _ => false,
+    }
+}
+
+/// The same of what was made.
+fn keeps_offsets(column: Made, alloc: Global, offsets: &[Span]) -> bool {
+    match column {
+        Ok(array) => gathers_offsets(alloc, &array, offsets),
+        Err(_) => false,
+    }
+}
+
+#[test]
+fn test_chunk_offsets_no_patches_in_middle(rt: HostRuntime) {
+    let column = zeros_but_at(rt.alloc(), 3072, &[100, 200, 2500]);
+    assert!(rt; keeps_offsets(column, rt.alloc(), &[(1, Some(0)), (2, Some(2))]));
+}
+
+#[test]
+fn test_chunk_offsets_trailing_empty_chunks(rt: HostRuntime) {
+    let column = zeros_but_at(rt.alloc(), 5120, &[100, 200, 1500]);
+    let offsets = [(1, Some(0)), (1, Some(2)), (3, Some(3))];
+    assert!(rt; keeps_offsets(column, rt.alloc(), &offsets));
+}
+
+#[test]
+fn test_chunk_offsets_single_chunk(rt: HostRuntime) {
+    let column = zeros_but_at(rt.alloc(), 500, &[100, 200]);
+    assert!(rt; keeps_offsets(column, rt.alloc(), &[(1, Some(0))]));
+}
+
+/// The patches of 0 to 512 at width 9: the last item.
+const LAST_OF_513: Parts = Parts {
+    index_type: PType::U16,
+    value_type: PType::I32,
+    indices: &[(1, Some(512))],
+    values: &[(1, Some(512))],
+    offsets: &[(1, Some(0))],
+};
+
+#[test]
+fn patches_of_signed_items(rt: HostRuntime) {
+    assert!(rt; keeps(up_to_512(rt.alloc()), rt.alloc(), 9, 0, Some(&LAST_OF_513)));
 }
 
 /// Whether a column has a block for each of these widths, and its patches at them have these parts.

@@ -183,6 +183,7 @@ const PARTS: &[(usize, usize, usize, Parts)] = &[
     (384, 0, 3072, (None, 3, None)),
     (384, 0, 2049, (None, 2, Some(1))),
     (384, 1, 3071, (Some(1023), 2, None)),
+    (384, 1, 2500, (Some(1023), 1, Some(453))),
 ];
 
 #[test]

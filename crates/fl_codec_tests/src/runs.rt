@@ -200,12 +200,88 @@ fn test_decode_tolerates_garbage_index_at_null_position(rt: HostRuntime) {
     assert!(rt; takes_turns(column, 1024, (10, 20), 100));
 }
 
-/// Run offsets that don't begin with 0 count from the first one on.
 #[test]
 fn test_decode_in_bounds_indices_roundtrip(rt: HostRuntime) {
     let indices = indices_in_turn(rt.alloc(), 2000, false);
+    let column = column_of(indices, rt.alloc(), &[10, 20], &[0], (0, 1024));
+    assert!(rt; takes_turns(column, 1024, (10, 20), 2000));
+}
+
+#[test]
+fn run_offsets_count_from_the_first(rt: HostRuntime) {
+    let indices = indices_in_turn(rt.alloc(), 2000, false);
     let column = column_of(indices, rt.alloc(), &[10, 20], &[7], (1, 1023));
     assert!(rt; takes_turns(column, 1023, (20, 10), 2000));
+}
+
+/// The column of values, indices and offsets, from the first position on, or why there is none.
+fn whole(alloc: Global, values: Made, indices: Made, offsets: Made) -> Made {
+    let values = values?;
+    let indices = indices?;
+    let offsets = offsets?;
+    unrolled(alloc, &values, &indices, &offsets, 0, 1024)
+}
+
+/// Whether 1024 indices 1 and one run offset, of these types, name the second of two values.
+fn name_the_second(alloc: Global, indices: Made, offsets: Made) -> bool {
+    let column = whole(alloc, solid(alloc, &[10u32, 20]), indices, offsets);
+    are_spans(column, PType::U32, &[(1024, Some(20))])
+}
+
+#[test]
+fn indices_and_run_offsets_of_each_type(rt: HostRuntime) {
+    let alloc = rt.alloc();
+    assert!(rt; name_the_second(alloc, copies(alloc, 1u8, 1024), solid(alloc, &[0u8])));
+    assert!(rt; name_the_second(alloc, copies(alloc, 1u8, 1024), solid(alloc, &[5u64])));
+    assert!(rt; name_the_second(alloc, copies(alloc, 1u16, 1024), solid(alloc, &[0u16])));
+    assert!(rt; name_the_second(alloc, copies(alloc, 1u16, 1024), solid(alloc, &[9u32])));
+}
+
+/// A value that may be null.
+fn nullable(alloc: Global, item: u32) -> Made {
+    PrimitiveArray::from_options(alloc, &[Some(item)])
+}
+
+/// Why values and indices are no runs, beside a run offset of a signed type.
+fn refused(alloc: Global, values: Made, indices: Made) -> Option<FastLanesError> {
+    whole(alloc, values, indices, solid(alloc, &[0i64])).err()
+}
+
+/// Each refusal of the parts by their types and lengths, where those behind it hold too.
+#[test]
+fn parts_are_judged_in_order(rt: HostRuntime) {
+    let alloc = rt.alloc();
+    let column = refused(alloc, nullable(alloc, 1), copies(alloc, 9u32, 1000));
+    assert!(rt; column == Some(FastLanesError::ChildNullable));
+    let column = refused(alloc, solid(alloc, &[1u32]), copies(alloc, 9u32, 1000));
+    assert!(rt; column == Some(FastLanesError::RunIndexType));
+    let column = refused(alloc, solid(alloc, &[1u32]), copies(alloc, 9u16, 1000));
+    assert!(rt; column == Some(FastLanesError::BlockOffsetsType));
+    let (indices, offsets) = (copies(alloc, 9u16, 1000), solid(alloc, &[0u64, 0]));
+    let column = whole(alloc, solid(alloc, &[1u32]), indices, offsets).err();
+    assert!(rt; column == Some(FastLanesError::ChildLength));
+}
+
+/// Why 1024 indices for each run offset, all of them one number, are no runs of so many values.
+fn runs_refused(
+    alloc: Global,
+    values: usize,
+    index: u16,
+    offsets: &[u64],
+) -> Option<FastLanesError> {
+    let values = copies(alloc, 1u32, values);
+    let indices = copies(alloc, index, offsets.len().saturating_mul(1024));
+    whole(alloc, values, indices, solid(alloc, offsets)).err()
+}
+
+#[test]
+fn chunks_name_their_own_values(rt: HostRuntime) {
+    let alloc = rt.alloc();
+    assert!(rt; runs_refused(alloc, 4, 2, &[0, 2]) == Some(FastLanesError::RunIndex));
+    assert!(rt; runs_refused(alloc, 4, 1, &[0, 2]).is_none());
+    assert!(rt; runs_refused(alloc, 2, 0, &[0, 0]) == Some(FastLanesError::RunOffsets));
+    assert!(rt; runs_refused(alloc, 4, 0, &[2, 0]) == Some(FastLanesError::RunOffsets));
+    assert!(rt; runs_refused(alloc, 1025, 0, &[0]) == Some(FastLanesError::RunOffsets));
 }
 
 /// Parts that are no runs, and why.

@@ -16,7 +16,7 @@ pub(crate) fn is_best(ptype: PType, histogram: &[usize], best: Option<u8>) -> bo
 }
 
 #[test]
-fn best_bit_width(rt: HostRuntime) {
+fn test_best_bit_width(rt: HostRuntime) {
     assert!(rt; is_best(PType::U8, &[0, 10, 20, 15, 1, 0, 0, 0], Some(3)));
     assert!(rt; is_best(PType::I64, &[], Some(0)));
     assert!(rt; is_best(PType::U8, &[0, 0, 0, 0, 0, 0, 0, 0, 100], Some(8)));
@@ -120,6 +120,26 @@ fn chooses(column: Made, alloc: Global, widths: &[u8], exceptions: usize) -> boo
 #[test]
 fn best_bit_widths(rt: HostRuntime) {
     assert!(rt; chooses(two_blocks(rt.alloc()), rt.alloc(), &[2, 0], 1));
+}
+
+/// Four blocks: 0 to 7 in turn, nothing but 0, 2^19 and what comes behind it, and 0 to 31 in turn, a
+/// hundred items of these.
+fn four_blocks(alloc: Global) -> Made {
+    let mut items = Vec::new(alloc);
+    for i in 0..3172u32 {
+        items.push(match i / 1024 {
+            0 => i % 8,
+            1 => 0,
+            2 => (1 << 19) + i % 1024,
+            _ => i % 32,
+        })?;
+    }
+    PrimitiveArray::new(items, Validity::NonNullable)
+}
+
+#[test]
+fn best_bit_widths_choose_each_block_width(rt: HostRuntime) {
+    assert!(rt; chooses(four_blocks(rt.alloc()), rt.alloc(), &[3, 0, 20, 5], 0));
 }
 
 #[test]

@@ -430,10 +430,10 @@ fn filtered_again(patches: Selected, alloc: Global) -> Selected {
     }
 }
 
-/// Patches were selected, with this value at the second place.
-fn have_second(patches: Selected, value: PValue) -> bool {
+/// Patches were selected, with this value at a place.
+fn have_at(patches: Selected, place: usize, value: PValue) -> bool {
     match patches {
-        Ok(Some(patches)) => patches.get_patched(1) == Some(value),
+        Ok(Some(patches)) => patches.get_patched(place) == Some(value),
         _ => false,
     }
 }
@@ -442,7 +442,15 @@ fn have_second(patches: Selected, value: PValue) -> bool {
 fn is_kept(alloc: Global, value: PValue, index: PType) -> bool {
     let whole = whole_of(copy_of_one(alloc, value, index), alloc);
     let selected = filtered_again(taken_backwards(whole, alloc), alloc);
-    have_second(selected, value)
+    have_at(selected, 1, value)
+}
+
+/// All four positions of what was made.
+fn filtered_whole(patches: Result<Patches, FastLanesError>, alloc: Global) -> Selected {
+    match patches {
+        Ok(patches) => filtered(&patches, alloc, &Mask::AllTrue(4)),
+        Err(refusal) => Err(refusal),
+    }
 }
 
 #[test]
@@ -456,5 +464,40 @@ fn keeps_values_of_each_type(rt: HostRuntime) {
 fn finds_by_indices_of_each_type(rt: HostRuntime) {
     for ptype in [PType::U8, PType::U16, PType::U32, PType::U64] {
         assert!(rt; is_kept(rt.alloc(), PValue::I32(-1), ptype));
+        let one = one_of_four(rt.alloc(), PValue::I32(-1), ptype);
+        assert!(rt; have_at(filtered_whole(one, rt.alloc()), 2, PValue::I32(-1)));
     }
+}
+
+/// So many times the position 2.
+fn twos(alloc: Global, len: usize) -> Made {
+    let two = Scalar::primitive(PValue::U8(2), Nullability::NonNullable);
+    ConstantArray::new(two, len)?.decode(alloc)
+}
+
+/// How many patches were selected, the type of their indices, and the last value.
+fn shape(patches: Selected, last: usize) -> Option<(usize, PType, Option<PValue>)> {
+    match patches {
+        Ok(Some(patches)) if patches.offset() == 0 && patches.chunk_offsets().is_none() => Some((
+            patches.num_patches(),
+            patches.indices().ptype(),
+            patches.get_patched(last),
+        )),
+        _ => None,
+    }
+}
+
+/// Takes of the patched position of the two, as often as a byte can count, and once more.
+fn takes_grow(rt: &impl Abort, alloc: Global, patches: &Patches) {
+    let seven = Some(PValue::U8(7));
+    let bytes = shape(taken(patches, alloc, twos(alloc, 255)), 254);
+    assert!(rt; bytes == Some((255, PType::U8, seven)));
+    let words = shape(taken(patches, alloc, twos(alloc, 256)), 255);
+    assert!(rt; words == Some((256, PType::U16, seven)));
+}
+
+#[test]
+fn a_longer_take_has_wider_indices(rt: HostRuntime) -> Result<(), Fail> {
+    takes_grow(&rt, rt.alloc(), &two_of_ten(rt.alloc())?);
+    Ok(())
 }

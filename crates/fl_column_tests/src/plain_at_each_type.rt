@@ -1,4 +1,4 @@
-//! Every call at every integer type, with ample memory, by example.
+//! Plain arrays and copies at every integer type, with ample memory, by example.
 
 use fl_plain::*;
 use fl_types::*;
@@ -174,10 +174,83 @@ fn answers(alloc: Global, ptype: PType) -> Result<bool, FastLanesError> {
     )
 }
 
-/// Two copies of the greatest value.
-fn copies(alloc: Global, ptype: PType) -> Made {
-    let scalar = Scalar::primitive(greatest(ptype), Nullability::NonNullable);
-    ConstantArray::new(scalar, 2)?.decode(alloc)
+/// Three copies of a value of a type, or of a null where there is none.
+fn copies(ptype: PType, value: Option<PValue>) -> Result<ConstantArray, FastLanesError> {
+    let scalar = match value {
+        Some(value) => Scalar::primitive(value, Nullability::Nullable),
+        None => Scalar::null(DType::Primitive(ptype, Nullability::Nullable)),
+    };
+    ConstantArray::new(scalar, 3)
+}
+
+/// What a take of copies by 2, a null and 0 gives.
+fn copies_taken(array: &ConstantArray, alloc: Global) -> Made {
+    let indices = PrimitiveArray::from_options(alloc, &[Some(2u8), None, Some(0)])?;
+    array.take(alloc, &indices)
+}
+
+/// All copies but the second.
+fn copies_filtered(array: &ConstantArray, alloc: Global) -> Made {
+    let mask = Mask::Values(BitList::from_fn(alloc, 3, |i| i != 1)?);
+    if array.len() != mask.len() {
+        return Err(FastLanesError::MaskLength);
+    }
+    array.filter(alloc, &mask)
+}
+
+/// Selections from three copies, which are this value or nulls.
+fn copies_select(array: &ConstantArray, alloc: Global, value: Option<PValue>) -> bool {
+    gave(copies_taken(array, alloc), &[value, None, value])
+        && gave(copies_filtered(array, alloc), &[value, value])
+        && gave(array.take_ranges(alloc, &[(1, 2)]), &[value, value])
+        && gave(array.decode(alloc), &[value, value, value])
+        && gave(array.cast(alloc, array.dtype()), &[value, value, value])
+}
+
+/// The last of three truth values.
+fn last(tests: Result<BoolArray, FastLanesError>) -> Option<bool> {
+    match tests {
+        Ok(tests) if tests.len() == 3 => tests.get(2),
+        _ => None,
+    }
+}
+
+/// What a comparison with a value of their type says of the last of three copies.
+fn copies_compared(array: &ConstantArray, alloc: Global, value: PValue) -> Option<bool> {
+    if array.ptype() != value.ptype() {
+        return None;
+    }
+    last(array.compare(alloc, CompareOperator::Eq, value))
+}
+
+/// What a range test by a value of their type says of the last of three copies.
+fn copies_between(array: &ConstantArray, alloc: Global, value: PValue) -> Option<bool> {
+    if array.ptype() != value.ptype() {
+        return None;
+    }
+    let options = BetweenOptions {
+        lower_strict: StrictComparison::NonStrict,
+        upper_strict: StrictComparison::NonStrict,
+    };
+    last(array.between(alloc, value, value, options))
+}
+
+/// Copies of the greatest value, or of nulls where there is none, are selected and tested.
+fn copies_answer(
+    array: Result<ConstantArray, FastLanesError>,
+    alloc: Global,
+    ptype: PType,
+    value: Option<PValue>,
+) -> bool {
+    let equal = value.map(|_| true);
+    match array {
+        Ok(array) => {
+            copies_select(&array, alloc, value)
+                && copies_compared(&array, alloc, greatest(ptype)) == equal
+                && copies_between(&array, alloc, greatest(ptype)) == equal
+        }
+        Err(_) => false,
+    }
 }
 
 /// The column, read as a type of the same width.
@@ -209,10 +282,17 @@ fn takes_by_indices_of_each_type(rt: HostRuntime) {
 fn answers_at_each_type(rt: HostRuntime) -> Result<(), Fail> {
     for ptype in TYPES {
         assert!(rt; answers(rt.alloc(), ptype)?);
-        let value = Some(greatest(ptype));
-        assert!(rt; gave(copies(rt.alloc(), ptype), &[value, value]));
     }
     Ok(())
+}
+
+#[test]
+fn copies_at_each_type(rt: HostRuntime) {
+    for ptype in TYPES {
+        for value in [Some(greatest(ptype)), None] {
+            assert!(rt; copies_answer(copies(ptype, value), rt.alloc(), ptype, value));
+        }
+    }
 }
 
 /// A type, another of its width, and what the least and the greatest value of the first are in the second.
@@ -233,6 +313,12 @@ const REREAD: &[(PType, PType, PValue, PValue)] = &[
         PType::U32,
         PValue::U32(2147483648),
         PValue::U32(2147483647),
+    ),
+    (
+        PType::I64,
+        PType::U64,
+        PValue::U64(9223372036854775808),
+        PValue::U64(9223372036854775807),
     ),
     (
         PType::I64,

@@ -21,13 +21,13 @@ fn sevens() -> Result<ConstantArray, FastLanesError> {
     ConstantArray::new(Scalar::primitive(PValue::I16(7), Nullability::Nullable), 3)
 }
 
-/// So many integers 7 of a type.
-fn are_sevens(array: &PrimitiveArray, ptype: PType, len: usize) -> bool {
-    if array.len() != len || array.ptype() != ptype {
+/// So many times this integer.
+fn are_all(array: &PrimitiveArray, value: PValue, len: usize) -> bool {
+    if array.len() != len {
         return false;
     }
     for i in 0..array.len() {
-        if array.scalar_at(i).as_pvalue().is_none() {
+        if array.scalar_at(i).as_pvalue() != Some(value) {
             return false;
         }
     }
@@ -36,7 +36,7 @@ fn are_sevens(array: &PrimitiveArray, ptype: PType, len: usize) -> bool {
 
 fn copies_by_ranges(array: &ConstantArray, alloc: Global) -> Result<bool, FastLanesError> {
     let taken = array.take_ranges(alloc, &[(1, 2), (9, 0), (0, 3)])?;
-    Ok(are_sevens(&taken, PType::I16, 5))
+    Ok(are_all(&taken, PValue::I16(7), 5))
 }
 
 fn copies_cast(array: &ConstantArray, alloc: Global) -> Result<bool, FastLanesError> {
@@ -44,7 +44,7 @@ fn copies_cast(array: &ConstantArray, alloc: Global) -> Result<bool, FastLanesEr
         alloc,
         DType::Primitive(PType::U64, Nullability::NonNullable),
     )?;
-    Ok(are_sevens(&cast, PType::U64, 3))
+    Ok(are_all(&cast, PValue::U64(7), 3))
 }
 
 #[test]

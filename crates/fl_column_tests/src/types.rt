@@ -182,12 +182,51 @@ fn lists_of_bits_are_equal_by_their_bits(rt: HostRuntime) {
     assert!(rt; differ(thirds(alloc, 70), but_one));
 }
 
+/// What was made has so many bits, so many of them set.
+fn counts(bits: Result<BitList, FastLanesError>, len: usize, set: usize) -> bool {
+    match bits {
+        Ok(bits) => bits.len() == len && bits.count_true() == set,
+        Err(_) => false,
+    }
+}
+
+#[test]
+fn lists_of_bits_fill_whole_words(rt: HostRuntime) {
+    let alloc = rt.alloc();
+    assert!(rt; counts(thirds(alloc, 0), 0, 0));
+    assert!(rt; counts(thirds(alloc, 128), 128, 43));
+    assert!(rt; counts(tail(thirds(alloc, 128), alloc, 64), 64, 21));
+}
+
 fn validity(alloc: Global, len: usize) -> Result<Validity, FastLanesError> {
     Ok(Validity::Array(thirds(alloc, len)?))
 }
 
 fn mask(alloc: Global, len: usize) -> Result<Mask, FastLanesError> {
     Ok(Mask::Values(thirds(alloc, len)?))
+}
+
+/// A copy of what was made.
+fn copied_mask(mask: Result<Mask, FastLanesError>, alloc: Global) -> Result<Mask, FastLanesError> {
+    mask?.try_clone(alloc)
+}
+
+#[test]
+fn masks_are_copied(rt: HostRuntime) {
+    let alloc = rt.alloc();
+    assert!(rt; are_equal(copied_mask(mask(alloc, 5), alloc), mask(alloc, 5)));
+    assert!(rt;
+        are_equal(
+            copied_mask(Ok(Mask::AllTrue(3)), alloc),
+            Ok(Mask::AllTrue(3))
+        )
+    );
+    assert!(rt;
+        are_equal(
+            copied_mask(Ok(Mask::AllFalse(3)), alloc),
+            Ok(Mask::AllFalse(3))
+        )
+    );
 }
 
 #[test]

@@ -471,6 +471,9 @@ fn scalars(rt: HostRuntime) -> Result<(), Fail> {
 #[test]
 fn wider_scalars_and_none(rt: HostRuntime) -> Result<(), Fail> {
     scalar_and_back(&rt, rt.alloc(), PType::U16, Some(300), &[0x20, 0xac, 0x02])?;
+    scalar_and_back(&rt, rt.alloc(), PType::I16, Some(-300), &[0x18, 0xd7, 0x04])?;
+    let text = &[0x20, 0xff, 0xff, 0xff, 0xff, 0x0f];
+    scalar_and_back(&rt, rt.alloc(), PType::U32, Some(4294967295), text)?;
     scalar_and_back(&rt, rt.alloc(), PType::U8, Some(5), &[0x20, 0x05])?;
     scalar_and_back(&rt, rt.alloc(), PType::U64, None, &[])?;
     scalar_and_back(&rt, rt.alloc(), PType::I32, None, &[])

@@ -1,6 +1,8 @@
 //! Arrays of copies.
 
 use crate::items::{Built, item_at, last_plain};
+use crate::operations::ends_kept;
+use crate::questions::{answers_yes, reads};
 use std::alloc::Global;
 use vortex_fastlanes::array::*;
 use vortex_fastlanes::*;
@@ -111,6 +113,7 @@ fn filters_and_casts(array: Built, alloc: Global) -> bool {
         Ok(array) => {
             filters(&array, alloc, &Mask::AllTrue(3), 3, false)
                 && filters(&array, alloc, &Mask::AllFalse(3), 0, true)
+                && gave_sevens(ends_kept(&array, alloc), alloc, 2, true)
                 && casts(&array, alloc) == Some(PValue::U64(7))
         }
         Err(_) => false,
@@ -192,4 +195,79 @@ fn answers(array: Built, alloc: Global) -> bool {
 #[test]
 fn answers_on_copies(rt: HostRuntime) {
     assert!(rt; answers(sevens(), rt.alloc()));
+}
+
+/// What a list of operations makes of the copies.
+fn run(alloc: Global, ops: &[Op]) -> Built {
+    let array = sevens()?;
+    apply_all(alloc, &array, ops)
+}
+
+fn filtered_and_sliced(alloc: Global) -> Built {
+    let ends = Op::Filter(Mask::Values(BitList::from_fn(alloc, 3, |i| i != 1)?));
+    run(alloc, &[ends, Op::Slice(0..1)])
+}
+
+#[test]
+fn runs_operations_on_copies(rt: HostRuntime) {
+    let alloc = rt.alloc();
+    let slices = [Op::Slice(1..3), Op::Slice(0..1)];
+    assert!(rt; gave_sevens(run(alloc, &slices), alloc, 1, false));
+    assert!(rt; gave_sevens(filtered_and_sliced(alloc), alloc, 1, true));
+    assert!(rt; gave_sevens(run(alloc, &[]), alloc, 3, false));
+    assert!(rt; run(alloc, &[Op::Slice(2..4)]).err() == Some(FastLanesError::RangeOutOfBounds));
+}
+
+/// What a question of tests answers for the last copy.
+fn last_answer(answer: Result<Answer, FastLanesError>) -> Option<bool> {
+    match answer {
+        Ok(Answer::Bools(tests)) => last_test(&tests),
+        _ => None,
+    }
+}
+
+fn asks_for_seven(array: &ArrayRef, alloc: Global) -> Option<bool> {
+    let DType::Primitive(PType::I16, _) = array.dtype() else {
+        return None;
+    };
+    let seven = Scalar::primitive(PValue::I16(7), Nullability::NonNullable);
+    last_answer(ask(alloc, array, &Query::Compare(CompareOperator::Eq, seven)))
+}
+
+/// What the copies answer when they are asked whether they lie between 7 and 9, neither allowed.
+fn asks_for_between(array: &ArrayRef, alloc: Global) -> Option<bool> {
+    let DType::Primitive(PType::I16, _) = array.dtype() else {
+        return None;
+    };
+    let lower = Scalar::primitive(PValue::I16(7), Nullability::NonNullable);
+    let upper = Scalar::primitive(PValue::I16(9), Nullability::NonNullable);
+    let options = BetweenOptions {
+        lower_strict: StrictComparison::Strict,
+        upper_strict: StrictComparison::Strict,
+    };
+    last_answer(ask(alloc, array, &Query::Between(lower, upper, options)))
+}
+
+/// Constant and sorted, and each item is there.
+fn asks_at_once(array: &ArrayRef, alloc: Global) -> bool {
+    answers_yes(alloc, array, &Query::IsConstant) == Ok(true)
+        && answers_yes(alloc, array, &Query::IsSorted(false)) == Ok(true)
+        && reads(alloc, array, 2) == Ok(Some(PValue::I16(7)))
+        && reads(alloc, array, 3) == Err(FastLanesError::IndexOutOfBounds)
+}
+
+fn asks(array: Built, alloc: Global) -> bool {
+    match array {
+        Ok(array) => {
+            asks_at_once(&array, alloc)
+                && asks_for_seven(&array, alloc) == Some(true)
+                && asks_for_between(&array, alloc) == Some(false)
+        }
+        Err(_) => false,
+    }
+}
+
+#[test]
+fn is_asked_of_copies(rt: HostRuntime) {
+    assert!(rt; asks(sevens(), rt.alloc()));
 }

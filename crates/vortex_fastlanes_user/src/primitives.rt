@@ -4,6 +4,7 @@ use crate::items::{Built, last_plain};
 use crate::operations::{gave_bytes, three};
 use std::alloc::Global;
 use vortex_fastlanes::array::*;
+use vortex_fastlanes::laws::{item_of_decoded, slice_of_slice};
 use vortex_fastlanes::*;
 
 fn slices(array: &ArrayRef, alloc: Global) -> bool {
@@ -51,4 +52,38 @@ fn keeps(array: Built, alloc: Global) -> bool {
 #[test]
 fn keeps_bytes_and_nulls(rt: HostRuntime) {
     assert!(rt; keeps(three(rt.alloc()), rt.alloc()));
+}
+
+/// The last of the last two items, by a slice of a slice.
+fn sliced_twice(array: &ArrayRef, alloc: Global) -> Built {
+    if array.len() != 3 {
+        return Err(FastLanesError::RangeOutOfBounds);
+    }
+    slice_of_slice(array, alloc, 1..3, 1..2)
+}
+
+/// The last of three items, decoded.
+fn last_decoded(array: &ArrayRef, alloc: Global) -> Option<PValue> {
+    if array.len() != 3 {
+        return None;
+    }
+    match item_of_decoded(array, alloc, 2) {
+        Ok(item) => item.as_pvalue(),
+        Err(_) => None,
+    }
+}
+
+fn obeys_laws(array: Built, alloc: Global) -> bool {
+    match array {
+        Ok(array) => {
+            gave_bytes(sliced_twice(&array, alloc), alloc, &[Some(30)])
+                && last_decoded(&array, alloc) == Some(PValue::U8(30))
+        }
+        Err(_) => false,
+    }
+}
+
+#[test]
+fn slices_of_slices_and_decoded_items(rt: HostRuntime) {
+    assert!(rt; obeys_laws(three(rt.alloc()), rt.alloc()));
 }

@@ -15,7 +15,11 @@ fn answer(alloc: Global, array: &ArrayRef, query: &Query) -> Result<Answer, Fast
 }
 
 /// Whether an array answers yes.
-fn answers_yes(alloc: Global, array: &ArrayRef, query: &Query) -> Result<bool, FastLanesError> {
+pub(crate) fn answers_yes(
+    alloc: Global,
+    array: &ArrayRef,
+    query: &Query,
+) -> Result<bool, FastLanesError> {
     match answer(alloc, array, query)? {
         Answer::Bool(truth) => Ok(truth),
         _ => Err(FastLanesError::NotInteger),
@@ -55,7 +59,11 @@ fn nulls_are_equal(rt: HostRuntime) {
 }
 
 /// The item at an index of an array, or why there is none.
-fn reads(alloc: Global, array: &ArrayRef, i: usize) -> Result<Option<PValue>, FastLanesError> {
+pub(crate) fn reads(
+    alloc: Global,
+    array: &ArrayRef,
+    i: usize,
+) -> Result<Option<PValue>, FastLanesError> {
     match answer(alloc, array, &Query::ScalarAt(i))? {
         Answer::Scalar(item) => Ok(item.as_pvalue()),
         _ => Err(FastLanesError::NotInteger),
@@ -125,16 +133,36 @@ fn asks_for_below(array: &ArrayRef, alloc: Global) -> Option<(bool, bool)> {
     }
 }
 
+/// What an array of bytes answers when it is asked for the ends from the lower to below the upper
+/// bound.
+fn asks_for_between(array: &ArrayRef, alloc: Global, lower: u8, upper: u8) -> Option<(bool, bool)> {
+    let DType::Primitive(PType::U8, _) = array.dtype() else {
+        return None;
+    };
+    let lower = Scalar::primitive(PValue::U8(lower), Nullability::NonNullable);
+    let upper = Scalar::primitive(PValue::U8(upper), Nullability::NonNullable);
+    let options = BetweenOptions {
+        lower_strict: StrictComparison::NonStrict,
+        upper_strict: StrictComparison::Strict,
+    };
+    match ask(alloc, array, &Query::Between(lower, upper, options)) {
+        Ok(Answer::Bools(tests)) => ends(&tests),
+        _ => None,
+    }
+}
+
 /// Whether the first end alone is below 30, asked in both ways.
 fn first_is_below(array: &ArrayRef, alloc: Global) -> bool {
     compares(array, alloc) == Some((true, false))
         && asks_for_below(array, alloc) == Some((true, false))
 }
 
-/// Whether the first end alone lies from 10 to below 30, and none from 30 to below 10.
+/// Whether the first end alone lies from 10 to below 30, asked in both ways, and none from 30 to
+/// below 10.
 fn first_lies_between(array: &ArrayRef, alloc: Global) -> bool {
     lies_between(array, alloc, 10, 30) == Some((true, false))
         && lies_between(array, alloc, 30, 10) == Some((false, false))
+        && asks_for_between(array, alloc, 10, 30) == Some((true, false))
 }
 
 fn tests_ends(array: Built, alloc: Global) -> bool {

@@ -1,6 +1,7 @@
 //! Arrays of truth values, on which most operations and questions are refused.
 
 use crate::items::{Built, truth_at};
+use crate::questions::{answers_yes, reads};
 use std::alloc::Global;
 use vortex_fastlanes::array::*;
 use vortex_fastlanes::*;
@@ -122,6 +123,66 @@ fn refuses_to_answer(array: Built, alloc: Global) -> bool {
 }
 
 #[test]
-fn refuses_questions(rt: HostRuntime) {
+fn refuses_comparisons_and_orders(rt: HostRuntime) {
     assert!(rt; refuses_to_answer(truths(rt.alloc()), rt.alloc()));
+}
+
+/// What a list of operations makes of the truth values.
+fn run(alloc: Global, ops: &[Op]) -> Built {
+    let array = truths(alloc)?;
+    apply_all(alloc, &array, ops)
+}
+
+/// Why the first two, filtered by a mask of so many, are refused.
+fn filter_of_two_refused(alloc: Global, mask: usize) -> Option<FastLanesError> {
+    run(alloc, &[Op::Slice(0..2), Op::Filter(Mask::AllTrue(mask))]).err()
+}
+
+#[test]
+fn runs_slices_of_truth_values(rt: HostRuntime) {
+    let alloc = rt.alloc();
+    let slices = [Op::Slice(0..2), Op::Slice(1..2)];
+    assert!(rt; truth_of(run(alloc, &slices), alloc, 0) == Some(false));
+    assert!(rt; truth_of(run(alloc, &[]), alloc, 2) == Some(true));
+    assert!(rt; filter_of_two_refused(alloc, 3) == Some(FastLanesError::MaskLength));
+    assert!(rt; filter_of_two_refused(alloc, 2) == REFUSED);
+}
+
+/// The truth value that an array answers at an index.
+fn asks_for_truth(array: &ArrayRef, alloc: Global, i: usize) -> Option<bool> {
+    match ask(alloc, array, &Query::ScalarAt(i)) {
+        Ok(Answer::Scalar(item)) => item.as_bool(),
+        _ => None,
+    }
+}
+
+fn comparison_refused(array: &ArrayRef, alloc: Global) -> Option<FastLanesError> {
+    let DType::Bool(_) = array.dtype() else {
+        return None;
+    };
+    let one = Scalar::primitive(PValue::U8(1), Nullability::NonNullable);
+    ask(alloc, array, &Query::Compare(CompareOperator::Eq, one)).err()
+}
+
+/// Whether it refuses to be asked for its order and for a comparison.
+fn refuses_questions(array: &ArrayRef, alloc: Global) -> bool {
+    answers_yes(alloc, array, &Query::IsConstant).err() == REFUSED
+        && answers_yes(alloc, array, &Query::IsSorted(true)).err() == REFUSED
+        && comparison_refused(array, alloc) == REFUSED
+}
+
+fn asks(array: Built, alloc: Global) -> bool {
+    match array {
+        Ok(array) => {
+            asks_for_truth(&array, alloc, 1) == Some(false)
+                && reads(alloc, &array, 3).err() == Some(FastLanesError::IndexOutOfBounds)
+                && refuses_questions(&array, alloc)
+        }
+        Err(_) => false,
+    }
+}
+
+#[test]
+fn is_asked_of_truth_values(rt: HostRuntime) {
+    assert!(rt; asks(truths(rt.alloc()), rt.alloc()));
 }
