@@ -52,7 +52,11 @@ fn show(o: &Options, key: &str, head: &str, bytes: f64, cases: &[Case], limit: f
         let gb = bytes / c.best / 1e9;
         if c.name.starts_with("fl") {
             let parts: Vec<&str> = key.split(';').collect();
-            o.sums.borrow_mut().push(Sum { kernel: format!("{} | u{}", parts[0], parts[1]), width: parts[3].to_string(), to_rust: first / c.best, to_memcpy: limit / c.best });
+            let sum = |kernel: String, rust: f64| Sum { kernel, width: parts[3].to_string(), to_rust: rust / c.best, to_memcpy: limit / c.best };
+            o.sums.borrow_mut().push(sum(format!("{} | u{}", parts[0], parts[1]), first));
+            if let Some(lanes) = cases.iter().find(|it| it.name == "rust_lanes") {
+                o.sums.borrow_mut().push(sum(format!("{}, to Rust in lanes | u{}", parts[0], parts[1]), lanes.best));
+            }
         }
         if o.csv { println!("{head};{};{:.2};{:.3};{:.3}", c.name, gb, limit / c.best, first / c.best); }
         if c.name == "memcpy" { row += &format!("| {gb:.1} ") } else if c.name == "rust" { row += &format!("| {gb:.1} ({:.2}) ", limit / c.best) }
@@ -102,8 +106,9 @@ macro_rules! bench_type {
                     }
                 }};
             }
-            // one buffer for each case, so that none writes what another just wrote
-            let dst = || vec![0 as W; n];
+            // one buffer for each case, so that none writes what another just wrote; full of ones, so that a
+            // kernel that writes nothing is seen
+            let dst = || vec![1 as W; n];
             for &w in &picked {
                 let size = w * LANES;
                 let mut packed = vec![0 as W; size * blocks];
@@ -164,7 +169,7 @@ macro_rules! bench_type {
                     }
                     all
                 });
-                // Compare: bits in item order. 'rust' is the better-known way (unpack, compare, bits); 'rust_lanes' stays in lanes and turns the bits at the end.
+                // Compare: bits in item order. 'rust' unpacks, compares and gathers the bits; 'rust_lanes' compares in lanes and turns the bits at the end.
                 let rhs: W = if w == 0 { 1 } else { (1 as W) << (w - 1) };
                 row!("compare", w, bytes, {
                     let mut d0 = dst();
@@ -183,7 +188,7 @@ macro_rules! bench_type {
                             } }),
                     ];
                     for &(name, f) in port::$t::COMPARE_LT_ALL {
-                        let mut d = vec![0u64; 16 * blocks];
+                        let mut d = vec![1u64; 16 * blocks];
                         let mut want = vec![0u64; 16 * blocks];
                         for b in 0..blocks { $m::unpack_then_lt_w(w, &packed[size * b..size * (b + 1)], rhs, (&mut want[16 * b..16 * b + 16]).try_into().unwrap()); }
                         unsafe { f(w, packed.as_ptr(), packed.len(), rhs, d.as_mut_ptr(), d.len()) };
@@ -201,7 +206,7 @@ macro_rules! bench_type {
                             for b in 0..blocks { $m::unpack_lt_w(w, &p[size * b..size * (b + 1)], rhs, (&mut d[LANES * b..LANES * b + LANES]).try_into().unwrap()); } }),
                     ];
                     for &(name, f) in port::$t::UNPACK_CMP_LT_ALL {
-                        let mut d = vec![0u64; 16 * blocks];
+                        let mut d = vec![1u64; 16 * blocks];
                         unsafe { f(w, packed.as_ptr(), packed.len(), rhs, d.as_mut_ptr(), d.len()) };
                         let mut acc = [0 as W; LANES];
                         $m::unpack_lt_w(w, &packed[..size], rhs, &mut acc);
