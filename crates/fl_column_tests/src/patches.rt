@@ -501,3 +501,24 @@ fn a_longer_take_has_wider_indices(rt: HostRuntime) -> Result<(), Fail> {
     takes_grow(&rt, rt.alloc(), &two_of_ten(rt.alloc())?);
     Ok(())
 }
+
+/// The type of two places as indices, where so many are to be named.
+fn index_type(alloc: Global, holds: usize) -> Option<PType> {
+    let places = Vec::from_slice(alloc, &[0u64, 5]).ok()?;
+    if holds < 6 {
+        return None;
+    }
+    match index_array(alloc, places, holds) {
+        Ok(indices) => Some(indices.ptype()),
+        Err(_) => None,
+    }
+}
+
+#[test]
+fn indices_are_of_the_smallest_type(rt: HostRuntime) {
+    let alloc = rt.alloc();
+    assert!(rt; index_type(alloc, 255) == Some(PType::U8));
+    assert!(rt; index_type(alloc, 65535) == Some(PType::U16));
+    assert!(rt; index_type(alloc, 65536) == Some(PType::U32));
+    assert!(rt; index_type(alloc, 1 << 32) == Some(PType::U64));
+}
