@@ -55,8 +55,7 @@ across_chunks = refl
 abbrev bytes_in_turn : List (Option ℤ)
 bytes_in_turn = table (λ i. Some (pos (i % 256))) 1024
 
--- no delta in the 128 places of row 0, and 1 in the others
-deltas_in_turn : map (delta_of U8 (filled Carry bytes_in_turn) 0) (0 ∷ 1 ∷ 127 ∷ 128 ∷ 129 ∷ 511 ∷ 512 ∷ 1023 ∷ []) ≡ replicate 3 (pos 0) ++ replicate 5 (pos 1)
+deltas_in_turn : delta_deltas U8 bytes_in_turn ≡ replicate 128 (pos 0) ++ replicate 896 (pos 1)
 unfolding delta_of segment row_of
 deltas_in_turn = refl
 

@@ -1,4 +1,4 @@
-use Rattle.std.proofs.Common.{◌+◌, ◌*◌, ◌≤◌, ◌∙◌, length, arith, rules, refl, ap, sym}
+use Rattle.std.proofs.Common.{◌+◌, ◌*◌, ◌≤◌, ◌∙◌, length, arith, ap, sym}
 use Rattle.fl_packed.proofs.Natives.{few_words, packed_by_items}
 use Rattle.fl_packed.proofs.WordLaws.{block_added, front_words, words_kept, words_more}
 use Rattle.fl_packed.proofs.word_packing.push_block.Goals as goal
@@ -7,17 +7,6 @@ pub slice_bounds-words-end : goal.slice_bounds-words-end
 slice_bounds-words-end g c =
     let few : c.args.width * c.LANES-lanes.result ≤ 1024 = rw c.LANES-lanes.ensures (few_words g.T.Physical.FastLanes.T g.T.Physical.FastLanes.LANES c.args.width g.met.T.Physical.FastLanes.shape c.requires.width) in
     let words = c.requires.words in
-    omega arith
-
-pub pack-requires : goal.pack-requires
-pack-requires g c =
-    let block = front_words g.T.Physical.FastLanes.T g.T.Physical.FastLanes.LANES c.args.width c.LANES-lanes.result c.args.words.now _ g.met.T.Physical.FastLanes.shape c.requires.width c.LANES-lanes.ensures c.requires.words refl in
-    (search rules, (c.requires.width, block))
-
-pub push_words-requires : goal.push_words-requires
-push_words-requires g c =
-    let block = front_words g.T.Physical.FastLanes.T g.T.Physical.FastLanes.LANES c.args.width c.LANES-lanes.result c.args.words.now c.pack.new.packed g.met.T.Physical.FastLanes.shape c.requires.width c.LANES-lanes.ensures c.requires.words c.pack.auto.packed in
-    let room = c.requires.room in
     omega arith
 
 pub returns-clause-long : goal.returns-clause-long

@@ -20,6 +20,3 @@ returns g c =
         items = read ∙ moved;
       },
     )
-
-pub unpack_block-requires : goal.unpack_block-requires
-unpack_block-requires g c = (search rules, (rw g.met.T.BitPacked.bits_law at c.self.invariant.narrow, c.block_at-block.ensures.long))
