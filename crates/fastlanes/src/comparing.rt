@@ -61,6 +61,33 @@ fn compare_row<W: FastLanes, F: Fn(W, W) -> bool>(
     W::or(held, compare_lanes(row, cmp, rhs, r))
 }
 
+/// Adds the answers for the four rows from `r` on of the lanes of group `g` to those for the rows below.
+#[inline(always)]
+fn compare_4<W: FastLanes, F: Fn(W, W) -> bool>(
+    width: usize,
+    words: &[W],
+    cmp: &F,
+    rhs: W,
+    r: usize,
+    g: usize,
+    held: W::Vector,
+) -> W::Vector
+    requires width { width ≤ W.T }
+    requires block { length words.now ≡ width * W.LANES }
+    requires row { r + 4 ≤ W.T }
+    requires group { 16 * g + 16 ≤ W.LANES }
+    requires callable { F.IsAlwaysCallable cmp.now }
+    requires whole { W.whole held }
+    requires held { Answers W.pattern (F.post cmp.now) rhs (item_of W.T W.LANES width (pattern_at W.pattern words.now)) g r (W.lane held) }
+    ensures whole { W.whole result }
+    ensures held { Answers W.pattern (F.post cmp.now) rhs (item_of W.T W.LANES width (pattern_at W.pattern words.now)) g (r + 4) (W.lane result) }
+{
+    let held = compare_row(width, words, cmp, rhs, r, g, held);
+    let held = compare_row(width, words, cmp, rhs, r + 1, g, held);
+    let held = compare_row(width, words, cmp, rhs, r + 2, g, held);
+    compare_row(width, words, cmp, rhs, r + 3, g, held)
+}
+
 /// Adds the answers for the eight rows from `r` on of the lanes of group `g` to those for the rows below.
 #[inline(always)]
 fn compare_8<W: FastLanes, F: Fn(W, W) -> bool>(
@@ -82,14 +109,8 @@ fn compare_8<W: FastLanes, F: Fn(W, W) -> bool>(
     ensures whole { W.whole result }
     ensures held { Answers W.pattern (F.post cmp.now) rhs (item_of W.T W.LANES width (pattern_at W.pattern words.now)) g (r + 8) (W.lane result) }
 {
-    let held = compare_row(width, words, cmp, rhs, r, g, held);
-    let held = compare_row(width, words, cmp, rhs, r + 1, g, held);
-    let held = compare_row(width, words, cmp, rhs, r + 2, g, held);
-    let held = compare_row(width, words, cmp, rhs, r + 3, g, held);
-    let held = compare_row(width, words, cmp, rhs, r + 4, g, held);
-    let held = compare_row(width, words, cmp, rhs, r + 5, g, held);
-    let held = compare_row(width, words, cmp, rhs, r + 6, g, held);
-    compare_row(width, words, cmp, rhs, r + 7, g, held)
+    let held = compare_4(width, words, cmp, rhs, r, g, held);
+    compare_4(width, words, cmp, rhs, r + 4, g, held)
 }
 
 /// The answers for the 16 rows of the lanes of group `g`.

@@ -46,6 +46,33 @@ fn pack_row<W: FastLanes, S: Storage<W>>(
     }
 }
 
+/// Puts the items at the four rows from `r` on into the words that are being made.
+#[inline(always)]
+fn pack_4<W: FastLanes, S: Storage<W>>(
+    width: usize,
+    items: &[W; FL_CHUNK_SIZE],
+    r: usize,
+    g: usize,
+    begun: W::Vector,
+    packed: &mut [S::Unit],
+) -> W::Vector
+    requires some { 0 < width }
+    requires width { width ≤ W.T }
+    requires block { S.count (length packed.old) ≡ width * W.LANES }
+    requires row { r + 4 ≤ W.T }
+    requires group { 16 * g + 16 ≤ W.LANES }
+    requires whole { W.whole begun }
+    requires begun { (j : ℕ) → j < 16 → W.lane begun j ≡ held W.T width (pattern_at W.pattern items.now) (r * width) (16 * g + j) }
+    ensures whole { W.whole result }
+    ensures begun { (j : ℕ) → j < 16 → W.lane result j ≡ held W.T width (pattern_at W.pattern items.now) ((r + 4) * width) (16 * g + j) }
+    ensures words { Filled width W.LANES (word_place W.LANES) (word_of W.T width (pattern_at W.pattern items.now)) g (r * width / W.T) ((r + 4) * width / W.T) (S.word packed.old) (S.word packed.new) }
+{
+    let begun = pack_row::<W, S>(width, items, r, g, begun, packed);
+    let begun = pack_row::<W, S>(width, items, r + 1, g, begun, packed);
+    let begun = pack_row::<W, S>(width, items, r + 2, g, begun, packed);
+    pack_row::<W, S>(width, items, r + 3, g, begun, packed)
+}
+
 /// Puts the items at the eight rows from `r` on into the words that are being made.
 #[inline(always)]
 fn pack_8<W: FastLanes, S: Storage<W>>(
@@ -67,14 +94,8 @@ fn pack_8<W: FastLanes, S: Storage<W>>(
     ensures begun { (j : ℕ) → j < 16 → W.lane result j ≡ held W.T width (pattern_at W.pattern items.now) ((r + 8) * width) (16 * g + j) }
     ensures words { Filled width W.LANES (word_place W.LANES) (word_of W.T width (pattern_at W.pattern items.now)) g (r * width / W.T) ((r + 8) * width / W.T) (S.word packed.old) (S.word packed.new) }
 {
-    let begun = pack_row::<W, S>(width, items, r, g, begun, packed);
-    let begun = pack_row::<W, S>(width, items, r + 1, g, begun, packed);
-    let begun = pack_row::<W, S>(width, items, r + 2, g, begun, packed);
-    let begun = pack_row::<W, S>(width, items, r + 3, g, begun, packed);
-    let begun = pack_row::<W, S>(width, items, r + 4, g, begun, packed);
-    let begun = pack_row::<W, S>(width, items, r + 5, g, begun, packed);
-    let begun = pack_row::<W, S>(width, items, r + 6, g, begun, packed);
-    pack_row::<W, S>(width, items, r + 7, g, begun, packed)
+    let begun = pack_4::<W, S>(width, items, r, g, begun, packed);
+    pack_4::<W, S>(width, items, r + 4, g, begun, packed)
 }
 
 /// Puts the items at the 16 rows into the words that are being made.

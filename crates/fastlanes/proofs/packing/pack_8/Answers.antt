@@ -6,12 +6,6 @@ use Rattle.fastlanes.proofs.packing.pack_8.Goals as goal
 
 pub returns-clause-words : goal.returns-clause-words
 returns-clause-words g c =
-    let last : c.args.r + 8 ≡ c.args.r + 7 + 1 = omega arith in
-    rw last (words_more g.W.FastLanes.T g.W.FastLanes.LANES c.args.width (word_of g.W.FastLanes.T c.args.width (pattern_at g.W.FastLanes.pattern c.args.items.now)) c.args.g c.args.r (c.args.r + 6 + 1) (c.args.r + 7) (c.args.r + 7 + 1) _ _ _ g.met.W.FastLanes.shape c.requires.group (omega arith) (omega arith) (omega arith) (omega arith)
-    (words_more g.W.FastLanes.T g.W.FastLanes.LANES c.args.width (word_of g.W.FastLanes.T c.args.width (pattern_at g.W.FastLanes.pattern c.args.items.now)) c.args.g c.args.r (c.args.r + 5 + 1) (c.args.r + 6) (c.args.r + 6 + 1) _ _ _ g.met.W.FastLanes.shape c.requires.group (omega arith) (omega arith) (omega arith) (omega arith)
-    (words_more g.W.FastLanes.T g.W.FastLanes.LANES c.args.width (word_of g.W.FastLanes.T c.args.width (pattern_at g.W.FastLanes.pattern c.args.items.now)) c.args.g c.args.r (c.args.r + 4 + 1) (c.args.r + 5) (c.args.r + 5 + 1) _ _ _ g.met.W.FastLanes.shape c.requires.group (omega arith) (omega arith) (omega arith) (omega arith)
-    (words_more g.W.FastLanes.T g.W.FastLanes.LANES c.args.width (word_of g.W.FastLanes.T c.args.width (pattern_at g.W.FastLanes.pattern c.args.items.now)) c.args.g c.args.r (c.args.r + 3 + 1) (c.args.r + 4) (c.args.r + 4 + 1) _ _ _ g.met.W.FastLanes.shape c.requires.group (omega arith) (omega arith) (omega arith) (omega arith)
-    (words_more g.W.FastLanes.T g.W.FastLanes.LANES c.args.width (word_of g.W.FastLanes.T c.args.width (pattern_at g.W.FastLanes.pattern c.args.items.now)) c.args.g c.args.r (c.args.r + 2 + 1) (c.args.r + 3) (c.args.r + 3 + 1) _ _ _ g.met.W.FastLanes.shape c.requires.group (omega arith) (omega arith) (omega arith) (omega arith)
-    (words_more g.W.FastLanes.T g.W.FastLanes.LANES c.args.width (word_of g.W.FastLanes.T c.args.width (pattern_at g.W.FastLanes.pattern c.args.items.now)) c.args.g c.args.r (c.args.r + 1 + 1) (c.args.r + 2) (c.args.r + 2 + 1) _ _ _ g.met.W.FastLanes.shape c.requires.group (omega arith) (omega arith) (omega arith) (omega arith)
-    (words_more g.W.FastLanes.T g.W.FastLanes.LANES c.args.width (word_of g.W.FastLanes.T c.args.width (pattern_at g.W.FastLanes.pattern c.args.items.now)) c.args.g c.args.r (c.args.r + 1) (c.args.r + 1) (c.args.r + 1 + 1) _ _ _ g.met.W.FastLanes.shape c.requires.group (omega arith) (omega arith) (omega arith) (omega arith)
-    c.pack_row-begun.ensures.words c.pack_row-begun-2.ensures.words) c.pack_row-begun-3.ensures.words) c.pack_row-begun-4.ensures.words) c.pack_row-begun-5.ensures.words) c.pack_row-begun-6.ensures.words) c.pack_row-begun-7.ensures.words) c.pack_row.ensures.words)
+    let last : c.args.r + 8 ≡ c.args.r + 4 + 4 = omega arith in
+    rw last (words_more g.W.FastLanes.T g.W.FastLanes.LANES c.args.width (word_of g.W.FastLanes.T c.args.width (pattern_at g.W.FastLanes.pattern c.args.items.now)) c.args.g c.args.r (c.args.r + 4) (c.args.r + 4) (c.args.r + 4 + 4) _ _ _ g.met.W.FastLanes.shape c.requires.group (omega arith) (omega arith) (omega arith) (omega arith)
+    c.pack_4-begun.ensures.words c.pack_4.ensures.words)
