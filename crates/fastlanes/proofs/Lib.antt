@@ -24,3 +24,4 @@ pub mod Changes
 pub mod SingleItems
 pub mod Separated
 pub mod Turns
+pub mod LowBits

@@ -1,7 +1,7 @@
 //! Where a row's bits stand, and one kernel for each width.
 #![tactic(auto)]
 
-ghost use Rattle.std.specs.Prelude.{◌≡◌, ◌+◌, ◌*◌, ◌/◌, ◌%◌, ◌<◌, ◌≤◌};
+ghost use Rattle.std.specs.Prelude.{◌≡◌, ◌+◌, ◌-◌, ◌*◌, ◌/◌, ◌%◌, ◌^◌, ◌<◌, ◌≤◌};
 
 use crate::words::FastLanes;
 
@@ -36,6 +36,86 @@ pub(crate) fn begin<W: FastLanes>(width: usize, r: usize) -> (usize, usize)
     let at = r * width;
     let t = bits::<W>();
     (at / t, at % t)
+}
+
+/// The numbers whose low bits are set, and no others: none of their bits, one, and so on up to 64.
+static LOW_BITS: [u64; 65] = [
+    0x0,
+    0x1,
+    0x3,
+    0x7,
+    0xf,
+    0x1f,
+    0x3f,
+    0x7f,
+    0xff,
+    0x1ff,
+    0x3ff,
+    0x7ff,
+    0xfff,
+    0x1fff,
+    0x3fff,
+    0x7fff,
+    0xffff,
+    0x1ffff,
+    0x3ffff,
+    0x7ffff,
+    0xfffff,
+    0x1fffff,
+    0x3fffff,
+    0x7fffff,
+    0xffffff,
+    0x1ffffff,
+    0x3ffffff,
+    0x7ffffff,
+    0xfffffff,
+    0x1fffffff,
+    0x3fffffff,
+    0x7fffffff,
+    0xffffffff,
+    0x1ffffffff,
+    0x3ffffffff,
+    0x7ffffffff,
+    0xfffffffff,
+    0x1fffffffff,
+    0x3fffffffff,
+    0x7fffffffff,
+    0xffffffffff,
+    0x1ffffffffff,
+    0x3ffffffffff,
+    0x7ffffffffff,
+    0xfffffffffff,
+    0x1fffffffffff,
+    0x3fffffffffff,
+    0x7fffffffffff,
+    0xffffffffffff,
+    0x1ffffffffffff,
+    0x3ffffffffffff,
+    0x7ffffffffffff,
+    0xfffffffffffff,
+    0x1fffffffffffff,
+    0x3fffffffffffff,
+    0x7fffffffffffff,
+    0xffffffffffffff,
+    0x1ffffffffffffff,
+    0x3ffffffffffffff,
+    0x7ffffffffffffff,
+    0xfffffffffffffff,
+    0x1fffffffffffffff,
+    0x3fffffffffffffff,
+    0x7fffffffffffffff,
+    0xffffffffffffffff,
+];
+
+/// A number whose low `width` bits are set, and no others.
+///
+/// A table, as a load takes less than a shift by a variable.
+#[inline(always)]
+pub(crate) fn low_bits(width: usize) -> u64
+    requires { width ≤ 64 }
+    ensures { result ≡ 2 ^ width - 1 }
+{
+    LOW_BITS[width]
 }
 
 /// Where the words of group `g` stand, word `k` of each of its lanes.

@@ -5,6 +5,7 @@ ghost use Rattle.std.specs.Mem.{type_size};
 ghost use Rattle.std.proofs.Common.{lit≤};
 ghost use Rattle.fastlanes.specs.Layout.{word_at, pattern_at, bit_value, IsWordWidth, bits_8, bits_16, bits_32, bits_64};
 
+use crate::widths::low_bits;
 use std::simd::{u8x16, u16x16, u32x16, u64x16};
 
 /// An unsigned type whose values are the words of a packed block, with vectors of sixteen of them.
@@ -172,15 +173,6 @@ pub trait FastLanes: Copy {
 
     /// Words of one pattern are equal.
     ghost one_word: { (x y : Self) → pattern x ≡ pattern y → x ≡ y };
-}
-
-/// A number whose low `width` bits are set, and no others.
-#[inline(always)]
-fn low_bits(width: usize) -> u32
-    requires { width ≤ 16 }
-    ensures { result ≡ 2 ^ width - 1 }
-{
-    (1 << width) - 1
 }
 
 impl FastLanes for u8 {
@@ -499,15 +491,15 @@ impl FastLanes for u32 {
     }
 
     #[inline(always)]
-    #[tactic(auto, using(crate::proofs::Shifts::mask_is))]
+    #[tactic(auto, using(crate::proofs::Shifts::mask_below))]
     fn bits_from(self, shift: usize, width: usize) -> Self {
-        self >> shift & u32::MAX >> (32 - width)
+        self >> shift & low_bits(width) as u32
     }
 
     #[inline(always)]
-    #[tactic(auto, using(crate::proofs::Shifts::mask_is))]
+    #[tactic(auto, using(crate::proofs::Shifts::mask_below))]
     fn bits_across(self, next: Self, shift: usize, width: usize) -> Self {
-        (self >> shift | next << (32 - shift)) & u32::MAX >> (32 - width)
+        (self >> shift | next << (32 - shift)) & low_bits(width) as u32
     }
 
     fn same(self, other: Self) -> bool {
@@ -646,15 +638,13 @@ impl FastLanes for u64 {
     }
 
     #[inline(always)]
-    #[tactic(auto, using(crate::proofs::Shifts::mask_is))]
     fn bits_from(self, shift: usize, width: usize) -> Self {
-        self >> shift & u64::MAX >> (64 - width)
+        self >> shift & low_bits(width)
     }
 
     #[inline(always)]
-    #[tactic(auto, using(crate::proofs::Shifts::mask_is))]
     fn bits_across(self, next: Self, shift: usize, width: usize) -> Self {
-        (self >> shift | next << (64 - shift)) & u64::MAX >> (64 - width)
+        (self >> shift | next << (64 - shift)) & low_bits(width)
     }
 
     fn same(self, other: Self) -> bool {
