@@ -27,6 +27,13 @@ held T width item s l = packed_bits T width item (s / T) l (s % T)
 unfoldable pub sum_of : ℕ → ℕ → ℕ → (ℕ → ℕ) → (ℕ → ℕ) → ℕ → ℕ → ℕ
 sum_of T lanes width word more r l = (item_of T lanes width word r l + more (l % 16)) % 2 ^ T
 
--- a reference that is not added is 0 in each lane
-pub record IsReference (framed : Bool) (lane : ℕ → ℕ) : Type 0 where
+-- so many words are a block at this width, and group g is one of its groups of sixteen lanes
+pub record IsGroup (T lanes width count g : ℕ) : Type 0 where
+  pub fits : width ≤ T
+  pub block : count ≡ width * lanes
+  pub inside : 16 * g + 16 ≤ lanes
+
+-- the reference has its lanes, and one that is not added is 0 in each of them
+pub record IsReference (framed : Bool) (IsWhole : Type 0) (lane : ℕ → ℕ) : Type 0 where
+  pub whole : IsWhole
   pub plain : framed ≡ false → (j : ℕ) → j < 16 → lane j ≡ 0

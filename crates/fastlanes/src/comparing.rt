@@ -3,7 +3,7 @@
 
 ghost use Rattle.std.specs.Prelude.{◌≡◌, ℕ, ◌+◌, ◌-◌, ◌*◌, ◌/◌, ◌%◌, ◌^◌, ◌<◌, ◌≤◌, min, length, slice_index};
 ghost use Rattle.fastlanes.specs.Layout.{place, pattern_at, word_at, bit_value};
-ghost use Rattle.fastlanes.specs.Filled.{item_of};
+ghost use Rattle.fastlanes.specs.Filled.{IsGroup, item_of};
 ghost use Rattle.fastlanes.specs.Compared.{is_set, has_bit, IsAnswer, Answers};
 
 use crate::counts::Work;
@@ -47,10 +47,8 @@ fn compare_row<W: FastLanes, F: Fn(W, W) -> bool>(
     g: usize,
     held: W::Vector,
 ) -> W::Vector
-    requires width { width ≤ W.T }
-    requires block { length words.now ≡ width * W.LANES }
     requires row { r < W.T }
-    requires group { 16 * g + 16 ≤ W.LANES }
+    requires group { IsGroup W.T W.LANES width (length words.now) g }
     requires callable { F.IsAlwaysCallable cmp.now }
     requires whole { W.whole held }
     requires held { Answers W.pattern (F.post cmp.now) rhs (item_of W.T W.LANES width (pattern_at W.pattern words.now)) g r (W.lane held) }
@@ -72,10 +70,8 @@ fn compare_4<W: FastLanes, F: Fn(W, W) -> bool>(
     g: usize,
     held: W::Vector,
 ) -> W::Vector
-    requires width { width ≤ W.T }
-    requires block { length words.now ≡ width * W.LANES }
     requires row { r + 4 ≤ W.T }
-    requires group { 16 * g + 16 ≤ W.LANES }
+    requires group { IsGroup W.T W.LANES width (length words.now) g }
     requires callable { F.IsAlwaysCallable cmp.now }
     requires whole { W.whole held }
     requires held { Answers W.pattern (F.post cmp.now) rhs (item_of W.T W.LANES width (pattern_at W.pattern words.now)) g r (W.lane held) }
@@ -99,10 +95,8 @@ fn compare_8<W: FastLanes, F: Fn(W, W) -> bool>(
     g: usize,
     held: W::Vector,
 ) -> W::Vector
-    requires width { width ≤ W.T }
-    requires block { length words.now ≡ width * W.LANES }
     requires row { r + 8 ≤ W.T }
-    requires group { 16 * g + 16 ≤ W.LANES }
+    requires group { IsGroup W.T W.LANES width (length words.now) g }
     requires callable { F.IsAlwaysCallable cmp.now }
     requires whole { W.whole held }
     requires held { Answers W.pattern (F.post cmp.now) rhs (item_of W.T W.LANES width (pattern_at W.pattern words.now)) g r (W.lane held) }
@@ -122,10 +116,8 @@ fn compare_16<W: FastLanes, F: Fn(W, W) -> bool, const FIRST: usize, const MORE:
     g: usize,
     held: W::Vector,
 ) -> W::Vector
-    requires width { width ≤ W.T }
-    requires block { length words.now ≡ width * W.LANES }
     requires row { 16 ≤ W.T }
-    requires group { 16 * g + 16 ≤ W.LANES }
+    requires group { IsGroup W.T W.LANES width (length words.now) g }
     requires callable { F.IsAlwaysCallable cmp.now }
     requires whole { W.whole held }
     requires held { Answers W.pattern (F.post cmp.now) rhs (item_of W.T W.LANES width (pattern_at W.pattern words.now)) g 0 (W.lane held) }
@@ -145,10 +137,8 @@ fn compare_32<W: FastLanes, F: Fn(W, W) -> bool, const FIRST: usize, const MORE:
     g: usize,
     held: W::Vector,
 ) -> W::Vector
-    requires width { width ≤ W.T }
-    requires block { length words.now ≡ width * W.LANES }
     requires row { 32 ≤ W.T }
-    requires group { 16 * g + 16 ≤ W.LANES }
+    requires group { IsGroup W.T W.LANES width (length words.now) g }
     requires callable { F.IsAlwaysCallable cmp.now }
     requires whole { W.whole held }
     requires held { Answers W.pattern (F.post cmp.now) rhs (item_of W.T W.LANES width (pattern_at W.pattern words.now)) g 0 (W.lane held) }
@@ -170,10 +160,8 @@ fn compare_64<W: FastLanes, F: Fn(W, W) -> bool, const FIRST: usize, const MORE:
     g: usize,
     held: W::Vector,
 ) -> W::Vector
-    requires width { width ≤ W.T }
-    requires block { length words.now ≡ width * W.LANES }
     requires row { 64 ≤ W.T }
-    requires group { 16 * g + 16 ≤ W.LANES }
+    requires group { IsGroup W.T W.LANES width (length words.now) g }
     requires callable { F.IsAlwaysCallable cmp.now }
     requires whole { W.whole held }
     requires held { Answers W.pattern (F.post cmp.now) rhs (item_of W.T W.LANES width (pattern_at W.pattern words.now)) g 0 (W.lane held) }
@@ -209,9 +197,7 @@ fn compare_group<W: FastLanes, F: Fn(W, W) -> bool, const FIRST: usize, const MO
     rhs: W,
     g: usize,
 ) -> W::Vector
-    requires width { width ≤ W.T }
-    requires block { length words.now ≡ width * W.LANES }
-    requires group { 16 * g + 16 ≤ W.LANES }
+    requires group { IsGroup W.T W.LANES width (length words.now) g }
     requires callable { F.IsAlwaysCallable cmp.now }
     ensures whole { W.whole result }
     ensures held { Answers W.pattern (F.post cmp.now) rhs (item_of W.T W.LANES width (pattern_at W.pattern words.now)) g W.T (W.lane result) }

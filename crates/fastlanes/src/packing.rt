@@ -3,7 +3,7 @@
 
 ghost use Rattle.std.specs.Prelude.{◌≡◌, ℕ, ◌+◌, ◌-◌, ◌*◌, ◌/◌, ◌%◌, ◌^◌, ◌<◌, ◌≤◌, length};
 ghost use Rattle.fastlanes.specs.Layout.{place, Packed, pattern_at, word_at};
-ghost use Rattle.fastlanes.specs.Filled.{Filled, word_of, word_place, held};
+ghost use Rattle.fastlanes.specs.Filled.{Filled, IsGroup, word_of, word_place, held};
 
 use crate::layout::{FL_CHUNK_SIZE, pos};
 use crate::storage::{AsBytes, AsWords, Storage};
@@ -21,10 +21,8 @@ fn pack_row<W: FastLanes, S: Storage<W>>(
     packed: &mut [S::Unit],
 ) -> W::Vector
     requires some { 0 < width }
-    requires width { width ≤ W.T }
-    requires block { S.count (length packed.old) ≡ width * W.LANES }
     requires row { r < W.T }
-    requires group { 16 * g + 16 ≤ W.LANES }
+    requires group { IsGroup W.T W.LANES width (S.count (length packed.old)) g }
     requires whole { W.whole begun }
     requires begun { (j : ℕ) → j < 16 → W.lane begun j ≡ held W.T width (pattern_at W.pattern items.now) (r * width) (16 * g + j) }
     ensures whole { W.whole result }
@@ -57,10 +55,8 @@ fn pack_4<W: FastLanes, S: Storage<W>>(
     packed: &mut [S::Unit],
 ) -> W::Vector
     requires some { 0 < width }
-    requires width { width ≤ W.T }
-    requires block { S.count (length packed.old) ≡ width * W.LANES }
     requires row { r + 4 ≤ W.T }
-    requires group { 16 * g + 16 ≤ W.LANES }
+    requires group { IsGroup W.T W.LANES width (S.count (length packed.old)) g }
     requires whole { W.whole begun }
     requires begun { (j : ℕ) → j < 16 → W.lane begun j ≡ held W.T width (pattern_at W.pattern items.now) (r * width) (16 * g + j) }
     ensures whole { W.whole result }
@@ -84,10 +80,8 @@ fn pack_8<W: FastLanes, S: Storage<W>>(
     packed: &mut [S::Unit],
 ) -> W::Vector
     requires some { 0 < width }
-    requires width { width ≤ W.T }
-    requires block { S.count (length packed.old) ≡ width * W.LANES }
     requires row { r + 8 ≤ W.T }
-    requires group { 16 * g + 16 ≤ W.LANES }
+    requires group { IsGroup W.T W.LANES width (S.count (length packed.old)) g }
     requires whole { W.whole begun }
     requires begun { (j : ℕ) → j < 16 → W.lane begun j ≡ held W.T width (pattern_at W.pattern items.now) (r * width) (16 * g + j) }
     ensures whole { W.whole result }
@@ -107,10 +101,8 @@ fn pack_16<W: FastLanes, S: Storage<W>, const FIRST: usize, const MORE: usize>(
     packed: &mut [S::Unit],
 ) -> W::Vector
     requires some { 0 < width }
-    requires width { width ≤ W.T }
-    requires block { S.count (length packed.old) ≡ width * W.LANES }
     requires row { 16 ≤ W.T }
-    requires group { 16 * g + 16 ≤ W.LANES }
+    requires group { IsGroup W.T W.LANES width (S.count (length packed.old)) g }
     requires whole { W.whole begun }
     requires begun { (j : ℕ) → j < 16 → W.lane begun j ≡ held W.T width (pattern_at W.pattern items.now) (0 * width) (16 * g + j) }
     ensures whole { W.whole result }
@@ -130,10 +122,8 @@ fn pack_32<W: FastLanes, S: Storage<W>, const FIRST: usize, const MORE: usize>(
     packed: &mut [S::Unit],
 ) -> W::Vector
     requires some { 0 < width }
-    requires width { width ≤ W.T }
-    requires block { S.count (length packed.old) ≡ width * W.LANES }
     requires row { 32 ≤ W.T }
-    requires group { 16 * g + 16 ≤ W.LANES }
+    requires group { IsGroup W.T W.LANES width (S.count (length packed.old)) g }
     requires whole { W.whole begun }
     requires begun { (j : ℕ) → j < 16 → W.lane begun j ≡ held W.T width (pattern_at W.pattern items.now) (0 * width) (16 * g + j) }
     ensures whole { W.whole result }
@@ -155,10 +145,8 @@ fn pack_64<W: FastLanes, S: Storage<W>, const FIRST: usize, const MORE: usize>(
     packed: &mut [S::Unit],
 ) -> W::Vector
     requires some { 0 < width }
-    requires width { width ≤ W.T }
-    requires block { S.count (length packed.old) ≡ width * W.LANES }
     requires row { 64 ≤ W.T }
-    requires group { 16 * g + 16 ≤ W.LANES }
+    requires group { IsGroup W.T W.LANES width (S.count (length packed.old)) g }
     requires whole { W.whole begun }
     requires begun { (j : ℕ) → j < 16 → W.lane begun j ≡ held W.T width (pattern_at W.pattern items.now) (0 * width) (16 * g + j) }
     ensures whole { W.whole result }
@@ -193,9 +181,7 @@ fn pack_group<W: FastLanes, S: Storage<W>, const FIRST: usize, const MORE: usize
     packed: &mut [S::Unit],
 )
     requires some { 0 < width }
-    requires width { width ≤ W.T }
-    requires block { S.count (length packed.old) ≡ width * W.LANES }
-    requires group { 16 * g + 16 ≤ W.LANES }
+    requires group { IsGroup W.T W.LANES width (S.count (length packed.old)) g }
     ensures words { Filled width W.LANES (word_place W.LANES) (word_of W.T width (pattern_at W.pattern items.now)) g 0 width (S.word packed.old) (S.word packed.new) }
 {
     let begun = nothing_begun(width, items, g);

@@ -3,7 +3,7 @@
 
 ghost use Rattle.std.specs.Prelude.{◌≡◌, ℕ, ◌+◌, ◌*◌, ◌/◌, ◌%◌, ◌^◌, ◌<◌, ◌≤◌, Bool, true, false, min, length};
 ghost use Rattle.fastlanes.specs.Layout.{place, pattern_at, unpacked_item, word_at};
-ghost use Rattle.fastlanes.specs.Filled.{Filled, IsReference, item_of, sum_of};
+ghost use Rattle.fastlanes.specs.Filled.{Filled, IsGroup, IsReference, item_of, sum_of};
 
 use crate::counts::Work;
 use crate::layout::{FL_CHUNK_SIZE, pos};
@@ -19,10 +19,8 @@ pub(crate) fn items_of_row<W: FastLanes, S: Storage<W>>(
     r: usize,
     g: usize,
 ) -> W::Vector
-    requires width { width ≤ W.T }
-    requires block { S.count (length words.now) ≡ width * W.LANES }
     requires row { r < W.T }
-    requires group { 16 * g + 16 ≤ W.LANES }
+    requires group { IsGroup W.T W.LANES width (S.count (length words.now)) g }
     ensures whole { W.whole result }
     ensures items { (j : ℕ) → j < 16 → W.lane result j ≡ item_of W.T W.LANES width (S.word words.now) r (16 * g + j) }
 {
@@ -44,8 +42,7 @@ pub(crate) fn items_of_row<W: FastLanes, S: Storage<W>>(
 #[inline(always)]
 fn framed<W: FastLanes, const FRAMED: bool>(row: W::Vector, reference: W::Vector) -> W::Vector
     requires row { W.whole row }
-    requires reference { W.whole reference }
-    requires frame { IsReference FRAMED (W.lane reference) }
+    requires reference { IsReference FRAMED (W.whole reference) (W.lane reference) }
     requires small { (j : ℕ) → j < 16 → W.lane row j < 2 ^ W.T }
     ensures whole { W.whole result }
     ensures lanes { (j : ℕ) → j < 16 → W.lane result j ≡ (W.lane row j + W.lane reference j) % 2 ^ W.T }
@@ -63,12 +60,9 @@ fn unpack_row<W: FastLanes, S: Storage<W>, const FRAMED: bool>(
     g: usize,
     items: &mut [W; FL_CHUNK_SIZE],
 )
-    requires width { width ≤ W.T }
-    requires block { S.count (length words.now) ≡ width * W.LANES }
-    requires reference { W.whole reference }
-    requires frame { IsReference FRAMED (W.lane reference) }
+    requires reference { IsReference FRAMED (W.whole reference) (W.lane reference) }
     requires row { r < W.T }
-    requires group { 16 * g + 16 ≤ W.LANES }
+    requires group { IsGroup W.T W.LANES width (S.count (length words.now)) g }
     ensures filled { Filled W.T W.LANES place (sum_of W.T W.LANES width (S.word words.now) (W.lane reference)) g r (r + 1) (pattern_at W.pattern items.old) (pattern_at W.pattern items.new) }
     ensures whole { length items.new ≡ 1024 }
 {
@@ -86,12 +80,9 @@ fn unpack_8<W: FastLanes, S: Storage<W>, const FRAMED: bool>(
     g: usize,
     items: &mut [W; FL_CHUNK_SIZE],
 )
-    requires width { width ≤ W.T }
-    requires block { S.count (length words.now) ≡ width * W.LANES }
-    requires reference { W.whole reference }
-    requires frame { IsReference FRAMED (W.lane reference) }
+    requires reference { IsReference FRAMED (W.whole reference) (W.lane reference) }
     requires row { r + 8 ≤ W.T }
-    requires group { 16 * g + 16 ≤ W.LANES }
+    requires group { IsGroup W.T W.LANES width (S.count (length words.now)) g }
     ensures filled { Filled W.T W.LANES place (sum_of W.T W.LANES width (S.word words.now) (W.lane reference)) g r (r + 8) (pattern_at W.pattern items.old) (pattern_at W.pattern items.new) }
     ensures whole { length items.new ≡ 1024 }
 {
@@ -113,12 +104,9 @@ fn unpack_16<
     const FIRST: usize,
     const MORE: usize,
 >(width: usize, words: &[S::Unit], reference: W::Vector, g: usize, items: &mut [W; FL_CHUNK_SIZE])
-    requires width { width ≤ W.T }
-    requires block { S.count (length words.now) ≡ width * W.LANES }
-    requires reference { W.whole reference }
-    requires frame { IsReference FRAMED (W.lane reference) }
+    requires reference { IsReference FRAMED (W.whole reference) (W.lane reference) }
     requires row { 16 ≤ W.T }
-    requires group { 16 * g + 16 ≤ W.LANES }
+    requires group { IsGroup W.T W.LANES width (S.count (length words.now)) g }
     ensures filled { Filled W.T W.LANES place (sum_of W.T W.LANES width (S.word words.now) (W.lane reference)) g 0 16 (pattern_at W.pattern items.old) (pattern_at W.pattern items.new) }
     ensures whole { length items.new ≡ 1024 }
 {
@@ -134,12 +122,9 @@ fn unpack_32<
     const FIRST: usize,
     const MORE: usize,
 >(width: usize, words: &[S::Unit], reference: W::Vector, g: usize, items: &mut [W; FL_CHUNK_SIZE])
-    requires width { width ≤ W.T }
-    requires block { S.count (length words.now) ≡ width * W.LANES }
-    requires reference { W.whole reference }
-    requires frame { IsReference FRAMED (W.lane reference) }
+    requires reference { IsReference FRAMED (W.whole reference) (W.lane reference) }
     requires row { 32 ≤ W.T }
-    requires group { 16 * g + 16 ≤ W.LANES }
+    requires group { IsGroup W.T W.LANES width (S.count (length words.now)) g }
     ensures filled { Filled W.T W.LANES place (sum_of W.T W.LANES width (S.word words.now) (W.lane reference)) g 0 32 (pattern_at W.pattern items.old) (pattern_at W.pattern items.new) }
     ensures whole { length items.new ≡ 1024 }
 {
@@ -157,12 +142,9 @@ fn unpack_64<
     const FIRST: usize,
     const MORE: usize,
 >(width: usize, words: &[S::Unit], reference: W::Vector, g: usize, items: &mut [W; FL_CHUNK_SIZE])
-    requires width { width ≤ W.T }
-    requires block { S.count (length words.now) ≡ width * W.LANES }
-    requires reference { W.whole reference }
-    requires frame { IsReference FRAMED (W.lane reference) }
+    requires reference { IsReference FRAMED (W.whole reference) (W.lane reference) }
     requires row { 64 ≤ W.T }
-    requires group { 16 * g + 16 ≤ W.LANES }
+    requires group { IsGroup W.T W.LANES width (S.count (length words.now)) g }
     ensures filled { Filled W.T W.LANES place (sum_of W.T W.LANES width (S.word words.now) (W.lane reference)) g 0 64 (pattern_at W.pattern items.old) (pattern_at W.pattern items.new) }
     ensures whole { length items.new ≡ 1024 }
 {
@@ -185,11 +167,8 @@ fn unpack_group<
     const FIRST: usize,
     const MORE: usize,
 >(width: usize, words: &[S::Unit], reference: W::Vector, g: usize, items: &mut [W; FL_CHUNK_SIZE])
-    requires width { width ≤ W.T }
-    requires block { S.count (length words.now) ≡ width * W.LANES }
-    requires reference { W.whole reference }
-    requires frame { IsReference FRAMED (W.lane reference) }
-    requires group { 16 * g + 16 ≤ W.LANES }
+    requires reference { IsReference FRAMED (W.whole reference) (W.lane reference) }
+    requires group { IsGroup W.T W.LANES width (S.count (length words.now)) g }
     ensures filled { Filled W.T W.LANES place (sum_of W.T W.LANES width (S.word words.now) (W.lane reference)) g 0 W.T (pattern_at W.pattern items.old) (pattern_at W.pattern items.new) }
     ensures whole { length items.new ≡ 1024 }
 {
@@ -209,9 +188,8 @@ fn unpack_group<
 #[inline(always)]
 fn splat_reference<W: FastLanes, const FRAMED: bool>(reference: W) -> W::Vector
     requires { FRAMED ≡ false → W.pattern reference ≡ 0 }
-    ensures whole { W.whole result }
+    ensures reference { IsReference FRAMED (W.whole result) (W.lane result) }
     ensures lanes { (j : ℕ) → j < 16 → W.lane result j ≡ W.pattern reference }
-    ensures frame { IsReference FRAMED (W.lane result) }
 {
     W::splat(reference)
 }

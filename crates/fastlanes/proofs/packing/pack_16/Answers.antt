@@ -5,5 +5,5 @@ use Rattle.fastlanes.proofs.Fillings.{words_more}
 use Rattle.fastlanes.proofs.packing.pack_16.Goals as goal
 
 pub returns-clause-words : goal.returns-clause-words
-returns-clause-words g c = (words_more g.W.FastLanes.T g.W.FastLanes.LANES c.args.width (word_of g.W.FastLanes.T c.args.width (pattern_at g.W.FastLanes.pattern c.args.items.now)) c.args.g 0 8 8 16 _ _ _ g.met.W.FastLanes.shape c.requires.group (omega arith) (omega arith) (omega arith) refl
+returns-clause-words g c = (words_more g.W.FastLanes.T g.W.FastLanes.LANES c.args.width (word_of g.W.FastLanes.T c.args.width (pattern_at g.W.FastLanes.pattern c.args.items.now)) c.args.g 0 8 8 16 _ _ _ g.met.W.FastLanes.shape c.requires.group.inside (omega arith) (omega arith) (omega arith) refl
     c.pack_8-begun.ensures.words c.pack_8.ensures.words)
