@@ -67,16 +67,14 @@ pub(crate) fn unfor_pack_all<W: FastLanes>(
     }
 }
 
-/// Compares block after block, as far as there are words: bit `i` of a block's sixteen words is the answer for item `i`.
-pub(crate) fn compare_all<W: FastLanes, F: Fn(W, W) -> bool + Copy + Drop>(
+/// Compares block after block, as far as there are words: bit `i` of a block's sixteen words is whether item `i` is less than `rhs`.
+pub(crate) fn compare_lt_all<W: FastLanes + PartialOrd>(
     width: usize,
     packed: &[W],
-    cmp: F,
     rhs: W,
     blocks: &mut [[u64; 16]],
 )
-    requires width { width ≤ W.T }
-    requires callable { F.IsAlwaysCallable cmp }
+    requires { width ≤ W.T }
 {
     let size = width * W::LANES;
     let mut work = Work::new();
@@ -87,7 +85,14 @@ pub(crate) fn compare_all<W: FastLanes, F: Fn(W, W) -> bool + Copy + Drop>(
             return;
         }
         let (first, others) = rest.split_at(size);
-        unpack_cmp(width, first, &mut in_lanes, cmp, rhs, &mut work);
+        unpack_cmp(
+            width,
+            first,
+            &mut in_lanes,
+            |item, other| item < other,
+            rhs,
+            &mut work,
+        );
         transpose_bits::<W>(&in_lanes, bits);
         rest = others;
     }

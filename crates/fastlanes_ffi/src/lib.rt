@@ -5,7 +5,7 @@ mod blocks;
 mod columns;
 
 use blocks::{
-    compare_all, delta_all, pack_all, rle_decode_all, single, transpose_all, undelta_all,
+    compare_lt_all, delta_all, pack_all, rle_decode_all, single, transpose_all, undelta_all,
     unfor_pack_all, unpack_all, untranspose_all,
 };
 use columns::{decode_column, pack_column, pack_column_into, unpack_column};
@@ -36,13 +36,7 @@ pub extern "C" fn fl_unfor_pack_u8(width: usize, packed: &[u8], reference: u8, i
 #[unsafe(no_mangle)]
 pub extern "C" fn fl_compare_lt_u8(width: usize, packed: &[u8], rhs: u8, bits: &mut [u64]) {
     if width <= 8 {
-        compare_all(
-            width,
-            packed,
-            |item, other| item < other,
-            rhs,
-            bits.as_chunks_mut().0,
-        );
+        compare_lt_all(width, packed, rhs, bits.as_chunks_mut().0);
     }
 }
 
@@ -108,13 +102,7 @@ pub extern "C" fn fl_unfor_pack_u16(
 #[unsafe(no_mangle)]
 pub extern "C" fn fl_compare_lt_u16(width: usize, packed: &[u16], rhs: u16, bits: &mut [u64]) {
     if width <= 16 {
-        compare_all(
-            width,
-            packed,
-            |item, other| item < other,
-            rhs,
-            bits.as_chunks_mut().0,
-        );
+        compare_lt_all(width, packed, rhs, bits.as_chunks_mut().0);
     }
 }
 
@@ -180,13 +168,7 @@ pub extern "C" fn fl_unfor_pack_u32(
 #[unsafe(no_mangle)]
 pub extern "C" fn fl_compare_lt_u32(width: usize, packed: &[u32], rhs: u32, bits: &mut [u64]) {
     if width <= 32 {
-        compare_all(
-            width,
-            packed,
-            |item, other| item < other,
-            rhs,
-            bits.as_chunks_mut().0,
-        );
+        compare_lt_all(width, packed, rhs, bits.as_chunks_mut().0);
     }
 }
 
@@ -252,13 +234,7 @@ pub extern "C" fn fl_unfor_pack_u64(
 #[unsafe(no_mangle)]
 pub extern "C" fn fl_compare_lt_u64(width: usize, packed: &[u64], rhs: u64, bits: &mut [u64]) {
     if width <= 64 {
-        compare_all(
-            width,
-            packed,
-            |item, other| item < other,
-            rhs,
-            bits.as_chunks_mut().0,
-        );
+        compare_lt_all(width, packed, rhs, bits.as_chunks_mut().0);
     }
 }
 
