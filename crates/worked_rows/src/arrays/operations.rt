@@ -1,0 +1,100 @@
+//! Operations on arrays.
+
+use super::{Built, building};
+use crate::columns::{count, dtype_of};
+use crate::types;
+use std::alloc::Global;
+use vortex_fastlanes::array::{ArrayOps, ArrayRef, IntoArray, Op};
+use vortex_fastlanes::{FastLanesError, PrimitiveArray};
+
+type Read = Result<Op, FastLanesError>;
+
+/// The numbers of a word that has them between colons, two by two.
+fn pairs_of(alloc: Global, word: &str) -> Result<Vec<(usize, usize)>, FastLanesError> {
+    let mut pairs = Vec::new(alloc);
+    for pair in word.split(',') {
+        let (first, second) = pair.split_once(':').unwrap_or((pair, ""));
+        pairs.push((count(first), count(second)))?;
+    }
+    Ok(pairs)
+}
+
+fn slice(rest: &str) -> Op {
+    let (start, end) = rest.split_once(':').unwrap_or((rest, ""));
+    Op::Slice(count(start)..count(end))
+}
+
+/// The operation with a column: a take by its items, or a filter by its mask.
+fn with_column(alloc: Global, name: &str, column: &PrimitiveArray) -> Read {
+    match name {
+        "take" => Ok(Op::Take(building::array(alloc, "plain", column)?)),
+        "take_copies" => Ok(Op::Take(building::array(alloc, "copies", column)?)),
+        "take_truths" => Ok(Op::Take(building::array(alloc, "truths", column)?)),
+        _ => Ok(Op::Filter(types::mask_of(alloc, column)?)),
+    }
+}
+
+/// The words of operations, and those of the question behind `then`.
+pub(super) fn split<'a>(words: &'a [&'a str]) -> (&'a [&'a str], &'a [&'a str]) {
+    for i in 0..words.len() {
+        if words[i] == "then" {
+            let (ops, question) = words.split_at(i);
+            return (ops, question.get(1..).unwrap_or(&[]));
+        }
+    }
+    (&[], words)
+}
+
+/// The operation that a word names: `slice:1:3`, `ranges:2:1,0:2` or `cast:u8?`.
+fn without_column(alloc: Global, word: &str) -> Read {
+    let (name, rest) = word.split_once(':').unwrap_or((word, ""));
+    match name {
+        "slice" => Ok(slice(rest)),
+        "ranges" => Ok(Op::TakeRanges(pairs_of(alloc, rest)?)),
+        _ => Ok(Op::Cast(dtype_of(rest))),
+    }
+}
+
+/// The operations that words name. A word without a colon takes the next of the columns.
+pub(super) fn read_all(
+    alloc: Global,
+    words: &[&str],
+    columns: &[PrimitiveArray],
+) -> Result<Vec<Op>, FastLanesError> {
+    let mut ops = Vec::new(alloc);
+    let mut next = 0usize;
+    for word in words {
+        match columns.get(next) {
+            Some(column) if !word.contains(':') => {
+                next = next.saturating_add(1);
+                ops.push(with_column(alloc, word, column)?)?;
+            }
+            _ => ops.push(without_column(alloc, word)?)?,
+        }
+    }
+    Ok(ops)
+}
+
+/// What the call for an operation makes of an array.
+fn call(alloc: Global, array: &ArrayRef, op: &Op) -> Built {
+    match op {
+        Op::Slice(range) if range.start <= range.end && range.end <= array.len() => {
+            array.slice(alloc, range.start..range.end)
+        }
+        Op::Slice(_) => Err(FastLanesError::RangeOutOfBounds),
+        Op::Take(indices) => array.take(alloc, indices),
+        Op::TakeRanges(ranges) => array.take_ranges(alloc, ranges),
+        Op::Filter(mask) if mask.len() == array.len() => array.filter(alloc, mask),
+        Op::Filter(_) => Err(FastLanesError::MaskLength),
+        Op::Cast(target) => array.cast(alloc, *target),
+    }
+}
+
+/// What calls for operations make of an array, one after another.
+pub(super) fn call_all(alloc: Global, array: &ArrayRef, ops: &[Op]) -> Built {
+    let mut current = array.try_clone(alloc)?;
+    for op in ops {
+        current = call(alloc, &current, op)?;
+    }
+    Ok(current)
+}

@@ -1,0 +1,188 @@
+//! Questions to arrays.
+
+ghost use Rattle.std.specs.Prelude.{IsTrue};
+ghost use Rattle.fl_types.specs.Values.{cell_of};
+ghost use Rattle.fl_array.specs.Trees.{column};
+ghost use Rattle.fl_ops.specs.Questions.{is_comparable, may_ask};
+
+use super::Built;
+use crate::columns::count;
+use crate::text::Text;
+use crate::{plain, shown, types};
+use std::alloc::Global;
+use vortex_fastlanes::array::{Answer, ArrayOps, ArrayRef, Query, ask};
+use vortex_fastlanes::laws::{item_of_decoded, slice_of_slice};
+use vortex_fastlanes::{BetweenOptions, FastLanesError, Nullability, Scalar, Validity};
+
+/// An integer of an array's type.
+fn constant(array: &ArrayRef, integer: &str) -> Scalar
+    ensures { IsTrue (is_comparable (column array.now) (cell_of result)) }
+{
+    match array.dtype().ptype() {
+        Some(ptype) => Scalar::primitive(types::value_of(ptype, integer), Nullability::NonNullable),
+        None => Scalar::bool(true, Nullability::NonNullable),
+    }
+}
+
+/// Adds an answer to a question.
+fn reply(made: &Result<Answer, FastLanesError>, answer: &mut Text) {
+    match made {
+        Ok(Answer::Scalar(item)) => shown::scalar(answer, *item),
+        Ok(Answer::Bools(tests)) => shown::truths(answer, tests),
+        Ok(Answer::Bool(truth)) => answer.truth(*truth),
+        Err(refusal) => answer.refusal(*refusal),
+    }
+}
+
+/// Adds what a question answers, where a call answered something else.
+fn ask_again(alloc: Global, array: &ArrayRef, query: &Query, answer: &mut Text)
+    requires { IsTrue (may_ask (column array.now) query.now) }
+{
+    let mut asked = Text::new(alloc);
+    reply(&ask(alloc, array, query), &mut asked);
+    answer.unless_same(&mut asked);
+}
+
+fn compare(alloc: Global, array: &ArrayRef, name: &str, integer: &str, answer: &mut Text) {
+    let (operator, constant) = (plain::operator(name), constant(array, integer));
+    shown::made_truths(answer, array.compare(alloc, operator, &constant));
+    ask_again(alloc, array, &Query::Compare(operator, constant), answer);
+}
+
+/// Tests a range by its bounds and by how they are meant.
+fn between(
+    alloc: Global,
+    array: &ArrayRef,
+    bounds: (&str, &str),
+    options: BetweenOptions,
+    answer: &mut Text,
+) {
+    let (lower, upper) = (constant(array, bounds.0), constant(array, bounds.1));
+    shown::made_truths(answer, array.between(alloc, &lower, &upper, &options));
+    ask_again(alloc, array, &Query::Between(lower, upper, options), answer);
+}
+
+fn truth(made: Result<bool, FastLanesError>, answer: &mut Text) {
+    match made {
+        Ok(truth) => answer.truth(truth),
+        Err(refusal) => answer.refusal(refusal),
+    }
+}
+
+fn sorted(alloc: Global, array: &ArrayRef, strict: bool, answer: &mut Text) {
+    truth(array.is_sorted(alloc, strict), answer);
+    ask_again(alloc, array, &Query::IsSorted(strict), answer);
+}
+
+fn constancy(alloc: Global, array: &ArrayRef, answer: &mut Text) {
+    truth(array.is_constant(alloc), answer);
+    ask_again(alloc, array, &Query::IsConstant, answer);
+}
+
+/// Answers a question that words name: `at 2`, `constant`, `sorted`, `strict`, `compare lt 7`
+/// or `between gte 3 lt 7`.
+fn answer_query(alloc: Global, array: &ArrayRef, words: &[&str], answer: &mut Text) {
+    match words {
+        ["at", i] => reply(&ask(alloc, array, &Query::ScalarAt(count(i))), answer),
+        ["constant"] => constancy(alloc, array, answer),
+        ["sorted"] => sorted(alloc, array, false, answer),
+        ["strict"] => sorted(alloc, array, true, answer),
+        ["compare", name, integer] => compare(alloc, array, name, integer, answer),
+        ["between", from, lower, to, upper] => {
+            between(
+                alloc,
+                array,
+                (lower, upper),
+                plain::options(from, to),
+                answer,
+            );
+        }
+        _ => answer.word("no such question"),
+    }
+}
+
+fn kind_of(array: &ArrayRef) -> &'static str {
+    if array.as_primitive().is_some() {
+        "plain"
+    } else if array.as_constant().is_some() {
+        "copies"
+    } else if array.as_bool().is_some() {
+        "truths"
+    } else {
+        "none"
+    }
+}
+
+/// Adds the item at an index, which is one of those that are there.
+fn item(alloc: Global, array: &ArrayRef, i: usize, answer: &mut Text) {
+    if i < array.len() {
+        match array.scalar_at(alloc, i) {
+            Ok(item) => answer.item(shown::integer_in(item)),
+            Err(refusal) => answer.refusal(refusal),
+        }
+    }
+}
+
+/// Adds the kind, the type and the items of an array.
+fn array_read(alloc: Global, array: &ArrayRef, answer: &mut Text) {
+    answer.word(kind_of(array));
+    shown::dtype(answer, array.dtype());
+    for i in 0..array.len() {
+        item(alloc, array, i, answer);
+    }
+}
+
+fn array_made(alloc: Global, made: &Built, answer: &mut Text) {
+    match made {
+        Ok(array) => array_read(alloc, array, answer),
+        Err(refusal) => answer.refusal(*refusal),
+    }
+}
+
+fn validity(alloc: Global, array: &ArrayRef, answer: &mut Text) {
+    match array.validity(alloc) {
+        Ok(Validity::Array(bits)) => shown::bits(answer, &bits),
+        Ok(validity) => answer.debug(&validity),
+        Err(refusal) => answer.refusal(refusal),
+    }
+}
+
+fn item_decoded(alloc: Global, array: &ArrayRef, i: usize, answer: &mut Text) {
+    if i < array.len() {
+        match item_of_decoded(array, alloc, i) {
+            Ok(item) => shown::scalar(answer, item),
+            Err(refusal) => answer.refusal(refusal),
+        }
+    }
+}
+
+/// A slice of a slice, where both lie within their arrays.
+fn sliced_twice(
+    alloc: Global,
+    array: &ArrayRef,
+    outer: (usize, usize),
+    inner: (usize, usize),
+) -> Built {
+    let within = outer.0 <= outer.1 && outer.1 <= array.len() && inner.0 <= inner.1;
+    if !within || inner.1 > outer.1 - outer.0 {
+        return Err(FastLanesError::RangeOutOfBounds);
+    }
+    slice_of_slice(array, alloc, outer.0..outer.1, inner.0..inner.1)
+}
+
+/// Answers what words ask of an array: its parts, or a question.
+pub(super) fn answer(alloc: Global, array: &ArrayRef, words: &[&str], answer: &mut Text) {
+    match words {
+        ["items"] => array_read(alloc, array, answer),
+        ["copy"] => array_made(alloc, &array.try_clone(alloc), answer),
+        ["decode"] => array_made(alloc, &array.decode(alloc), answer),
+        ["plain"] => shown::made(answer, array.to_primitive(alloc)),
+        ["validity"] => validity(alloc, array, answer),
+        ["item", i] => item_decoded(alloc, array, count(i), answer),
+        ["slices", a, b, c, d] => {
+            let made = sliced_twice(alloc, array, (count(a), count(b)), (count(c), count(d)));
+            array_made(alloc, &made, answer);
+        }
+        _ => answer_query(alloc, array, words, answer),
+    }
+}

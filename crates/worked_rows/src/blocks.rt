@@ -1,0 +1,134 @@
+//! Columns packed at a width for each block of 1024 items.
+
+ghost use Rattle.std.specs.Prelude.{◌≡◌, ◌+◌, IsTrue, length};
+ghost use Rattle.fl_types.specs.Integers.{bits_of_type};
+ghost use Rattle.fl_patches.specs.PatchMaps.{chunk_count, numbers};
+ghost use Rattle.fl_packed.specs.Blocks.{are_blocks};
+
+use crate::packing::{show, width_of};
+use crate::shown;
+use crate::text::Text;
+use fl_packed::decoding::{PackedColumn, unpack_bounded};
+use fl_packed::packing::bitpack_blocked_unchecked;
+use fl_patches::Patches;
+use fl_plain::PrimitiveArray;
+use fl_types::*;
+use fl_widths::gather_blocked_patches;
+use std::alloc::Global;
+
+/// Adds the column that comes back from blocks which lie between boundaries.
+fn unpack<'a>(
+    alloc: Global,
+    array: &'a PrimitiveArray,
+    bytes: &'a [u8],
+    boundaries: &PrimitiveArray,
+    patches: Option<&'a Patches>,
+    answer: &mut Text,
+)
+    requires count { length boundaries.now.slots ≡ chunk_count (length array.now.slots) + 1 }
+    requires blocks { IsTrue (are_blocks (bits_of_type array.now.ptype) (length bytes.now) (numbers boundaries.now)) }
+{
+    if let Some(patches) = patches {
+        if patches.array_len() != array.len() || patches.values().ptype() != array.ptype() {
+            return;
+        }
+    }
+    let column = PackedColumn {
+        packed: bytes,
+        ptype: array.ptype(),
+        validity: array.validity(),
+        patches,
+        offset: 0,
+        len: array.len(),
+    };
+    shown::made(answer, unpack_bounded(alloc, &column, boundaries));
+}
+
+/// Adds blocks: their bytes, their boundaries, and the column that comes back.
+fn blocks<'a>(
+    alloc: Global,
+    array: &'a PrimitiveArray,
+    bytes: &'a [u8],
+    boundaries: &PrimitiveArray,
+    patches: Option<&'a Patches>,
+    answer: &mut Text,
+)
+    requires count { length boundaries.now.slots ≡ chunk_count (length array.now.slots) + 1 }
+    requires blocks { IsTrue (are_blocks (bits_of_type array.now.ptype) (length bytes.now) (numbers boundaries.now)) }
+{
+    show(answer, bytes);
+    answer.word("|");
+    shown::column(answer, boundaries);
+    answer.word("|");
+    unpack(alloc, array, bytes, boundaries, patches, answer);
+}
+
+fn pack_none(alloc: Global, array: &PrimitiveArray, answer: &mut Text) {
+    if array.len() != 0 {
+        return;
+    }
+    match bitpack_blocked_unchecked(alloc, array, &[]) {
+        Ok(parts) => blocks(alloc, array, parts.0.as_slice(), &parts.1, None, answer),
+        Err(refusal) => answer.refusal(refusal),
+    }
+}
+
+fn pack_one(alloc: Global, array: &PrimitiveArray, width: u8, answer: &mut Text) {
+    if array.len() == 0 || array.len() > 1024 || usize::from(width) > array.ptype().bit_width() {
+        return;
+    }
+    match bitpack_blocked_unchecked(alloc, array, &[width]) {
+        Ok(parts) => blocks(alloc, array, parts.0.as_slice(), &parts.1, None, answer),
+        Err(refusal) => answer.refusal(refusal),
+    }
+}
+
+/// Packs a block and an item at widths 2 and 0.
+fn pack_first(alloc: Global, array: &PrimitiveArray, patches: Option<&Patches>, answer: &mut Text) {
+    if array.len() != 1025 || array.ptype() != PType::U16 {
+        return;
+    }
+    match bitpack_blocked_unchecked(alloc, array, &[2, 0]) {
+        Ok(parts) => blocks(alloc, array, parts.0.as_slice(), &parts.1, patches, answer),
+        Err(refusal) => answer.refusal(refusal),
+    }
+}
+
+/// Packs a block and an item at widths 2 and 10.
+fn pack_both(alloc: Global, array: &PrimitiveArray, answer: &mut Text) {
+    if array.len() != 1025 || array.ptype() != PType::U16 {
+        return;
+    }
+    match bitpack_blocked_unchecked(alloc, array, &[2, 10]) {
+        Ok(parts) => blocks(alloc, array, parts.0.as_slice(), &parts.1, None, answer),
+        Err(refusal) => answer.refusal(refusal),
+    }
+}
+
+/// Packs a block and an item at widths 2 and 0, with the patches that these ask for.
+fn patch_first(alloc: Global, array: &PrimitiveArray, answer: &mut Text) {
+    if array.len() != 1025 {
+        return;
+    }
+    match gather_blocked_patches(alloc, array, &[2, 0], 1) {
+        Ok(patches) => pack_first(alloc, array, patches.as_ref(), answer),
+        Err(refusal) => answer.refusal(refusal),
+    }
+}
+
+pub(crate) fn ask(
+    alloc: Global,
+    question: &[&str],
+    columns: &[PrimitiveArray],
+    answer: &mut Text,
+) -> bool {
+    match (question, columns) {
+        (["pack_blocked"], [array]) => pack_none(alloc, array, answer),
+        (["pack_blocked", width], [array]) => pack_one(alloc, array, width_of(width), answer),
+        (["pack_blocked", "2", "0"], [array]) => pack_first(alloc, array, None, answer),
+        (["pack_blocked", "2", "10"], [array]) => pack_both(alloc, array, answer),
+        (["patch_blocked", "2", "0"], [array]) => patch_first(alloc, array, answer),
+        _ => return false,
+    }
+    true
+}

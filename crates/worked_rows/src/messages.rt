@@ -1,0 +1,136 @@
+//! Metadata messages: what bytes say, and how it is written.
+
+use crate::columns::type_of;
+use crate::text::Text;
+use fl_messages::messages::*;
+use fl_types::{FastLanesError, PType};
+use std::alloc::Global;
+use std::fmt::Debug;
+
+const BAD: FastLanesError = FastLanesError::BadMetadata;
+
+/// Adds bytes, in hexadecimal digits.
+fn written(text: Result<Vec<u8>, FastLanesError>, answer: &mut Text) {
+    match text {
+        Ok(bytes) => {
+            for byte in &bytes {
+                answer.byte(*byte);
+            }
+        }
+        Err(refusal) => answer.refusal(refusal),
+    }
+}
+
+/// Adds what bytes say, or why they are no message.
+fn said<T: Debug>(message: &Result<T, FastLanesError>, answer: &mut Text) {
+    match message {
+        Ok(message) => answer.debug(message),
+        Err(refusal) => answer.refusal(*refusal),
+    }
+}
+
+fn bit_packed(alloc: Global, bytes: &[u8], answer: &mut Text) {
+    let message = BitPackedMetadata::decode(bytes);
+    said(&message, answer);
+    if let Ok(message) = message {
+        written(message.encode(alloc), answer);
+    }
+}
+
+fn blocked(alloc: Global, bytes: &[u8], answer: &mut Text) {
+    let message = BitPackedBlockedMetadata::decode(bytes);
+    said(&message, answer);
+    if let Ok(message) = message {
+        written(message.encode(alloc), answer);
+    }
+}
+
+fn patches(alloc: Global, bytes: &[u8], answer: &mut Text) {
+    let message = PatchesMetadata::decode(bytes);
+    said(&message, answer);
+    if let Ok(message) = message {
+        written(message.encode(alloc), answer);
+    }
+}
+
+fn for_chunked(alloc: Global, bytes: &[u8], answer: &mut Text) {
+    let message = FoRChunkedMetadata::decode(bytes);
+    said(&message, answer);
+    if let Ok(message) = message {
+        written(message.encode(alloc), answer);
+    }
+}
+
+fn delta(alloc: Global, bytes: &[u8], answer: &mut Text) {
+    let message = DeltaMetadata::decode(bytes);
+    said(&message, answer);
+    if let Ok(message) = message {
+        written(message.encode(alloc), answer);
+    }
+}
+
+fn rle(alloc: Global, bytes: &[u8], answer: &mut Text) {
+    let message = RLEMetadata::decode(bytes);
+    said(&message, answer);
+    if let Ok(message) = message {
+        written(message.encode(alloc), answer);
+    }
+}
+
+fn scalar(alloc: Global, ptype: PType, bytes: &[u8], answer: &mut Text) {
+    scalar_fits();
+    match decode_scalar(ptype, bytes) {
+        Ok(value) => {
+            answer.item(value);
+            written(encode_scalar(alloc, ptype, value), answer);
+        }
+        Err(refusal) => answer.refusal(refusal),
+    }
+}
+
+/// Whether bytes are no message of any kind.
+fn is_none(bytes: &[u8]) -> bool {
+    BitPackedMetadata::decode(bytes) == Err(BAD)
+        && BitPackedBlockedMetadata::decode(bytes) == Err(BAD)
+        && PatchesMetadata::decode(bytes) == Err(BAD)
+        && FoRChunkedMetadata::decode(bytes) == Err(BAD)
+        && DeltaMetadata::decode(bytes) == Err(BAD)
+        && RLEMetadata::decode(bytes) == Err(BAD)
+        && !is_message(bytes)
+}
+
+fn ask_of(alloc: Global, kind: &str, bytes: &[u8], answer: &mut Text) {
+    match kind {
+        "any" => answer.truth(is_message(bytes)),
+        "none" => answer.truth(is_none(bytes)),
+        "bit_packed" => bit_packed(alloc, bytes, answer),
+        "blocked" => blocked(alloc, bytes, answer),
+        "patches" => patches(alloc, bytes, answer),
+        "for_chunked" => for_chunked(alloc, bytes, answer),
+        "delta" => delta(alloc, bytes, answer),
+        "rle" => rle(alloc, bytes, answer),
+        _ => scalar(alloc, type_of(kind), bytes, answer),
+    }
+}
+
+/// The bytes that words of two hexadecimal digits name.
+fn bytes_of(alloc: Global, words: &[&str]) -> Result<Vec<u8>, FastLanesError> {
+    let mut bytes = Vec::new(alloc);
+    for word in words {
+        bytes.push(u8::from_str_radix(word, 16).unwrap_or(0))?;
+    }
+    Ok(bytes)
+}
+
+/// Answers what bytes say as a message of a kind.
+pub(crate) fn ask(alloc: Global, question: &[&str], answer: &mut Text) -> bool {
+    match question {
+        ["message", kind, bytes @ ..] => {
+            if let Ok(bytes) = bytes_of(alloc, bytes) {
+                ask_of(alloc, kind, &bytes, answer);
+            }
+            true
+        }
+        _ => false,
+    }
+}

@@ -1,0 +1,174 @@
+//! Readers of packed columns, block by block.
+
+ghost use Rattle.std.specs.Prelude.{◌≡◌, length};
+ghost use Rattle.fl_types.specs.Integers.{bits_of_type};
+
+use crate::columns::{count, type_of};
+use crate::shown;
+use crate::text::Text;
+use fl_types::*;
+use std::cell::Cell;
+use vortex_fastlanes::unpack_iter::{
+    BitPacked, BitPackingStrategy, UnpackStrategy, UnpackedChunks, UnpackedItems,
+};
+use vortex_fastlanes::{FL_CHUNK_SIZE, Work};
+
+/// Adds all items that a reader writes, for which there is room, and how many blocks it unpacked.
+fn write<T: BitPacked>(
+    chunks: &mut UnpackedChunks<'_, T, BitPackingStrategy>,
+    items: &mut [T],
+    answer: &mut Text,
+)
+    requires { length items.old ≡ chunks.old.len }
+{
+    chunks.decode_into(items);
+    shown::integers(answer, items);
+    answer.word("in");
+    answer.item(Some(chunks.work().blocks() as i128));
+    answer.word("blocks");
+}
+
+/// Adds all items of a packed column, at most 1024 of them.
+fn read<T: BitPacked>(bytes: &[u8], width: usize, offset: usize, len: usize, answer: &mut Text) {
+    T::fits_in_memory();
+    if width > T::PTYPE.bit_width() {
+        return;
+    }
+    let mut scratch = [T::zero(); FL_CHUNK_SIZE];
+    let mut room = [T::zero(); 1024];
+    let strategy = BitPackingStrategy;
+    match UnpackedChunks::try_new_with_strategy(strategy, bytes, width, offset, len, &mut scratch) {
+        Ok(mut chunks) => {
+            if len <= 1024 {
+                write(&mut chunks, &mut room[..len], answer);
+            }
+        }
+        Err(refusal) => answer.refusal(refusal),
+    }
+}
+
+/// Adds the items that a reader lends, or `none`.
+fn lent(items: &UnpackedItems<'_, u8>, answer: &mut Text) {
+    match items.items() {
+        Some(items) => shown::integers(answer, items),
+        None => answer.word("none"),
+    }
+}
+
+/// A reader of bytes as `u8`.
+type Chunks<'a> = UnpackedChunks<'a, u8, BitPackingStrategy>;
+
+/// Adds the items of the first block, of the last one, and of whole blocks, at most five.
+fn parts(chunks: &mut Chunks<'_>, answer: &mut Text) {
+    answer.word("first");
+    lent(&chunks.initial(), answer);
+    answer.word("last");
+    lent(&chunks.trailer(), answer);
+    answer.word("whole");
+    let mut blocks = chunks.full_chunks();
+    for _ in 0..5usize {
+        if let Some(items) = blocks.next() {
+            shown::integers(answer, items);
+        }
+    }
+}
+
+/// Adds the parts that a reader lends, and those that it lends at a second call.
+fn lend(bytes: &[u8], width: usize, offset: usize, len: usize, answer: &mut Text) {
+    if width > 8 {
+        return;
+    }
+    let mut scratch = [0u8; FL_CHUNK_SIZE];
+    let strategy = BitPackingStrategy;
+    match UnpackedChunks::try_new_with_strategy(strategy, bytes, width, offset, len, &mut scratch) {
+        Ok(mut chunks) => {
+            parts(&mut chunks, answer);
+            answer.word("again");
+            parts(&mut chunks, answer);
+        }
+        Err(refusal) => answer.refusal(refusal),
+    }
+}
+
+/// Unpacks by the layout, and counts its calls.
+#[derive(Clone, Copy)]
+struct CountingStrategy<'c> {
+    calls: &'c Cell<usize>,
+}
+
+impl UnpackStrategy<u8> for CountingStrategy<'_> {
+    fn unpack_chunk(
+        &self,
+        bit_width: usize,
+        chunk: &[u8],
+        dst: &mut [u8; FL_CHUNK_SIZE],
+        work: &mut Work,
+    ) {
+        self.calls.set(self.calls.get().saturating_add(1));
+        BitPackingStrategy.unpack_chunk(bit_width, chunk, dst, work);
+    }
+}
+
+/// A reader that counts the calls of its strategy.
+type CountedChunks<'a, 'c> = UnpackedChunks<'a, u8, CountingStrategy<'c>>;
+
+/// Adds how often a reader has called its strategy: before it lends items, and after the items of the
+/// first block and of the last one.
+fn lend_counted(chunks: &mut CountedChunks<'_, '_>, calls: &Cell<usize>, answer: &mut Text) {
+    answer.count(calls.get());
+    lent(&chunks.initial(), answer);
+    answer.count(calls.get());
+    lent(&chunks.trailer(), answer);
+    answer.count(calls.get());
+}
+
+/// Adds how often a reader has called its strategy when it has written all items, at most 1024, and
+/// when it lends them.
+fn calls(
+    bytes: &[u8],
+    width: usize,
+    offset: usize,
+    len: usize,
+    calls: &Cell<usize>,
+    answer: &mut Text,
+) {
+    if width > 8 || len > 1024 {
+        return;
+    }
+    let (mut scratch, mut room) = ([0u8; FL_CHUNK_SIZE], [0u8; 1024]);
+    let strategy = CountingStrategy { calls };
+    match UnpackedChunks::try_new_with_strategy(strategy, bytes, width, offset, len, &mut scratch) {
+        Ok(mut chunks) => {
+            chunks.decode_into(&mut room[..len]);
+            lend_counted(&mut chunks, calls, answer);
+        }
+        Err(refusal) => answer.refusal(refusal),
+    }
+}
+
+/// Asks a question of bytes.
+pub(crate) fn ask(question: &[&str], bytes: &[u8], answer: &mut Text) -> bool {
+    match question {
+        ["read", name, width, offset, len] => {
+            answer.word(name);
+            let (width, offset, len) = (count(width), count(offset), count(len));
+            match_each_integer_ptype!(type_of(name), read(bytes, width, offset, len, answer));
+        }
+        ["lend", width, offset, len] => {
+            lend(bytes, count(width), count(offset), count(len), answer);
+        }
+        ["strategy", width, offset, len] => {
+            let zero = Cell::new(0);
+            calls(
+                bytes,
+                count(width),
+                count(offset),
+                count(len),
+                &zero,
+                answer,
+            );
+        }
+        _ => return false,
+    }
+    true
+}

@@ -1,0 +1,264 @@
+//! Masks, validities, stored integers, scalars and refusals.
+
+ghost use Rattle.std.specs.Prelude.{◌≡◌};
+ghost use Rattle.fl_types.specs.Values.{ptype_of_value};
+
+use crate::columns::{count, dtype_of, number};
+use crate::text::Text;
+use crate::{bits, shown};
+use fl_plain::PrimitiveArray;
+use fl_types::*;
+use std::alloc::Global;
+use std::fmt::Debug;
+
+/// The refusals in the order of their numbers, from 1 on.
+const REFUSALS: &[FastLanesError] = &[
+    FastLanesError::OutOfMemory,
+    FastLanesError::NotInteger,
+    FastLanesError::NegativeValue,
+    FastLanesError::WidthTooLarge,
+    FastLanesError::AllBlocksNative,
+    FastLanesError::BlockCount,
+    FastLanesError::OffsetTooLarge,
+    FastLanesError::LengthOverflow,
+    FastLanesError::ValidityLength,
+    FastLanesError::PatchType,
+    FastLanesError::PatchLength,
+    FastLanesError::PatchContent,
+    FastLanesError::PackedLength,
+    FastLanesError::BlockOffsetsType,
+    FastLanesError::BlockOffsetsCount,
+    FastLanesError::BlockBoundary,
+    FastLanesError::BlockSpan,
+    FastLanesError::TypeMismatch,
+    FastLanesError::NullReference,
+    FastLanesError::ReferenceCount,
+    FastLanesError::NoMinimum,
+    FastLanesError::ChildNullable,
+    FastLanesError::ChildLength,
+    FastLanesError::RangeBeyondChild,
+    FastLanesError::RunIndexType,
+    FastLanesError::RunOffsets,
+    FastLanesError::RunIndex,
+    FastLanesError::TooManyWidths,
+    FastLanesError::NotGlobal,
+    FastLanesError::IndexOutOfBounds,
+    FastLanesError::RangeOutOfBounds,
+    FastLanesError::MaskLength,
+    FastLanesError::CastNull,
+    FastLanesError::CastOutOfRange,
+    FastLanesError::UnknownId,
+    FastLanesError::BadMetadata,
+    FastLanesError::UnknownType,
+    FastLanesError::BufferCount,
+    FastLanesError::ChildCount,
+    FastLanesError::ChildMismatch,
+];
+
+/// Answers with the refusal of a number, which begins at 1.
+fn refusal(refusals: &[FastLanesError], number: usize, answer: &mut Text) {
+    if let Some(refusal) = refusals.get(number.saturating_sub(1)) {
+        answer.refusal(*refusal);
+    }
+}
+
+/// Answers whether two values are equal, or differ, or how the first is shown.
+fn compare<T: PartialEq + Debug>(question: &str, left: &T, right: &T, answer: &mut Text) {
+    match question {
+        "equal" => answer.truth(*left == *right),
+        "differ" => answer.truth(*left != *right),
+        "debug" => answer.debug(left),
+        _ => answer.word("no such question"),
+    }
+}
+
+/// The same of a value and of another one that was made.
+pub(crate) fn compare_made<T: PartialEq + Debug + Drop>(
+    question: &str,
+    left: &T,
+    right: Result<T, FastLanesError>,
+    answer: &mut Text,
+) {
+    match right {
+        Ok(right) => compare(question, left, &right, answer),
+        Err(refusal) => answer.refusal(refusal),
+    }
+}
+
+/// The mask of a column: of all items of one that is valid throughout, of no item of one that is
+/// null throughout, and of the ones of any other.
+pub(crate) fn mask_of(alloc: Global, column: &PrimitiveArray) -> Result<Mask, FastLanesError> {
+    match column.validity() {
+        Validity::AllValid => Ok(Mask::AllTrue(column.len())),
+        Validity::AllInvalid => Ok(Mask::AllFalse(column.len())),
+        _ => Ok(Mask::Values(bits::ones(alloc, column)?)),
+    }
+}
+
+/// Answers a question of a mask, and of that of a column.
+fn ask_mask(alloc: Global, question: &str, mask: &Mask, other: &PrimitiveArray, answer: &mut Text) {
+    if question == "copy" {
+        compare_made("equal", mask, mask.try_clone(alloc), answer);
+    } else {
+        compare_made(question, mask, mask_of(alloc, other), answer);
+    }
+}
+
+/// What is cut from a column's validity.
+fn cut(
+    alloc: Global,
+    column: &PrimitiveArray,
+    start: usize,
+    end: usize,
+) -> Result<Validity, FastLanesError> {
+    let (validity, len) = (column.validity(), column.len());
+    if start > end || end > len || !validity.covers(len) {
+        return Err(FastLanesError::RangeOutOfBounds);
+    }
+    validity.slice(alloc, start, end, len)
+}
+
+/// Answers which of so many items a validity names valid.
+fn show_validity(validity: &Validity, len: usize, answer: &mut Text) {
+    if validity.covers(len) {
+        for i in 0..len {
+            answer.item(Some(i128::from(validity.is_valid(i, len))));
+        }
+    }
+}
+
+/// Answers which of so many items a validity that was made names valid.
+fn made_validity(made: Result<Validity, FastLanesError>, len: usize, answer: &mut Text) {
+    match made {
+        Ok(validity) => show_validity(&validity, len, answer),
+        Err(refusal) => answer.refusal(refusal),
+    }
+}
+
+/// The integers of a column, of this type; 0 for a null.
+fn typed_slots<T: NativePType>(
+    alloc: Global,
+    column: &PrimitiveArray,
+) -> Result<Slots, FastLanesError> {
+    let mut integers = Vec::new(alloc);
+    for i in 0..column.len() {
+        integers.push(typed_item(column.get(i)).unwrap_or(T::zero()))?;
+    }
+    Ok(T::into_slots(integers))
+}
+
+/// The integers of a column, by its type; 0 for a null.
+fn slots_of(alloc: Global, column: &PrimitiveArray) -> Result<Slots, FastLanesError> {
+    match_each_integer_ptype!(column.ptype(), typed_slots(alloc, column))
+}
+
+/// An item as one of this type.
+pub(crate) fn typed_item<T: NativePType>(item: Option<PValue>) -> Option<T> {
+    match item {
+        Some(value) => T::from_pvalue(value),
+        None => None,
+    }
+}
+
+fn typed_value<T: NativePType>(integer: i128) -> PValue
+    ensures { ptype_of_value result ≡ T.PTYPE }
+{
+    T::from_i128(integer).unwrap_or(T::zero()).into_pvalue()
+}
+
+/// The value of a type that a text names.
+pub(crate) fn value_of(ptype: PType, text: &str) -> PValue
+    ensures { ptype_of_value result ≡ ptype }
+{
+    match_each_integer_ptype!(ptype, typed_value(number(text)))
+}
+
+/// The scalar of a type's name and of an item: an integer, a truth value as 1 or 0, or `null`.
+pub(crate) fn scalar_of(name: &str, item: &str) -> Scalar {
+    match dtype_of(name) {
+        dtype if item == "null" => Scalar::null(dtype),
+        DType::Primitive(ptype, nullability) => {
+            Scalar::primitive(value_of(ptype, item), nullability)
+        }
+        DType::Bool(nullability) => Scalar::bool(number(item) == 1, nullability),
+    }
+}
+
+/// Adds a value behind its own type, or `null`.
+pub(crate) fn show_value(answer: &mut Text, value: Option<PValue>) {
+    if let Some(value) = value {
+        shown::dtype(
+            answer,
+            DType::Primitive(value.ptype(), Nullability::NonNullable),
+        );
+    }
+    answer.item(value.map(shown::integer));
+}
+
+/// Answers with a scalar's type, its integer, its truth value, and whether it is null.
+fn show_scalar(answer: &mut Text, scalar: Scalar) {
+    shown::dtype(answer, scalar.dtype());
+    show_value(answer, scalar.as_pvalue());
+    answer.item(scalar.as_bool().map(i128::from));
+    answer.truth(scalar.is_null());
+}
+
+/// Answers a question of the validity of a column, or of those of two.
+fn ask_validity(
+    alloc: Global,
+    question: &[&str],
+    left: &PrimitiveArray,
+    right: &PrimitiveArray,
+    answer: &mut Text,
+) {
+    let validity = left.validity();
+    match question {
+        ["slice", start, end, len] => {
+            let part = cut(alloc, left, count(start), count(end));
+            made_validity(part, count(len), answer);
+        }
+        ["copy", len] => made_validity(validity.try_clone(alloc), count(len), answer),
+        [question] => compare(question, validity, right.validity(), answer),
+        _ => answer.word("no such question"),
+    }
+}
+
+/// Answers a question of the masks, the validities or the stored integers of two columns.
+fn ask_two(
+    alloc: Global,
+    question: &[&str],
+    left: &PrimitiveArray,
+    right: &PrimitiveArray,
+    answer: &mut Text,
+) -> bool {
+    match question {
+        ["mask", question] => match mask_of(alloc, left) {
+            Ok(mask) => ask_mask(alloc, question, &mask, right, answer),
+            Err(refusal) => answer.refusal(refusal),
+        },
+        ["slots", question] => match slots_of(alloc, left) {
+            Ok(slots) => compare_made(question, &slots, slots_of(alloc, right), answer),
+            Err(refusal) => answer.refusal(refusal),
+        },
+        ["validity", question @ ..] => ask_validity(alloc, question, left, right, answer),
+        _ => return false,
+    }
+    true
+}
+
+/// Answers a question of values. Where there is one column, it stands for both.
+pub(crate) fn ask(
+    alloc: Global,
+    question: &[&str],
+    columns: &[PrimitiveArray],
+    answer: &mut Text,
+) -> bool {
+    match (question, columns) {
+        (["refusal", number], []) => refusal(REFUSALS, count(number), answer),
+        (["scalar", name, item], []) => show_scalar(answer, scalar_of(name, item)),
+        (_, [only]) => return ask_two(alloc, question, only, only, answer),
+        (_, [left, right]) => return ask_two(alloc, question, left, right, answer),
+        _ => return false,
+    }
+    true
+}
