@@ -40,7 +40,7 @@ fn answer_behind(
     answer.unless_same(&mut listed);
 }
 
-/// Answers words about an array: operations, and a question behind `?`.
+/// Answers words about an array: a question, behind operations and `then` where there are any.
 fn answer_words(
     alloc: Global,
     array: &ArrayRef,

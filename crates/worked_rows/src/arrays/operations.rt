@@ -7,9 +7,10 @@ use std::alloc::Global;
 use vortex_fastlanes::array::{ArrayOps, ArrayRef, IntoArray, Op};
 use vortex_fastlanes::{FastLanesError, PrimitiveArray};
 
+/// What reads an operation.
 type Read = Result<Op, FastLanesError>;
 
-/// The numbers of a word that has them between colons, two by two.
+/// The pairs of numbers that a word names: `2:1,0:2`.
 fn pairs_of(alloc: Global, word: &str) -> Result<Vec<(usize, usize)>, FastLanesError> {
     let mut pairs = Vec::new(alloc);
     for pair in word.split(',') {
@@ -19,6 +20,7 @@ fn pairs_of(alloc: Global, word: &str) -> Result<Vec<(usize, usize)>, FastLanesE
     Ok(pairs)
 }
 
+/// The slice between two numbers: `1:3`.
 fn slice(rest: &str) -> Op {
     let (start, end) = rest.split_once(':').unwrap_or((rest, ""));
     Op::Slice(count(start)..count(end))
