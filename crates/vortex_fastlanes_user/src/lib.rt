@@ -1,10 +1,11 @@
-//! The library as its users call it, by its public names alone.
+//! The library as its users call it, by its public names alone. What each call makes of each kind of
+//! array, row by row, is asked by `worked_rows`.
 #![tactic(auto)]
 
 #[cfg(test)]
-mod constants;
-#[cfg(test)]
 mod items;
+#[cfg(test)]
+mod kinds;
 #[cfg(test)]
 mod operations;
 #[cfg(test)]
@@ -13,5 +14,3 @@ mod packing;
 mod primitives;
 #[cfg(test)]
 mod questions;
-#[cfg(test)]
-mod truths;

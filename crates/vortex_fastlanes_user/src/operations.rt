@@ -89,7 +89,7 @@ fn filtered(array: &ArrayRef, alloc: Global, mask: &Mask) -> Built {
 }
 
 /// What a mask of the first and the last of three keeps.
-pub(crate) fn ends_kept(array: &ArrayRef, alloc: Global) -> Built {
+fn ends_kept(array: &ArrayRef, alloc: Global) -> Built {
     let ends = Mask::Values(BitList::from_fn(alloc, 3, |i| i != 1)?);
     filtered(array, alloc, &ends)
 }

@@ -15,11 +15,7 @@ fn answer(alloc: Global, array: &ArrayRef, query: &Query) -> Result<Answer, Fast
 }
 
 /// Whether an array answers yes.
-pub(crate) fn answers_yes(
-    alloc: Global,
-    array: &ArrayRef,
-    query: &Query,
-) -> Result<bool, FastLanesError> {
+fn answers_yes(alloc: Global, array: &ArrayRef, query: &Query) -> Result<bool, FastLanesError> {
     match answer(alloc, array, query)? {
         Answer::Bool(truth) => Ok(truth),
         _ => Err(FastLanesError::NotInteger),
@@ -59,11 +55,7 @@ fn nulls_are_equal(rt: HostRuntime) {
 }
 
 /// The item at an index of an array, or why there is none.
-pub(crate) fn reads(
-    alloc: Global,
-    array: &ArrayRef,
-    i: usize,
-) -> Result<Option<PValue>, FastLanesError> {
+fn reads(alloc: Global, array: &ArrayRef, i: usize) -> Result<Option<PValue>, FastLanesError> {
     match answer(alloc, array, &Query::ScalarAt(i))? {
         Answer::Scalar(item) => Ok(item.as_pvalue()),
         _ => Err(FastLanesError::NotInteger),
