@@ -11,4 +11,3 @@ pub mod DeltaRoundTrips
 pub mod RunDecoding
 pub mod RunRoundTrips
 pub mod RunChecks
-mod Examples

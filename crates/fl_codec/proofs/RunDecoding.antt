@@ -20,10 +20,10 @@ use Rattle.fl_plain.specs.Columns.{Column, Plain, column_of_plain, integers_in, 
 use Rattle.fl_plain.proofs.ItemLaws.{covers-between, get_or-items_of, length-between, length-items_of, nullability_of-between}
 use Rattle.fl_codec.proofs.FrameColumns.{items_of-table}
 use Rattle.fl_plain.proofs.ListLaws.{all_at}
-use Rattle.fl_codec.specs.Chunks.{chunk}
+use Rattle.fl_codec.specs.Chunks.{chunk, chunks_of}
 use Rattle.fl_codec.proofs.FillingLaws.{get_or-chunk}
 use Rattle.fl_codec.specs.Parts.{RunParts, items_of_plain}
-use Rattle.fl_codec.specs.RunColumns.{IsChunk, are_run_indices, are_run_offsets, chunk_end, chunk_start, is_chunk_of_runs, is_run_index, is_run_index_type, run_column, run_count, run_integer, run_item, run_offsets_of, runs_refusal}
+use Rattle.fl_codec.specs.RunColumns.{IsChunk, IsRunChunk, are_run_indices, are_run_offsets, chunk_end, chunk_start, is_chunk_of_runs, is_run_index, is_run_index_type, run_column, run_count, run_integer, run_item, run_offsets_of, runs_refusal}
 
 -- ---- numbers that are read
 pub numbers_at : (c : Column) (i : ℕ) (x : Option ℤ) → i < length c.items → x ≡ get_or c.items i None → unsigned_abs (unwrap_or x (pos 0)) ≡ get_or (numbers_of c) i 0
@@ -148,6 +148,20 @@ sound parts offset len indices_covered offsets_covered e =
       shown = ltb-false total (offset + len) h.0;
       whole = whole;
       chunks = λ n l. is_chunk indices offsets count n (not-false _ j.0) (not-false _ k.0) (rw (long, each) whole) (rw each l);
+    }
+
+-- the chunks of the items that are shown
+pub shown_chunk : (parts : RunParts) (offset len : ℕ) → AreRuns parts offset len → (k : ℕ) → k < chunks_of (offset + len) → IsRunChunk (length parts.values.slots) parts.indices parts.offsets k
+shown_chunk parts offset len fine k h =
+    let shown = fine.shown in
+    let whole = fine.whole in
+    let within : k < length parts.offsets.slots = omega arith in
+    record {
+      index_type = fine.indices;
+      offset_type = fine.offsets;
+      full = omega arith;
+      range = within;
+      chunk = fine.chunks k within;
     }
 
 -- ---- the items that are shown

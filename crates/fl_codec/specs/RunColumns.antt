@@ -7,10 +7,10 @@ use Rattle.fl_types.specs.declared.dtype.DType.TheVariants.{Primitive}
 use Rattle.fl_types.specs.declared.error.FastLanesError.{FastLanesError}
 use Rattle.fl_types.specs.declared.error.FastLanesError.TheVariants.{BlockOffsetsCount, BlockOffsetsType, ChildLength, ChildNullable, OffsetTooLarge, RangeBeyondChild, RunIndex, RunIndexType, RunOffsets}
 use Rattle.fl_types.specs.Bits.{table}
-use Rattle.fl_types.specs.Integers.{same_ptype}
+use Rattle.fl_types.specs.Integers.{is_unsigned, same_ptype}
 use Rattle.fl_types.specs.Types.{can_be_null, is_index_type}
 use Rattle.fl_types.specs.Validities.{nullability_of}
-use Rattle.fl_plain.specs.Columns.{Column, column_of_plain, numbers_of, option_all}
+use Rattle.fl_plain.specs.Columns.{Column, Plain, column_of_plain, numbers_of, option_all}
 use Rattle.fl_codec.specs.Chunks.{chunk}
 use Rattle.fl_codec.specs.Parts.{RunParts, items_of_plain}
 
@@ -91,3 +91,11 @@ pub record IsChunk (count : ℕ) (indices : List (Option ℤ)) (offsets : List �
   pub few : run_count offsets count k ≤ 1024
   pub within : chunk_end offsets count k ≤ count
   pub named : (q : ℕ) → q < 1024 → IsTrue (is_run_index (run_count offsets count k) (slice_index_or indices (1024 * k + q) None))
+
+-- indices and offsets are unsigned, each has what chunk k needs, and the chunk is such a one
+pub record IsRunChunk (count : ℕ) (indices offsets : Plain) (k : ℕ) : Type 0 where
+  pub index_type : IsTrue (is_unsigned indices.ptype)
+  pub offset_type : IsTrue (is_unsigned offsets.ptype)
+  pub full : 1024 * (k + 1) ≤ length indices.slots
+  pub range : k < length offsets.slots
+  pub chunk : IsChunk count (items_of_plain indices) (numbers_of (column_of_plain offsets)) k

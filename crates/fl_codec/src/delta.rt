@@ -1,6 +1,6 @@
 //! Columns that are kept as differences along the lanes of blocks of 1024 items.
 
-ghost use Rattle.std.specs.Prelude.{◌≡◌, ◌+◌, ◌*◌, ◌/◌, ◌%◌, ◌<◌, ◌≤◌, ◌++◌, ◌-◌, ◌^◌, ℕ, pos, IsTrue, IfOk, OnOk, Ok, length, map, slice_index_or, take};
+ghost use Rattle.std.specs.Prelude.{◌≡◌, ◌+◌, ◌*◌, ◌/◌, ◌%◌, ◌<◌, ◌≤◌, ◌++◌, ◌-◌, ◌^◌, ℕ, ℤ, pos, IsTrue, IfOk, OnOk, Ok, length, map, min, slice_index_or, take};
 ghost use Rattle.fastlanes.specs.Layout.{pattern_at, place, segment};
 ghost use Rattle.fastlanes.specs.Delta.{summed_item};
 ghost use Rattle.fl_types.specs.Bits.{table};
@@ -174,19 +174,25 @@ fn read_block<T: PhysicalPType>(
     decode_block(block, first_row(row), stored);
 }
 
-/// Adds the items of a block from `low` to below `high`.
+/// Adds the items of block `k` that are among the `len` items from `offset` on.
 pub(crate) fn push_block<T: PhysicalPType>(
     block: &[T::Physical; FL_CHUNK_SIZE],
-    low: usize,
-    high: usize,
+    k: usize,
+    offset: usize,
+    len: usize,
     values: &mut Vec<T>,
 ) -> Result<(), AllocError>
-    requires order { low ≤ high }
-    requires high { high ≤ 1024 }
-    ensures long { OnOk result (length values.new.items ≡ length values.old.items + (high - low)) }
-    ensures values { OnOk result (map T.value values.new.items ≡ map T.value values.old.items ++ table (λ i. read_as T.PTYPE (pattern_at T.Physical.pattern block.now (low + i))) (high - low)) }
+    requires offset { offset < 1024 }
+    requires few { offset + len < 2 ^ 64 }
+    requires block { k < chunks_of (offset + len) }
+    requires long { length values.old.items ≡ min (1024 * k) (offset + len) - offset }
+    ensures long { OnOk result (length values.new.items ≡ min (1024 * (k + 1)) (offset + len) - offset) }
+    ensures items { OnOk result ((item : ℕ → ℤ) → ((q : ℕ) → q < 1024 → read_as T.PTYPE (pattern_at T.Physical.pattern block.now q) ≡ item (1024 * k + q)) → map T.value values.old.items ≡ table (λ i. item (offset + i)) (length values.old.items) → map T.value values.new.items ≡ table (λ i. item (offset + i)) (length values.new.items)) }
 {
     let words = &block[..];
+    let start = FL_CHUNK_SIZE * k;
+    let low = offset + values.len() - start;
+    let high = (offset + len - start).min(FL_CHUNK_SIZE);
     push_values(&words[low..high], values)
 }
 
@@ -211,10 +217,7 @@ fn decompress_typed<T: PhysicalPType>(
     let mut stored = [T::Physical::zero(); FL_CHUNK_SIZE];
     for j in 0..chunk_count(offset + len) {
         read_block(bases, deltas, j, &mut row, &mut block, &mut stored);
-        let start = FL_CHUNK_SIZE * j;
-        let low = offset + values.len() - start;
-        let high = (offset + len - start).min(FL_CHUNK_SIZE);
-        push_block(&block, low, high, &mut values)?;
+        push_block(&block, j, offset, len, &mut values)?;
     }
     Ok(values)
 }
@@ -228,7 +231,7 @@ fn decode_typed<T: PhysicalPType>(
     len: usize,
 ) -> Result<PrimitiveArray, FastLanesError>
     requires bases_typed { bases.now.ptype ≡ T.PTYPE }
-    requires deltas_typed { deltas.now.ptype ≡ T.PTYPE }
+    requires same { deltas.now.ptype ≡ bases.now.ptype }
     requires covers { IsTrue (covers validity.now len) }
     requires offset { offset < 1024 }
     requires few { offset + len < 2 ^ 64 }

@@ -355,7 +355,7 @@ fn decode_typed<T: NativePType + WrappingAdd>(
     reference: PValue,
 ) -> Result<PrimitiveArray, FastLanesError>
     requires same { child.now.ptype ≡ T.PTYPE }
-    requires reference { ptype_of_value reference ≡ T.PTYPE }
+    requires reference { ptype_of_value reference ≡ child.now.ptype }
     ensures { Answers column_of_plain result (Ok (global_frame (integer_of reference) (column_of_plain child.now))) }
 {
     let reference = T::from_pvalue(reference).unwrap();
@@ -385,7 +385,7 @@ fn decode_chunked_typed<T: NativePType + WrappingAdd>(
     offset: usize,
 ) -> Result<PrimitiveArray, FastLanesError>
     requires same { child.now.ptype ≡ T.PTYPE }
-    requires references { references.now.ptype ≡ T.PTYPE }
+    requires references { references.now.ptype ≡ child.now.ptype }
     requires few { offset + length child.now.slots < 2 ^ 64 }
     requires enough { chunks_of (offset + length child.now.slots) ≤ length references.now.slots }
     ensures { Answers column_of_plain result (Ok (chunked_frame references.now.slots offset (column_of_plain child.now))) }

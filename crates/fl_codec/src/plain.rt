@@ -18,8 +18,7 @@ pub(crate) fn under_validity_of<T: NativePType>(
     requires { length slots.items ≡ length array.now.slots }
     ensures { Answers (λ a. a) result (Ok (under_validity_of array.now T.PTYPE (map T.value slots.items))) }
 {
-    let validity = array.validity().try_clone(alloc)?;
-    Ok(PrimitiveArray::new(slots, validity).unwrap())
+    under_validity(alloc, array.validity(), slots)
 }
 
 /// These slots, none of which may be null.
@@ -39,7 +38,7 @@ pub(crate) fn under_validity<T: NativePType>(
     ensures { Answers (λ a. a) result (Ok (record { ptype = T.PTYPE; slots = map T.value slots.items; validity = validity.now })) }
 {
     let validity = validity.try_clone(alloc)?;
-    Ok(PrimitiveArray::new(slots, validity).unwrap())
+    Ok(with_validity(slots, validity))
 }
 
 /// These slots under a validity of their own, which has a bit for each.

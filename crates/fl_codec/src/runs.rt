@@ -12,7 +12,7 @@ ghost use Rattle.fl_types.specs.Validities.{covers};
 ghost use Rattle.fl_plain.specs.Columns.{column_of_plain, numbers_of};
 ghost use Rattle.fl_codec.specs.Chunks.{chunks_of};
 ghost use Rattle.fl_codec.specs.Parts.{encode_runs, items_of_plain, run_parts};
-ghost use Rattle.fl_codec.specs.RunColumns.{IsChunk, chunk_end, chunk_start, is_run_index, run_column, run_integer, runs_refusal};
+ghost use Rattle.fl_codec.specs.RunColumns.{IsRunChunk, chunk_end, chunk_start, is_run_index, run_column, run_integer, runs_refusal};
 ghost use Rattle.fl_codec.specs.Runs.{indices_to, run_validity, values_to};
 
 use crate::chunks::chunk_count;
@@ -242,11 +242,7 @@ fn read_chunk<T: PhysicalPType>(
     block: &mut [T::Physical; FL_CHUNK_SIZE],
 )
     requires fits { IsTrue (list_all (fits T.PTYPE) (map T.value values.now)) }
-    requires indices { IsTrue (is_unsigned indices.now.ptype) }
-    requires offsets { IsTrue (is_unsigned offsets.now.ptype) }
-    requires range { k < length offsets.now.slots }
-    requires full { 1024 * (k + 1) ≤ length indices.now.slots }
-    requires sound { IsChunk (length values.now) (items_of_plain indices.now) (numbers_of (column_of_plain offsets.now)) k }
+    requires sound { IsRunChunk (length values.now) indices.now offsets.now k }
     ensures items { (q : ℕ) → q < 1024 → read_as T.PTYPE (pattern_at T.Physical.pattern block.new q) ≡ run_integer (map T.value values.now) (items_of_plain indices.now) (numbers_of (column_of_plain offsets.now)) (1024 * k + q) }
     ensures whole { length block.new ≡ 1024 }
 {
@@ -270,11 +266,7 @@ fn decode_items<T: PhysicalPType>(
     requires offset { offset < 1024 }
     requires few { offset + len < 2 ^ 64 }
     requires fits { IsTrue (list_all (fits T.PTYPE) (map T.value values.now)) }
-    requires indices { IsTrue (is_unsigned indices.now.ptype) }
-    requires offsets { IsTrue (is_unsigned offsets.now.ptype) }
-    requires range { chunks_of (offset + len) ≤ length offsets.now.slots }
-    requires full { 1024 * chunks_of (offset + len) ≤ length indices.now.slots }
-    requires sound { (k : ℕ) → k < chunks_of (offset + len) → IsChunk (length values.now) (items_of_plain indices.now) (numbers_of (column_of_plain offsets.now)) k }
+    requires sound { (k : ℕ) → k < chunks_of (offset + len) → IsRunChunk (length values.now) indices.now offsets.now k }
     ensures long { IfOk result (λ v. length v.items ≡ len) }
     ensures items { IfOk result (λ v. map T.value v.items ≡ table (λ i. run_integer (map T.value values.now) (items_of_plain indices.now) (numbers_of (column_of_plain offsets.now)) (offset + i)) len) }
 {
@@ -293,10 +285,7 @@ fn decode_items<T: PhysicalPType>(
             &mut numbers,
             &mut block,
         );
-        let start = FL_CHUNK_SIZE * k;
-        let low = offset + items.len() - start;
-        let high = (offset + len - start).min(FL_CHUNK_SIZE);
-        push_block(&block, low, high, &mut items)?;
+        push_block(&block, k, offset, len, &mut items)?;
     }
     Ok(items)
 }

@@ -1,3 +1,4 @@
+mod Embedded
 mod FieldRows
 mod SchemaSteps
 mod WrittenGroups

@@ -1,12 +1,12 @@
 -- A message as a loop from the front reads it: the values so far, and what the rest adds to them.
-use Rattle.std.proofs.Common.{◌≡◌, ◌≢◌, ℕ, zero, suc, ◌+◌, ◌<◌, ◌≤◌, Bool, true, false, List, [], ◌∷◌, length, get_or, replicate, Option, Some, None, Result, Ok, Err, refl, sym, ap, subst, ◌∙◌, arith, inl, inr, get_or-set_same, get_or-set_other}
+use Rattle.std.proofs.Common.{◌≡◌, ◌≢◌, ◌==◌, ℕ, zero, suc, ◌+◌, ◌<◌, ◌≤◌, Bool, true, false, List, [], ◌∷◌, length, get_or, replicate, Option, Some, None, Result, Ok, Err, refl, sym, ap, subst, ◌∙◌, arith, inl, inr, get_or-set_same, get_or-set_other}
 use Rattle.std.specs.Prelude.{option_map, option_and_then, ok_or, unwrap_or, if◌then◌else◌, ◌&&◌}
 use Rattle.std.specs.List.{list_all, range_with_len}
 use Rattle.std.specs.Option.{option_or}
 use Rattle.std.proofs.Math.ListN.{set}
 use Rattle.std.proofs.lemmas.Bool.Decides.{nat_tests}
 use Rattle.std.proofs.lemmas.Bool.{cases_lt, cases_eq, ne_eqb, eq-eqb}
-use Rattle.std.proofs.lemmas.List.{length-set, get_or-replicate, get_or_past}
+use Rattle.std.proofs.lemmas.List.{length-set, get_or-replicate, get_or_past, nil_from_length}
 use Rattle.std.proofs.lemmas.List.FromFn.{fill_by_all}
 use Rattle.fl_types.specs.declared.error.FastLanesError.{FastLanesError}
 use Rattle.fl_types.specs.declared.error.FastLanesError.TheVariants.{BadMetadata}
@@ -72,6 +72,13 @@ told schema v fs = if has_kinds schema fs then (if are_within schema (gathered v
 -- the values so far, and what the rest of the text adds to them
 unfoldable pub after : List Kind → Table → List ℕ → Result Table FastLanesError
 after schema v bytes = ok_or (option_and_then (told schema v) (fields_of bytes)) BadMetadata
+
+pub some_left : (bytes : List ℕ) → false ≡ (length bytes == 0) → 0 < length bytes
+some_left [] e = absurd (cc)
+some_left (b ∷ bs) e = omega arith
+
+pub none_left : (bytes : List ℕ) → true ≡ (length bytes == 0) → bytes ≡ []
+none_left bytes e = nil_from_length bytes (grind (arith, nat_tests, e))
 
 pub after_starts : (schema : List Kind) (bytes : List ℕ) → after schema blank bytes ≡ values_of schema bytes
 unfolding after values_of said

@@ -120,6 +120,10 @@ abbrev pub embedded_patches : Option (List (Option Payload)) → Result (Option 
 embedded_patches None = Ok None
 embedded_patches (Some values) = patches_in values >>= λ patches. Ok (Some patches)
 
+-- the patches that the text of an embedded message says, where it is there
+abbrev pub embedded_of : Option (List ℕ) → Result (Option PatchesMetadata) FastLanesError
+embedded_of text = embedded_values text >>= embedded_patches
+
 -- the one text of a patches message
 abbrev pub patches_text : PatchesMetadata → List ℕ
 patches_text m = text_of (patches_slots m)

@@ -1,3 +1,4 @@
+mod Answered
 mod Filters
 mod Runs
 mod Truths

@@ -83,6 +83,12 @@ even_within bits width count size narrow room = record {
   narrow = λ j h. narrow;
 }
 
+-- each of so many blocks ends within the bytes
+pub block_within : (width count len j : ℕ) → j < count → 128 * width * count ≤ len → 128 * width * (j + 1) ≤ len
+block_within width count len j h room =
+    let before : 128 * width * (j + 1) ≤ 128 * width * count = mul-le-mul_left (128 * width) (omega arith) in
+    omega arith
+
 -- ---- blocks between boundaries
 each_next_at : (test : ℕ → ℕ → Bool) (xs : List ℕ) (i : ℕ) → each_next test xs ≡ true → i + 1 < length xs → test (get_or xs i 0) (get_or xs (i + 1) 0) ≡ true
 each_next_at test [] i e h = absurd (omega arith)

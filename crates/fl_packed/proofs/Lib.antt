@@ -1,6 +1,5 @@
 pub mod Bounds
 pub mod ColumnLaws
-pub mod Examples
 pub mod FoundBelow
 pub mod Gathered
 pub mod Joined

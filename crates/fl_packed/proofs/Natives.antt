@@ -5,7 +5,7 @@ use Rattle.std.proofs.Math.Pow.{pow_mono}
 use Rattle.std.proofs.lemmas.Bool.{cases_eq}
 use Rattle.std.proofs.lemmas.List.{get_or-map, length-map, get_or-take, get_or_past, map-set, get_or-set_same, get_or-set_other}
 use Rattle.std.specs.Int.{bit_at}
-use Rattle.fastlanes.specs.Layout.{pattern_at, place, Packed, unpacked_item, unpacked_bits, word_at, IsWordWidth, bits_8, bits_16, bits_32, bits_64}
+use Rattle.fastlanes.specs.Layout.{pattern_at, place, Packed, row_of, words_of_item, unpacked_item, unpacked_bits, word_at, IsWordWidth, bits_8, bits_16, bits_32, bits_64}
 use Rattle.fastlanes.proofs.BitSums.{from_bits_below}
 use Rattle.fastlanes.proofs.Blocks.{packed_bit_small}
 use Rattle.fastlanes.proofs.Bijection.{place_read}
@@ -31,6 +31,17 @@ word_width I8 = bits_8
 word_width I16 = bits_16
 word_width I32 = bits_32
 word_width I64 = bits_64
+
+-- a type has 8 to 64 bits
+pub bits_range : (ptype : PType) → (8 ≤ bits_of_type ptype) × (bits_of_type ptype ≤ 64)
+bits_range U8 = (omega arith, omega arith)
+bits_range U16 = (omega arith, omega arith)
+bits_range U32 = (omega arith, omega arith)
+bits_range U64 = (omega arith, omega arith)
+bits_range I8 = (omega arith, omega arith)
+bits_range I16 = (omega arith, omega arith)
+bits_range I32 = (omega arith, omega arith)
+bits_range I64 = (omega arith, omega arith)
 
 -- the pattern 0 is the integer 0
 pub zero_read : (ptype : PType) → read_as ptype 0 ≡ pos 0
@@ -185,6 +196,11 @@ block_item_read pattern ptype T lanes width patterns bytes i w z shape bits h is
     let same : lanes ≡ lanes_of_type ptype = lanes_is ptype T lanes shape bits in
     read ∙ (ap (read_as ptype) (sym (pattern_at_read pattern patterns i w (rw long h) is) ∙ each i h)
     ∙ (ap (λ (t : ℕ). read_as ptype (unpacked_item t lanes width (word_at t bytes) i)) bits ∙ ap (λ (n : ℕ). read_as ptype (unpacked_item (bits_of_type ptype) n width (word_at (bits_of_type ptype) bytes) i)) same))
+
+-- the words that an item takes, by its type
+pub item_words : (ptype : PType) (T lanes width index : ℕ) → IsWordWidth T lanes → T ≡ bits_of_type ptype → words_of_item T width (row_of lanes index) ≡ words_of_item (bits_of_type ptype) width (row_of (lanes_of_type ptype) index)
+item_words ptype T lanes width index shape bits =
+    ap (λ (t : ℕ). words_of_item t width (row_of lanes index)) bits ∙ ap (λ (n : ℕ). words_of_item (bits_of_type ptype) width (row_of n index)) (lanes_is ptype T lanes shape bits)
 
 pub block_item_is : (ptype : PType) (T lanes width : ℕ) (bytes : List ℕ) (i p : ℕ) (z : ℤ) → IsWordWidth T lanes → T ≡ bits_of_type ptype → p ≡ unpacked_item T lanes width (word_at T bytes) i → z ≡ read_as ptype p → z ≡ block_item ptype width bytes i
 unfolding block_item

@@ -1,8 +1,8 @@
 -- Blocks of packed words behind each other.
-use Rattle.std.proofs.Common.{◌≡◌, ℕ, ℤ, pos, ◌+◌, ◌*◌, ◌^◌, ◌<◌, ◌≤◌, List, ◌++◌, length, map, get_or, take, drop, ap, sym, ◌∙◌, subst, arith, inl, inr, length-append, length-take}
+use Rattle.std.proofs.Common.{◌≡◌, ℕ, ℤ, pos, ◌+◌, ◌*◌, ◌^◌, ◌<◌, ◌≤◌, List, [], ◌∷◌, ◌++◌, length, map, get_or, take, drop, ap, sym, ◌∙◌, subst, arith, inl, inr, append_assoc, length-append, length-take}
 use Rattle.std.proofs.Math.Nat.{mul-le-mul_left}
 use Rattle.std.proofs.lemmas.Bool.{cases_eq}
-use Rattle.std.proofs.lemmas.List.{get_or-map, length-map, get_or_append_left, get_or-append-add}
+use Rattle.std.proofs.lemmas.List.{get_or-map, length-map, map-append, take_more, get_or_append_left, get_or-append-add}
 use Rattle.std.proofs.lemmas.Simd.{map-map}
 use Rattle.fastlanes.specs.Layout.{Packed, pattern_at, IsWordWidth}
 use Rattle.fastlanes.proofs.Blocks.{packed_by_words}
@@ -22,7 +22,21 @@ front_words T lanes width n words front shape narrow named long is =
     let taken = length-take (width * n) words in
     omega arith
 
+-- the words of one more block have room
+pub block_fits : (size j count n room : ℕ) → n ≡ size * j → size * count ≤ room → j < count → n + size ≤ room
+block_fits size j count n room is all h =
+    let within : size * (j + 1) ≤ size * count = mul-le-mul_left size (omega arith) in
+    let next : size * (j + 1) ≡ size * j + size = grind arith in
+    omega arith
+
 -- ---- words that are added
+-- one more word, as an integer
+pub word_pushed : {W X : Type 0} (value : X → ℤ) (read : W → ℤ) (before : List ℤ) (old new : List X) (x : X) (words : List W) (i : ℕ) (w : W) → new ≡ old ++ x ∷ [] → value x ≡ read w → i < length words → w ≡ get_or words i w
+    → map value old ≡ before ++ map read (take i words) → map value new ≡ before ++ map read (take (i + 1) words)
+word_pushed value read before old new x words i w is same h there done =
+    let more : map read (take (i + 1) words) ≡ map read (take i words) ++ read w ∷ [] = ap (map read) (take_more words i w h) ∙ (map-append read (take i words) (get_or words i w ∷ []) ∙ ap (λ v. map read (take i words) ++ read v ∷ []) (sym there)) in
+    ap (map value) is ∙ (map-append value old (x ∷ []) ∙ rw (done, same, more) (append_assoc before (map read (take i words)) (read w ∷ [])))
+
 pub words_more : {W X : Type 0} (pattern : W → ℕ) (value : X → ℤ) (ptype : PType) (old new : List X) (words : List W) → map value new ≡ map value old ++ map (λ w. read_as ptype (pattern w)) words → length new ≡ length old + length words
 words_more pattern value ptype old new words added =
     sym (length-map new value) ∙ (ap length added ∙ (length-append (map value old) (map (λ w. read_as ptype (pattern w)) words) ∙ (ap (λ (n : ℕ). n + length (map (λ w. read_as ptype (pattern w)) words)) (length-map old value) ∙ ap (λ (n : ℕ). length old + n) (length-map words (λ w. read_as ptype (pattern w))))))

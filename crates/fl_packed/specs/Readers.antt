@@ -39,13 +39,21 @@ pub record IsReader (bits : ℕ) (packed : List ℕ) (bit_width offset len : ℕ
 abbrev pub unpacked_one : Reader → Reader
 unpacked_one r = record r { work = one_more r.work }
 
--- the first block lends its items by itself: it is cut in front, or the only one
-abbrev pub has_initial : Reader → Bool
-has_initial r = nat_lt 0 r.offset || (blocks_read r == 1)
+-- the first block of so many items from an offset on lends its items by itself: it is cut in front, or the only one
+abbrev pub lends_first : ℕ → ℕ → Bool
+lends_first offset len = nat_lt 0 offset || (chunk_count (offset + len) == 1)
 
 -- the last block lends its items by itself: it is cut behind, and not the only one
+abbrev pub lends_last : ℕ → ℕ → Bool
+lends_last offset len = nat_lt 1 (chunk_count (offset + len)) && nat_lt 0 ((offset + len) % 1024)
+
+-- the same of a reader's first block
+abbrev pub has_initial : Reader → Bool
+has_initial r = lends_first r.offset r.len
+
+-- the same of a reader's last block
 abbrev pub has_trailer : Reader → Bool
-has_trailer r = nat_lt 1 (blocks_read r) && nat_lt 0 ((r.offset + r.len) % 1024)
+has_trailer r = lends_last r.offset r.len
 
 -- the items that the first block lends by itself
 abbrev pub initial_items : PType → Reader → Option (List ℤ)

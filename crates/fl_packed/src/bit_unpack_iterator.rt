@@ -5,7 +5,7 @@ ghost use Rattle.std.specs.Borrow.{sem};
 ghost use Rattle.fl_types.specs.Integers.{bits_of_type};
 
 use crate::bit_packed::{BitCount, BitPacked};
-use crate::unpack_iter::block_at;
+use crate::unpack_iter::even_block;
 use fastlanes::{FL_CHUNK_SIZE, Work};
 use std::marker::Model;
 
@@ -99,11 +99,7 @@ impl<'a, T: BitPacked> BitUnpackIterator<'a, T> {
         ensures items { map T.value result.now ≡ items_at T.PTYPE self.old.bit_width self.old.packed (1024 * self.old.next) 1024 }
     {
         T::fits_in_memory();
-        let block = block_at(
-            self.packed,
-            FL_CHUNK_SIZE / 8 * self.bit_width * self.next,
-            self.bit_width,
-        );
+        let block = even_block(self.packed, self.bit_width, self.next);
         T::unpack_block(self.bit_width, block, &mut self.buffer, &mut self.work);
         self.next += 1;
         &mut self.buffer

@@ -1,6 +1,6 @@
 //! The boundaries of blocks that each have a width.
 
-ghost use Rattle.std.specs.Prelude.{◌≡◌, ◌*◌, ◌<◌, ◌^◌, ◌++◌, ◌∷◌, [], IfOk, Ok, OnOk, SomeIff, sum};
+ghost use Rattle.std.specs.Prelude.{◌≡◌, ◌*◌, ◌<◌, ◌^◌, [], IfOk, Ok, SomeIff, length, sum, vec_capacity};
 ghost use Rattle.fl_types.specs.Refusals.{Answers};
 ghost use Rattle.fl_packed.specs.Blocks.{boundaries_of, boundary_array};
 
@@ -28,22 +28,24 @@ fn boundary_numbers(alloc: Global, widths: &[u8]) -> Result<Vec<u64>, AllocError
     requires { 128 * sum widths.now < 2 ^ 64 }
     ensures { IfOk result (λ v. v.items ≡ boundaries_of widths.now) }
 {
-    let mut boundaries = Vec::with_capacity(alloc, widths.len().saturating_add(1))?;
-    let mut start = 0u64;
-    for width in widths {
-        push_number(&mut boundaries, start)?;
-        start += 128 * *width as u64;
-    }
-    push_number(&mut boundaries, start)?;
+    let mut boundaries = Vec::with_capacity(alloc, widths.len() + 1)?;
+    put_boundaries(widths, &mut boundaries);
     Ok(boundaries)
 }
 
-/// Adds a number.
-fn push_number(numbers: &mut Vec<u64>, number: u64) -> Result<(), AllocError>
-    ensures { OnOk result (numbers.new.items ≡ numbers.old.items ++ number ∷ []) }
+/// Fills an empty list, in which there is room, with the sums of `128 * width`, from 0 on.
+fn put_boundaries(widths: &[u8], boundaries: &mut Vec<u64>)
+    requires small { 128 * sum widths.now < 2 ^ 64 }
+    requires empty { boundaries.old.items ≡ [] }
+    requires room { length widths.now < vec_capacity boundaries.old }
+    ensures { boundaries.new.items ≡ boundaries_of widths.now }
 {
-    numbers.push(number)?;
-    Ok(())
+    let mut start = 0u64;
+    for width in widths {
+        boundaries.push_reserved(start);
+        start += 128 * *width as u64;
+    }
+    boundaries.push_reserved(start);
 }
 
 /// The boundaries of blocks of these widths, which have so many bytes, as an array of the smallest

@@ -15,7 +15,9 @@ ghost use Rattle.fl_packed.specs.Widths.{blocks_of, NamesAll};
 use crate::bit_packed::BitPacked;
 use crate::blocks::{Widths, chunk_count};
 use crate::patching::put_patches;
-use crate::unpack_iter::{BitPackingStrategy, block_at, count_fits, part_of, unpack_part};
+use crate::unpack_iter::{
+    BitPackingStrategy, block_at, count_fits, even_block, part_of, unpack_part,
+};
 use fastlanes::{FL_CHUNK_SIZE, FastLanes, Work, unpack_single};
 use fl_patches::Patches;
 use fl_plain::{PhysicalPType, PrimitiveArray};
@@ -67,8 +69,7 @@ pub fn unpack_single_primitive<T: PhysicalPType>(packed: &[u8], width: usize, i:
     requires room { 128 * width * (i / 1024 + 1) ≤ length packed.now }
     ensures { T.value result ≡ item_of_blocks T.PTYPE (even_blocks width) packed.now i }
 {
-    let size = FL_CHUNK_SIZE / 8 * width;
-    let block = block_at(packed, size * (i / FL_CHUNK_SIZE), width);
+    let block = even_block(packed, width, i / FL_CHUNK_SIZE);
     let mut work = Work::new();
     unpack_block_item(width, block, i % FL_CHUNK_SIZE, &mut work)
 }

@@ -1,10 +1,11 @@
 //! Reading packed columns block by block.
 
-ghost use Rattle.std.specs.Prelude.{◌≡◌, ◌+◌, ◌-◌, ◌*◌, ◌<◌, ◌≤◌, ◌^◌, ℕ, None, Some, SomeIff, length, map, min};
+ghost use Rattle.std.specs.Prelude.{◌≡◌, ◌+◌, ◌-◌, ◌*◌, ◌<◌, ◌≤◌, ◌^◌, ℕ, None, Some, SomeIff, length, map, min, if◌then◌else◌};
 ghost use Rattle.fl_types.specs.Bits.{between};
 ghost use Rattle.fl_types.specs.Integers.{bits_of_type};
 ghost use Rattle.fl_patches.specs.PatchMaps.{chunk_count};
-ghost use Rattle.fl_packed.specs.Blocks.{AreWithin, block_item, even_blocks, item_of_blocks, value_at};
+ghost use Rattle.fl_packed.specs.Blocks.{AreWithin, block_item, bytes_of_block, even_blocks, item_of_blocks, value_at};
+ghost use Rattle.fl_packed.specs.Readers.{lends_first, lends_last};
 ghost use Rattle.fl_packed.specs.Widths.{blocks_of, NamesAll};
 
 pub use crate::bit_packed::{BitCount, BitPacked};
@@ -60,6 +61,15 @@ pub(crate) fn block_at(packed: &[u8], start: usize, width: usize) -> &[u8]
 {
     let size = FL_CHUNK_SIZE / 8 * width;
     &packed[start..start + size]
+}
+
+/// The bytes of block `j`, where all blocks have one width.
+pub(crate) fn even_block(packed: &[u8], width: usize, j: usize) -> &[u8]
+    requires { 128 * width * (j + 1) ≤ length packed.now }
+    ensures bytes { result.now ≡ bytes_of_block (even_blocks width) packed.now j }
+    ensures long { length result.now ≡ 128 * width }
+{
+    block_at(packed, FL_CHUNK_SIZE / 8 * width * j, width)
 }
 
 /// Writes the items of a block from position `low` on. A whole block is unpacked straight into its
@@ -194,11 +204,7 @@ impl<'a, T: BitPacked, S: UnpackStrategy<T> + Drop> UnpackedChunks<'a, T, S> {
         ensures items { integers_lent T.value result ≡ Some (items_at T.PTYPE self.old.bit_width self.old.packed (1024 * j + span.from) (span.to - span.from)) }
     {
         T::fits_in_memory();
-        let block = block_at(
-            self.packed,
-            FL_CHUNK_SIZE / 8 * self.bit_width * j,
-            self.bit_width,
-        );
+        let block = even_block(self.packed, self.bit_width, j);
         self.strategy
             .unpack_chunk(self.bit_width, block, self.scratch, &mut self.work);
         UnpackedItems {
@@ -322,20 +328,31 @@ impl<'a, T: BitPacked> UnpackedChunks<'a, T, BitPackingStrategy> {
     pub fn full_chunks(&self) -> BitUnpackIterator<'_, T>
         ensures { result ≡ whole_blocks self.now }
     {
-        let end = self.offset + self.len;
-        let blocks = chunk_count(end);
-        let starts_cut = self.offset != 0 || blocks == 1;
-        let ends_cut = end % FL_CHUNK_SIZE != 0 && blocks > 1;
+        let (starts_cut, end) = whole_part(self.offset, self.len);
         BitUnpackIterator::new(
             self.packed,
             [T::zero(); FL_CHUNK_SIZE],
             self.bit_width,
             FL_CHUNK_SIZE * self.bit_width / T::TYPE_BITS,
-            blocks - usize::from(ends_cut),
+            end,
             starts_cut,
             Work::new(),
         )
     }
+}
+
+/// Which blocks neither the first nor the last one lends by itself: whether they begin at the second
+/// one, and where they end.
+fn whole_part(offset: usize, len: usize) -> (bool, usize)
+    requires { offset + len < 2 ^ 64 }
+    ensures first { result.0 ≡ lends_first offset len }
+    ensures end { result.1 ≡ chunk_count (offset + len) - (if lends_last offset len then 1 else 0) }
+{
+    let end = offset + len;
+    let blocks = chunk_count(end);
+    let starts_cut = offset != 0 || blocks == 1;
+    let ends_cut = end % FL_CHUNK_SIZE != 0 && blocks > 1;
+    (starts_cut, blocks - usize::from(ends_cut))
 }
 
 /// How many whole blocks hold so many items from the offset on, unless their positions are more than

@@ -60,7 +60,7 @@ fn pack_words<T: PhysicalPType>(
     width: usize,
     total: usize,
 ) -> Result<Vec<T>, AllocError>
-    requires width { width ≤ bits_of_type T.PTYPE }
+    requires width { width ≤ T.Physical.T }
     requires total { total ≡ width * T.Physical.LANES * chunk_count (length items.now) }
     ensures { IfOk result (λ v. AreWords T.PTYPE (map T.value items.now) width (map T.value v.items)) }
 {
@@ -68,7 +68,8 @@ fn pack_words<T: PhysicalPType>(
     T::Physical::in_memory();
     let mut patterns = [T::Physical::zero(); FL_CHUNK_SIZE];
     let mut words = [T::Physical::zero(); FL_CHUNK_SIZE];
-    for j in 0..chunk_count(items.len()) {
+    let blocks = chunk_count(items.len());
+    for j in 0..blocks {
         let chunk = chunk_of(items, j);
         push_block(width, chunk, &mut patterns, &mut words, &mut packed);
     }

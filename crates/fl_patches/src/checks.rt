@@ -6,7 +6,7 @@ ghost use Rattle.fl_types.specs.Types.{is_index_type};
 ghost use Rattle.fl_plain.specs.Columns.{column_of_plain, option_all};
 ghost use Rattle.fl_patches.specs.PatchMaps.{are_chunk_offsets, chunk_count, is_index_within, is_rising, numbers, patch_contents_fit, patch_lengths_fit, patch_types_fit, refusal_of};
 
-use crate::indices::{count_below_typed, number_at};
+use crate::indices::{count_in, number_at};
 use fl_plain::PrimitiveArray;
 use fl_types::{FastLanesError, NativePType, Nullability, match_each_integer_ptype};
 
@@ -93,15 +93,17 @@ fn indices_fit(indices: &PrimitiveArray, offset: usize, array_len: usize) -> boo
     )
 }
 
-/// Whether chunk offset `k` is the number of indices below `1024 * k`.
-fn count_chunks<I: NativePType, C: NativePType>(indices: &[I], offsets: &PrimitiveArray) -> bool
+fn are_chunk_offsets_typed<C: NativePType>(
+    indices: &PrimitiveArray,
+    offsets: &PrimitiveArray,
+) -> bool
     requires same { offsets.now.ptype ≡ C.PTYPE }
-    requires rising { IsTrue (is_rising (map unsigned_abs (map I.value indices.now))) }
-    ensures { result ≡ are_chunk_offsets (map unsigned_abs (map I.value indices.now)) (numbers offsets.now) }
+    requires rising { IsTrue (is_rising (numbers indices.now)) }
+    ensures { result ≡ are_chunk_offsets (numbers indices.now) (numbers offsets.now) }
 {
     let offsets = offsets.as_slice::<C>();
     for k in 0..offsets.len() {
-        let count = count_below_typed(indices, 1024 * k as u128);
+        let count = count_in(indices, 1024 * k as u128);
         if number_at(offsets, k) != count as u128 {
             return false;
         }
@@ -109,24 +111,12 @@ fn count_chunks<I: NativePType, C: NativePType>(indices: &[I], offsets: &Primiti
     true
 }
 
-fn are_chunk_offsets_typed<I: NativePType>(
-    indices: &PrimitiveArray,
-    offsets: &PrimitiveArray,
-) -> bool
-    requires same { indices.now.ptype ≡ I.PTYPE }
-    requires rising { IsTrue (is_rising (numbers indices.now)) }
-    ensures { result ≡ are_chunk_offsets (numbers indices.now) (numbers offsets.now) }
-{
-    let indices = indices.as_slice::<I>();
-    match_each_integer_ptype!(offsets.ptype(), count_chunks::<I>(indices, offsets))
-}
-
 /// Whether chunk offset `k` is the number of indices below `1024 * k`.
 fn are_chunk_offsets(indices: &PrimitiveArray, offsets: &PrimitiveArray) -> bool
     requires { IsTrue (is_rising (numbers indices.now)) }
     ensures { result ≡ are_chunk_offsets (numbers indices.now) (numbers offsets.now) }
 {
-    match_each_integer_ptype!(indices.ptype(), are_chunk_offsets_typed(indices, offsets))
+    match_each_integer_ptype!(offsets.ptype(), are_chunk_offsets_typed(indices, offsets))
 }
 
 /// Whether chunk offsets, where there are some, count the indices from 0.

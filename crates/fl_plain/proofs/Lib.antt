@@ -6,4 +6,3 @@ pub mod ItemLaws
 pub mod ListLaws
 pub mod QuestionLaws
 pub mod SelectionLaws
-mod Examples

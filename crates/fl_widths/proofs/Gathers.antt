@@ -18,6 +18,10 @@ use Rattle.fl_widths.specs.Exceptions.{bit_count, bits_of_item, exception, excep
 use Rattle.fl_widths.specs.PatchParts.{AreGathered, HasBlocks, counts_before}
 use Rattle.fl_widths.proofs.BitCounts.{bit_count-le}
 use Rattle.std.proofs.Common.{IsTrue, ◌/◌}
+use Rattle.fl_patches.specs.PatchMaps.{chunk_count}
+use Rattle.fl_widths.specs.Widths.{Names, NamesAll}
+use Rattle.fl_widths.specs.declared.gathering.Widths.{Widths}
+use Rattle.fl_widths.specs.declared.gathering.Widths.TheVariants.{Even, Each}
 
 -- nothing at a place
 gathered_skip : (places : List ℕ) (values : List ℤ) (before : List (Option ℤ)) → AreGathered places values before → AreGathered places values (before ++ None ∷ [])
@@ -74,6 +78,10 @@ exception_miss t value v xs i w x covered h read few = elim (item_cases value v 
 -- there is an item for each value
 pub covered_values : {X : Type 0} (value : X → ℤ) (v : Validity) (xs : List X) → IsTrue (covers v (length xs)) → length (items_of v (map value xs)) ≡ length xs
 covered_values value v xs covered = length-items_of v (map value xs) (rw length-map covered) ∙ length-map xs value
+
+-- a slice of an array's values has as many bits as the array
+pub covered_slice : {X : Type 0} (value : X → ℤ) (v w : Validity) (xs : List X) (slots : List ℤ) → map value xs ≡ slots → w ≡ v → IsTrue (covers v (length slots)) → IsTrue (covers w (length xs))
+covered_slice value v w xs slots same valid covered = let len : length slots ≡ length xs = sym (ap length same) ∙ length-map xs value in rw (valid, ← len) covered
 
 -- ---- a part of the items
 no_places : {A : Type 0} (n : ℕ) (xs : List (Option A)) → ((i : ℕ) → i < length xs → get_or xs i None ≡ None) → (places_from n xs ≡ []) × (values_in xs ≡ [])
@@ -232,6 +240,15 @@ blocks_pushed t value v xs width_at w block size had places places' values value
 -- the width of a place in a block
 pub block_of_place : (widths : List ℕ) (block w i : ℕ) → w ≡ get_or widths block 0 → 1024 * block ≤ i → i < 1024 * (block + 1) → get_or widths (i / 1024) 0 ≡ w
 block_of_place widths block w i is low high = let same : i / 1024 ≡ block = omega arith in rw same (sym is)
+
+-- each block has a width
+pub named_at : (widths : Widths) (n block : ℕ) → NamesAll widths (chunk_count n) → block < chunk_count n → Names widths block
+named_at (Even width) n block all h = tt
+named_at (Each widths) n block all h = omega arith
+
+-- so are those of a slice of an array's values
+pub named_slice : {X : Type 0} (value : X → ℤ) (widths : Widths) (xs : List X) (slots : List ℤ) → map value xs ≡ slots → NamesAll widths (chunk_count (length slots)) → NamesAll widths (chunk_count (length xs))
+named_slice value widths xs slots same all = let len : length slots ≡ length xs = sym (ap length same) ∙ length-map xs value in subst (λ n. NamesAll widths (chunk_count n)) len all
 
 -- all exceptions are found
 pub all_found : {X : Type 0} (t : PType) (value : X → ℤ) (v : Validity) (xs : List X) (width_at : ℕ → ℕ) (block : ℕ) (places : List ℕ) (values : List ℤ) (offsets : List ℕ) → IsTrue (covers v (length xs)) → length xs ≤ 1024 * block

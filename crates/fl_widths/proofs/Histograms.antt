@@ -53,6 +53,10 @@ count_append t xs ys b = sum_by-append (λ (x : Option ℤ). cond (bits_of_item 
 pub histogram_none : (t : PType) (entries : List ℕ) → length entries ≡ bits_of_type t + 1 → ((b : ℕ) → b < length entries → get_or entries b 0 ≡ 0) → entries ≡ histogram_of t []
 histogram_none t entries long zeros = histogram_by t [] entries long (λ b h. zeros b (omega arith) ∙ sym (count_with_bits_none t b))
 
+-- the same, of entries that are written as such
+pub histogram_zeros : (t : PType) → replicate (bits_of_type t + 1) 0 ≡ histogram_of t []
+histogram_zeros t = histogram_none t (replicate (bits_of_type t + 1) 0) (length-replicate (bits_of_type t + 1) 0) (λ b h. get_or-replicate (bits_of_type t + 1) b 0 0 (omega (arith, length-replicate {A = ℕ})))
+
 -- one item more
 pub histogram_more : (t : PType) (items : List (Option ℤ)) (item : Option ℤ) (entries : List ℕ) (b had : ℕ) → entries ≡ histogram_of t items → b ≡ bits_of_item t item → had ≡ get_or entries b 0 → set entries b (had + 1) ≡ histogram_of t (items ++ item ∷ [])
 histogram_more t items item entries b had so is was =

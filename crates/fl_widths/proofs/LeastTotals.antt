@@ -1,7 +1,7 @@
 -- Best widths, block by block, and what they cost together.
 use Rattle.std.proofs.Common.{◌≡◌, ℕ, ℤ, zero, suc, ◌+◌, ◌-◌, ◌*◌, ◌<◌, ◌≤◌, true, List, [], ◌∷◌, ◌++◌, length, map, take, drop, get_or, set, min, Option, nat_le, IsTrue, refl, ap, sym, subst, ◌∙◌, arith, inl, inr, zero-add}
 use Rattle.std.proofs.lemmas.Bool.{and_from, cases_lt, le-leb, leb-true}
-use Rattle.std.proofs.lemmas.List.{length-append, length-drop, length-take, length-map, take_all, take_at}
+use Rattle.std.proofs.lemmas.List.{length-append, length-drop, length-take, length-map, take_all}
 use Rattle.std.proofs.lemmas.List.FromFn.{get_or-map-range_with_len, length-map-range_with_len, map-range_with_len_more}
 use Rattle.std.proofs.lemmas.List.Sums.{sum_by-cons}
 use Rattle.std.specs.List.{list_all, range_with_len, sum_by}
@@ -10,7 +10,6 @@ use Rattle.fl_types.specs.declared.validity.Validity.{Validity}
 use Rattle.fl_types.specs.Bits.{between}
 use Rattle.fl_types.specs.Integers.{bits_of_type}
 use Rattle.fl_types.specs.Validities.{covers, items_of}
-use Rattle.fl_plain.proofs.ItemLaws.{length-items_of}
 use Rattle.fl_plain.proofs.ListLaws.{all_at}
 use Rattle.fl_patches.specs.PatchMaps.{chunk_count, values_in}
 use Rattle.fl_patches.proofs.Sparse.{values-append}
@@ -108,7 +107,7 @@ exceptions_few t items block =
     let all : List (Option ℤ) = exceptions_of t (width_of_block (best_widths t items)) items in
     omega (arith, values_few (take (1024 * block) all), length-take (1024 * block) all, length-exceptions t (width_of_block (best_widths t items)) items)
 
-pub exceptions_all : (t : PType) (items : List (Option ℤ)) (block : ℕ) → length items ≤ 1024 * block → exceptions_to t items block ≡ length (values_in (exceptions_of t (width_of_block (best_widths t items)) items))
+exceptions_all : (t : PType) (items : List (Option ℤ)) (block : ℕ) → length items ≤ 1024 * block → exceptions_to t items block ≡ length (values_in (exceptions_of t (width_of_block (best_widths t items)) items))
 unfolding exceptions_to
 exceptions_all t items block room =
     let all : List (Option ℤ) = exceptions_of t (width_of_block (best_widths t items)) items in
@@ -154,8 +153,8 @@ unfolding first_widths
 widths_fit t items n = widths_in_range t (λ j. best_width t (block_histogram t items j)) 0 n (λ j. block_fits t items j)
 
 -- those of the answer
-pub chosen_fit : (p : Plain) (t : PType) (items : List (Option ℤ)) (block : ℕ) (widths : List ℕ) → p.ptype ≡ t → widths ≡ first_widths t items block → IsTrue (list_all (λ width. nat_le width (bits_of_type p.ptype)) widths)
-chosen_fit p t items block widths typed best = rw (typed, best) (widths_fit t items block)
+pub chosen_fit : (p : Plain) (t : PType) (items : List (Option ℤ)) (made : ChosenWidths) → p.ptype ≡ t → made ≡ chosen_widths t items → IsTrue (list_all (λ width. nat_le width (bits_of_type p.ptype)) made.widths)
+chosen_fit p t items made typed so = rw (typed, so) (widths_fit t items (chunk_count (length items)))
 
 pub best_least : (t : PType) (entries : List ℕ) (other : ℕ) → other < length entries → cost_of t entries (best_width t entries) ≤ cost_of t entries other
 best_least t entries other h =
@@ -187,29 +186,20 @@ pub cost_least_of : (t p : PType) (items : List (Option ℤ)) (other : List (Opt
 cost_least_of t p items other widths typed same so = rw (typed, same, so) (widths_cost_least t items)
 
 -- ---- the answer
-pub chosen_all : (p : Plain) (t : PType) (w : Validity) (zs : List ℤ) (block : ℕ) (widths : List ℕ) (total : ℕ) → p.ptype ≡ t → w ≡ p.validity → zs ≡ p.slots → length (items_of w zs) ≤ 1024 * block → block ≡ chunk_count (length (items_of w zs))
-    → false ≡ list_any is_negative (items_of w zs) → widths ≡ first_widths t (items_of w zs) block → total ≡ exceptions_to t (items_of w zs) block → choose_widths p ≡ Ok (record { widths = widths; exceptions = total })
-chosen_all p t w zs block widths total typed valid same room last none best counted =
-    let items : List (Option ℤ) = items_of w zs in
-    let of_p : items ≡ items_of p.validity p.slots = rw (valid, same) refl in
+pub chosen_after : (t : PType) (items : List (Option ℤ)) (block : ℕ) (widths : List ℕ) (total : ℕ) → block ≡ chunk_count (length items) → widths ≡ first_widths t items block → total ≡ exceptions_to t items block
+    → record { widths = widths; exceptions = total } ≡ chosen_widths t items
+chosen_after t items block widths total last best counted =
     let all : widths ≡ best_widths t items = best ∙ ap (first_widths t items) last in
-    let sum : total ≡ exception_count t (width_of_block (best_widths t items)) items = counted ∙ exceptions_all t items block room in
-    let made : ChosenWidths = record { widths = widths; exceptions = total } in
-    let chosen : chosen_widths t items ≡ made = rw (all, sum) refl in
-    rw (← of_p, typed, ← none, chosen) refl
+    let sum : total ≡ exception_count t (width_of_block (best_widths t items)) items = counted ∙ exceptions_all t items block (omega arith) in
+    rw (all, sum) refl
+
+pub chosen_all : (p : Plain) (t : PType) (w : Validity) (zs : List ℤ) (made : ChosenWidths) → p.ptype ≡ t → w ≡ p.validity → zs ≡ p.slots → false ≡ list_any is_negative (items_of w zs) → made ≡ chosen_widths t (items_of w zs)
+    → choose_widths p ≡ Ok made
+chosen_all p t w zs made typed valid same none so =
+    let of_p : items_of w zs ≡ items_of p.validity p.slots = rw (valid, same) refl in
+    rw (← of_p, typed, ← none, so) refl
 
 -- the widths of the answer cost least
-pub chosen_least : (p : Plain) (t : PType) (w : Validity) (zs : List ℤ) (block : ℕ) (widths : List ℕ) → p.ptype ≡ t → w ≡ p.validity → zs ≡ p.slots → block ≡ chunk_count (length (items_of w zs)) → widths ≡ first_widths t (items_of w zs) block
-    → CostLeast p.ptype (items_of p.validity p.slots) widths
-chosen_least p t w zs block widths typed valid same last best =
-    cost_least_of t p.ptype (items_of w zs) (items_of p.validity p.slots) widths typed (rw (valid, same) refl) (best ∙ ap (first_widths t (items_of w zs)) last)
-
--- entries that are written back stay as many
-pub room_stays : (n len : ℕ) (made old : List ℕ) → length old ≡ n → len ≡ n → length made ≡ len → length (take len (made ++ drop (length made) old)) ≡ n
-room_stays n len made old long is same = rw (take_at made (drop (length made) old) len same) (same ∙ is)
-
--- there is an item for each stored value
-pub typed_length : {X : Type 0} (value : X → ℤ) (p : Plain) (w : Validity) (xs : List X) → w ≡ p.validity → map value xs ≡ p.slots → IsTrue (covers p.validity (length p.slots)) → length (items_of w (map value xs)) ≡ length xs
-typed_length value p w xs valid same covered =
-    let whole : length (items_of w (map value xs)) ≡ length p.slots = rw (valid, same) (length-items_of p.validity p.slots covered) in
-    whole ∙ (sym (ap length same) ∙ length-map xs value)
+pub chosen_least : (p : Plain) (t : PType) (w : Validity) (zs : List ℤ) (made : ChosenWidths) → p.ptype ≡ t → w ≡ p.validity → zs ≡ p.slots → made ≡ chosen_widths t (items_of w zs)
+    → CostLeast p.ptype (items_of p.validity p.slots) made.widths
+chosen_least p t w zs made typed valid same so = cost_least_of t p.ptype (items_of w zs) (items_of p.validity p.slots) made.widths typed (rw (valid, same) refl) (ap (λ m. m.widths) so)

@@ -8,4 +8,3 @@ pub mod LeastCosts
 pub mod LeastTotals
 pub mod Negatives
 pub mod Patches
-mod Examples

@@ -26,8 +26,8 @@ use Rattle.fl_patches.proofs.Parts.{patches_none, patches_some, sound}
 use Rattle.fl_patches.proofs.Rising.{count-cons}
 use Rattle.fl_patches.proofs.Selected.{answered, same_maps}
 use Rattle.fl_patches.proofs.Sparse.{found_at, numbers_of_places, places_below, places_even, places_rise}
-use Rattle.fl_widths.specs.Exceptions.{exceptions_of}
-use Rattle.fl_widths.specs.PatchParts.{AreChunked, AreGathered, chunk_offsets_of, counts_before, exception_at, exception_patches, patches_with}
+use Rattle.fl_widths.specs.Exceptions.{exceptions_of, one_width}
+use Rattle.fl_widths.specs.PatchParts.{AreChunked, AreGathered, chunk_offsets_of, counts_before, exception_at, exception_patches, global_patches, patches_with}
 use Rattle.fl_widths.proofs.Blocks.{get_or-exceptions, length-exceptions}
 
 -- an array without a null has a bit for each item, or needs none
@@ -152,11 +152,18 @@ exceptions_are index_type width_at p unsigned covered =
     same_maps (exception_patches index_type width_at p) (length p.slots) (λ j. get_or all j None) (exception_at width_at p) (λ i h. get_or-exceptions p.ptype width_at items i (omega (arith, length-exceptions p.ptype width_at items))) (subst of_len count are)
 
 -- the type of global indices
-pub one_more_type : (n : ℕ) → n < 2 ^ 64 → smallest_type (min (n + 1) (2 ^ 64 - 1)) ≡ smallest_type (n + 1)
+one_more_type : (n : ℕ) → n < 2 ^ 64 → smallest_type (min (n + 1) (2 ^ 64 - 1)) ≡ smallest_type (n + 1)
 one_more_type n room = elim (cases_lt (n + 1) (2 ^ 64)) [
   | inl fits ↦ (let same : min (n + 1) (2 ^ 64 - 1) ≡ n + 1 = omega arith in ap smallest_type same)
   | inr last ↦ (let most : n ≡ 2 ^ 64 - 1 = omega arith in rw most refl)
 ]
+
+pub gathered_global : (p : Plain) (width n holds : ℕ) (r : Result (Option PatchMap) FastLanesError) → n ≡ length p.slots → n < 2 ^ 64 → holds ≡ min (n + 1) (2 ^ 64 - 1)
+    → Answers (λ o. o) r (Ok (exception_patches (smallest_type holds) (one_width width) p)) → Answers (λ o. o) r (Ok (global_patches width p))
+gathered_global p width n holds r len room up is =
+    let same : smallest_type holds ≡ smallest_type (length p.slots + 1) = ap smallest_type up ∙ (one_more_type n room ∙ ap (λ m. smallest_type (m + 1)) len) in
+    let answers : PType → Type 0 = λ t. Answers (λ o. o) r (Ok (exception_patches t (one_width width) p)) in
+    subst answers same is
 
 -- places below a number are below a greater one
 pub below_more : (places : List ℕ) (len holds : ℕ) → len ≤ holds → list_all (λ place. nat_lt place len) places ≡ true → list_all (λ place. nat_lt place holds) places ≡ true
@@ -178,12 +185,12 @@ found_of t value v w xs slots width_at places values offsets same valid covered 
     found_chunked t width_at (items_of w (map value xs)) places values offsets (length xs) (length slots) so counted len count
 
 -- they are the patches of the array
-pub found_patches : (p : Plain) (t : PType) (w : Validity) (zs : List ℤ) (index_type other : PType) (width_at : ℕ → ℕ) (places : List ℕ) (values : List ℤ) (r : Result (Option PatchMap) FastLanesError) → p.ptype ≡ t → w ≡ p.validity → zs ≡ p.slots → index_type ≡ other
+pub found_patches : (p : Plain) (t : PType) (w : Validity) (zs : List ℤ) (index_type : PType) (width_at : ℕ → ℕ) (places : List ℕ) (values : List ℤ) (r : Result (Option PatchMap) FastLanesError) → p.ptype ≡ t → w ≡ p.validity → zs ≡ p.slots
     → AreGathered places values (exceptions_of t width_at (items_of w zs))
-    → Answers (λ o. o) r (Ok (patches_with index_type (length p.slots) p.ptype (nullability_of p.validity) places values)) → Answers (λ o. o) r (Ok (exception_patches other width_at p))
-found_patches p t w zs index_type other width_at places values r typed valid same indexed so is =
+    → Answers (λ o. o) r (Ok (patches_with index_type (length p.slots) p.ptype (nullability_of p.validity) places values)) → Answers (λ o. o) r (Ok (exception_patches index_type width_at p))
+found_patches p t w zs index_type width_at places values r typed valid same so is =
     let answers : Option PatchMap → Type 0 = λ o. Answers (λ q. q) r (Ok o) in
-    let e : patches_with index_type (length p.slots) p.ptype (nullability_of p.validity) places values ≡ exception_patches other width_at p = rw (so.placed, so.valued, ← typed, valid, same, indexed) refl in
+    let e : patches_with index_type (length p.slots) p.ptype (nullability_of p.validity) places values ≡ exception_patches index_type width_at p = rw (so.placed, so.valued, ← typed, valid, same) refl in
     subst answers e is
 
 -- the map of the answer

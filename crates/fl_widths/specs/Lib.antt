@@ -1,3 +1,4 @@
 pub mod Costs
 pub mod Exceptions
 pub mod PatchParts
+pub mod Widths

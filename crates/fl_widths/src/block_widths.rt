@@ -5,16 +5,16 @@ ghost use Rattle.std.specs.List.{list_all, list_any};
 ghost use Rattle.fl_types.specs.Integers.{bits_of_type};
 ghost use Rattle.fl_types.specs.Refusals.{Answers};
 ghost use Rattle.fl_types.specs.Validities.{covers, items_of};
-ghost use Rattle.fl_widths.specs.Costs.{CostLeast, best_width, block_histogram, choose_widths, count_above};
+ghost use Rattle.fl_widths.specs.Costs.{CostLeast, best_width, block_histogram, choose_widths, chosen_widths, count_above};
 ghost use Rattle.fl_widths.specs.Exceptions.{is_negative};
 
 use crate::best_width::{count_exceptions, least_cost};
-use crate::histogram::{clear, count_items, no_entries};
-use crate::patterns::Pattern;
+use crate::histogram::{clear, count_items};
+use crate::patterns::{Pattern, type_bits};
 use fastlanes::FL_CHUNK_SIZE;
 use fl_plain::PrimitiveArray;
 use fl_types::{FastLanesError, NativePType, Validity, match_each_integer_ptype};
-use std::alloc::Global;
+use std::alloc::{AllocError, Global};
 
 /// Whether a value is below 0.
 fn is_below_zero<T: NativePType>(value: T) -> bool
@@ -78,6 +78,29 @@ fn choose_width<T: Pattern>(
     (width, exceptions)
 }
 
+/// The best width of each block, and how many exceptions they leave.
+fn widths_of<T: Pattern>(
+    alloc: Global,
+    items: &[T],
+    validity: &Validity,
+) -> Result<(Vec<u8>, usize), AllocError>
+    requires { IsTrue (covers validity.now (length items.now)) }
+    ensures { IfOk result (λ r. record { widths = r.0.items; exceptions = r.1 } ≡ chosen_widths T.PTYPE (items_of validity.now (map T.value items.now))) }
+{
+    // No type here has more than 64 bits.
+    let mut entries = [0; 65];
+    let entries = &mut entries[..type_bits::<T>() + 1];
+    let blocks = items.len().div_ceil(FL_CHUNK_SIZE);
+    let mut widths = Vec::with_capacity(alloc, blocks)?;
+    let mut total = 0;
+    for block in 0..blocks {
+        let (width, exceptions) = choose_width(items, validity, block, entries);
+        widths.push(width)?;
+        total += exceptions;
+    }
+    Ok((widths, total))
+}
+
 fn choose_widths<T: Pattern>(
     alloc: Global,
     array: &PrimitiveArray,
@@ -92,16 +115,8 @@ fn choose_widths<T: Pattern>(
     if has_negative(items, validity) {
         return Err(FastLanesError::NegativeValue);
     }
-    let blocks = items.len().div_ceil(FL_CHUNK_SIZE);
-    let mut entries = no_entries::<T>(alloc)?;
-    let mut widths = Vec::with_capacity(alloc, blocks)?;
-    let mut total = 0;
-    for block in 0..blocks {
-        let (width, exceptions) = choose_width(items, validity, block, &mut entries);
-        widths.push(width)?;
-        total += exceptions;
-    }
-    Ok((widths, total))
+    let chosen = widths_of(alloc, items, validity)?;
+    Ok(chosen)
 }
 
 /// The best width of each block of 1024 items, and how many items of the array have more bits than

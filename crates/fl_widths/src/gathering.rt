@@ -10,6 +10,7 @@ ghost use Rattle.fl_types.specs.declared.validity.Validity.TheVariants as valid;
 ghost use Rattle.fl_patches.specs.PatchMaps.{ArePatches, chunk_count, places_from};
 ghost use Rattle.fl_widths.specs.Exceptions.{bit_count, exception, exceptions_of, one_width, width_of_block};
 ghost use Rattle.fl_widths.specs.PatchParts.{AreChunked, AreGathered, HasBlocks, blocked_patches, counts_before, exception_at, exception_patches, global_patches, patches_with};
+ghost use Rattle.fl_widths.specs.Widths.{Names, NamesAll, width_at};
 
 use crate::patterns::{Pattern, bit_count, bits_of};
 use fastlanes::FL_CHUNK_SIZE;
@@ -106,8 +107,9 @@ impl<T: Pattern> Found<T> {
             return Ok(());
         }
         match validity {
-            Validity::NonNullable => self.push_present(items, width, start, end),
-            Validity::AllValid => self.push_present(items, width, start, end),
+            Validity::NonNullable | Validity::AllValid => {
+                self.push_present(items, width, start, end)
+            }
             Validity::AllInvalid => Ok(()),
             Validity::Array(bits) => self.push_masked(items, bits, width, start, end),
         }
@@ -145,44 +147,46 @@ fn union_of<T: Pattern>(items: &[T]) -> u64
     union
 }
 
-/// The exceptions at one width, and how many of them stand before each block.
-fn find_global<T: Pattern>(
+/// The widths of an array's blocks.
+#[derive(Clone, Copy)]
+enum Widths<'a> {
+    /// All blocks have this one.
+    Even(usize),
+    /// Each block has its own.
+    Each(&'a [u8]),
+}
+
+impl Widths<'_> {
+    /// The width of a block.
+    fn of_block(self, block: usize) -> usize
+        requires { Names self block }
+        ensures { (i : ℕ) → 1024 * block ≤ i → i < 1024 * (block + 1) → width_at self.entry i ≡ result }
+    {
+        match self {
+            Widths::Even(width) => width,
+            Widths::Each(widths) => widths[block] as usize,
+        }
+    }
+}
+
+/// The exceptions at the widths of the blocks, and how many of them stand before each block.
+fn find<T: Pattern>(
     alloc: Global,
     items: &[T],
     validity: &Validity,
-    width: usize,
+    widths: Widths,
     hint: usize,
 ) -> Result<(Found<T>, Vec<u64>), AllocError>
-    requires { IsTrue (covers validity.now (length items.now)) }
-    ensures found { IfOk result (λ r. AreGathered r.0.places.items (map T.value r.0.values.items) (exceptions_of T.PTYPE (one_width width) (items_of validity.now (map T.value items.now)))) }
-    ensures offsets { IfOk result (λ r. r.1.items ≡ counts_before (exceptions_of T.PTYPE (one_width width) (items_of validity.now (map T.value items.now))) (chunk_count (length items.now))) }
+    requires covers { IsTrue (covers validity.now (length items.now)) }
+    requires names { NamesAll widths (chunk_count (length items.now)) }
+    ensures found { IfOk result (λ r. AreGathered r.0.places.items (map T.value r.0.values.items) (exceptions_of T.PTYPE (width_at widths.entry) (items_of validity.now (map T.value items.now)))) }
+    ensures offsets { IfOk result (λ r. r.1.items ≡ counts_before (exceptions_of T.PTYPE (width_at widths.entry) (items_of validity.now (map T.value items.now))) (chunk_count (length items.now))) }
 {
     let blocks = items.len().div_ceil(FL_CHUNK_SIZE);
     let mut found = Found::with_capacity(alloc, hint.min(items.len()))?;
     let mut offsets = Vec::with_capacity(alloc, blocks)?;
     for block in 0..blocks {
-        found.push_block(&mut offsets, items, validity, width, block)?;
-    }
-    Ok((found, offsets))
-}
-
-/// The exceptions at a width for each block, and how many of them stand before each block.
-fn find_blocked<T: Pattern>(
-    alloc: Global,
-    items: &[T],
-    validity: &Validity,
-    widths: &[u8],
-    hint: usize,
-) -> Result<(Found<T>, Vec<u64>), AllocError>
-    requires covers { IsTrue (covers validity.now (length items.now)) }
-    requires widths { length widths.now ≡ chunk_count (length items.now) }
-    ensures found { IfOk result (λ r. AreGathered r.0.places.items (map T.value r.0.values.items) (exceptions_of T.PTYPE (width_of_block widths.now) (items_of validity.now (map T.value items.now)))) }
-    ensures offsets { IfOk result (λ r. r.1.items ≡ counts_before (exceptions_of T.PTYPE (width_of_block widths.now) (items_of validity.now (map T.value items.now))) (chunk_count (length items.now))) }
-{
-    let mut found = Found::with_capacity(alloc, hint.min(items.len()))?;
-    let mut offsets = Vec::with_capacity(alloc, widths.len())?;
-    for block in 0..widths.len() {
-        found.push_block(&mut offsets, items, validity, widths[block] as usize, block)?;
+        found.push_block(&mut offsets, items, validity, widths.of_block(block), block)?;
     }
     Ok((found, offsets))
 }
@@ -227,35 +231,42 @@ fn patches_of<T: Pattern>(
     Ok(Some(patches))
 }
 
-fn gather_global<T: Pattern>(
+/// The patches at the widths of the blocks. The indices are of the smallest type that holds a number.
+fn gather_typed<T: Pattern>(
     alloc: Global,
     array: &PrimitiveArray,
-    width: usize,
-    hint: usize,
-) -> Result<Option<Patches>, FastLanesError>
-    requires { array.now.ptype ≡ T.PTYPE }
-    ensures parts { Answers (λ o. o) result (Ok (global_patches width array.now)) }
-    ensures map { IfOk result (λ o. ArePatches o (length array.now.slots) (exception_at (one_width width) array.now)) }
-{
-    let items = array.as_slice::<T>();
-    let (found, offsets) = find_global(alloc, items, array.validity(), width, hint)?;
-    patches_of(alloc, array, found, offsets, items.len().saturating_add(1))
-}
-
-fn gather_blocked<T: Pattern>(
-    alloc: Global,
-    array: &PrimitiveArray,
-    widths: &[u8],
+    widths: Widths,
+    holds: usize,
     hint: usize,
 ) -> Result<Option<Patches>, FastLanesError>
     requires same { array.now.ptype ≡ T.PTYPE }
-    requires widths { length widths.now ≡ chunk_count (length array.now.slots) }
-    ensures parts { Answers (λ o. o) result (Ok (blocked_patches widths.now array.now)) }
-    ensures map { IfOk result (λ o. ArePatches o (length array.now.slots) (exception_at (width_of_block widths.now) array.now)) }
+    requires names { NamesAll widths (chunk_count (length array.now.slots)) }
+    requires holds { length array.now.slots ≤ holds }
+    ensures parts { Answers (λ o. o) result (Ok (exception_patches (smallest_type holds) (width_at widths.entry) array.now)) }
+    ensures map { IfOk result (λ o. ArePatches o (length array.now.slots) (exception_at (width_at widths.entry) array.now)) }
 {
     let items = array.as_slice::<T>();
-    let (found, offsets) = find_blocked(alloc, items, array.validity(), widths, hint)?;
-    patches_of(alloc, array, found, offsets, items.len())
+    let (found, offsets) = find(alloc, items, array.validity(), widths, hint)?;
+    patches_of(alloc, array, found, offsets, holds)
+}
+
+/// The same at the type of the array's items.
+fn gather(
+    alloc: Global,
+    array: &PrimitiveArray,
+    widths: Widths,
+    holds: usize,
+    hint: usize,
+) -> Result<Option<Patches>, FastLanesError>
+    requires names { NamesAll widths (chunk_count (length array.now.slots)) }
+    requires holds { length array.now.slots ≤ holds }
+    ensures parts { Answers (λ o. o) result (Ok (exception_patches (smallest_type holds) (width_at widths.entry) array.now)) }
+    ensures map { IfOk result (λ o. ArePatches o (length array.now.slots) (exception_at (width_at widths.entry) array.now)) }
+{
+    match_each_integer_ptype!(
+        array.ptype(),
+        gather_typed(alloc, array, widths, holds, hint)
+    )
 }
 
 /// The patches of an array's items that are valid and have more bits than a width, or `None` where
@@ -272,10 +283,8 @@ pub fn gather_patches(
     ensures parts { Answers (λ o. o) result (Ok (global_patches width array.now)) }
     ensures map { IfOk result (λ o. ArePatches o (length array.now.slots) (exception_at (one_width width) array.now)) }
 {
-    match_each_integer_ptype!(
-        array.ptype(),
-        gather_global(alloc, array, width as usize, hint)
-    )
+    let holds = array.len().saturating_add(1);
+    gather(alloc, array, Widths::Even(width as usize), holds, hint)
 }
 
 /// The same at a width for each block of 1024 items, a short last one too. The indices are of the
@@ -290,5 +299,5 @@ pub fn gather_blocked_patches(
     ensures parts { Answers (λ o. o) result (Ok (blocked_patches widths.now array.now)) }
     ensures map { IfOk result (λ o. ArePatches o (length array.now.slots) (exception_at (width_of_block widths.now) array.now)) }
 {
-    match_each_integer_ptype!(array.ptype(), gather_blocked(alloc, array, widths, hint))
+    gather(alloc, array, Widths::Each(widths), array.len(), hint)
 }

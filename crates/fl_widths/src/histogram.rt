@@ -24,8 +24,9 @@ pub(crate) fn clear<T: Pattern>(entries: &mut [usize])
 }
 
 /// Entries for the bits of a type, all 0.
-pub(crate) fn no_entries<T: Pattern>(alloc: Global) -> Result<Vec<usize>, AllocError>
-    ensures { IfOk result (λ v. length v.items ≡ bits_of_type T.PTYPE + 1) }
+#[tactic(auto, using(crate::proofs::Histograms::histogram_zeros))]
+fn no_entries<T: Pattern>(alloc: Global) -> Result<Vec<usize>, AllocError>
+    ensures { IfOk result (λ v. v.items ≡ histogram_of T.PTYPE []) }
 {
     vec![in alloc; 0usize; type_bits::<T>() + 1]
 }
@@ -90,8 +91,7 @@ pub(crate) fn count_items<T: Pattern>(
     ensures { entries.new ≡ histogram_of T.PTYPE (between start end (items_of validity.now (map T.value items.now))) }
 {
     match validity {
-        Validity::NonNullable => count_present(items, start, end, entries),
-        Validity::AllValid => count_present(items, start, end, entries),
+        Validity::NonNullable | Validity::AllValid => count_present(items, start, end, entries),
         Validity::AllInvalid => entries[0] += end - start,
         Validity::Array(bits) => count_masked(items, bits, start, end, entries),
     }
@@ -106,7 +106,6 @@ fn histogram_typed<T: Pattern>(
 {
     let items = array.as_slice::<T>();
     let mut entries = no_entries::<T>(alloc)?;
-    clear::<T>(&mut entries);
     count_items(items, array.validity(), 0, items.len(), &mut entries);
     Ok(entries)
 }

@@ -8,22 +8,30 @@ use flcol_engine::fault::Fault;
 use flcol_engine::start::start;
 use std::alloc::Global;
 use std::io::{Read, Write};
-use std::process::Abort;
-use std::test::Fail;
 
 const USAGE: &[u8] = b"usage: flcol pack TYPE WIDTH | encode TYPE ENCODING | run OP.. QUERY\n";
 
+const READ_FAULT: &[u8] = b"error 43 ReadFault\n";
+
 const WRITE_FAULT: &[u8] = b"error 44 WriteFault\n";
+
+const BAD_COLUMN: &[u8] = b"error 41 BadColumn\n";
+
+const TOO_LARGE: &[u8] = b"error 4 WidthTooLarge\n";
+
+/// The words of a column of bytes at width 1.
+const BITS: &[&str] = &["pack", "u8", "1"];
 
 /// A source, a sink and a sink for errors of which no call fails.
 const SOUND: [Option<u32>; 3] = [None, None, None];
 
-fn words(alloc: Global, words: &[&str]) -> Result<Vec<String>, Fail> {
+/// These words, where there is memory for them.
+fn words(alloc: Global, line: &[&str]) -> Option<Vec<String>> {
     let mut all = Vec::new(alloc);
-    for word in words {
-        all.push(String::from_str(alloc, word)?)?;
+    for word in line {
+        all.push(String::from_str(alloc, word).ok()?).ok()?;
     }
-    Ok(all)
+    Some(all)
 }
 
 /// What a run of the program gave.
@@ -35,35 +43,61 @@ struct Outcome {
     errors: ToMemory,
 }
 
+impl Outcome {
+    /// The run ended with this status and this line of errors.
+    fn has_ended(&self, status: u8, line: &[u8]) -> bool {
+        self.status == status && self.errors.bytes.as_slice() == line
+    }
+
+    /// It wrote so many bytes, of which all are 0 but these.
+    fn has_written(&self, len: usize, others: &[(usize, u8)]) -> bool {
+        self.sink.bytes.len() == len && are_zeros_but(&self.sink.bytes, others)
+    }
+
+    /// It failed to read, or to write.
+    fn has_failed(&self) -> bool {
+        self.read_failed || self.sink.failed
+    }
+}
+
 /// Runs the program on these words and this input, so many bytes a call at most.
 ///
 /// `failing` has the calls that fail, counted from 0: of the source, of the sink, and of the sink for errors.
+fn run_words(
+    alloc: Global,
+    words: &[String],
+    input: &[u8],
+    piece: usize,
+    failing: [Option<u32>; 3],
+) -> Outcome
+    requires { 0 < piece }
+{
+    let mut source = FromMemory::new(input, piece, failing[0]);
+    let mut sink = ToMemory::new(alloc, piece, failing[1]);
+    let mut errors = ToMemory::new(alloc, piece, failing[2]);
+    let status = start(alloc, words, &mut source, &mut sink, &mut errors);
+    Outcome {
+        status,
+        read_failed: source.failed,
+        sink,
+        errors,
+    }
+}
+
+/// The same on a line of words.
 fn run(
     alloc: Global,
     line: &[&str],
     input: &[u8],
     piece: usize,
     failing: [Option<u32>; 3],
-) -> Result<Outcome, Fail>
+) -> Option<Outcome>
     requires { 0 < piece }
 {
-    let words = words(alloc, line)?;
-    let mut source = FromMemory::new(input, piece, failing[0]);
-    let mut sink = ToMemory::new(alloc, piece, failing[1]);
-    let mut errors = ToMemory::new(alloc, piece, failing[2]);
-    let status = start(alloc, &words, &mut source, &mut sink, &mut errors);
-    Ok(Outcome {
-        status,
-        read_failed: source.failed,
-        sink,
-        errors,
-    })
-}
-
-/// The run ended with this status and this line of errors.
-fn ended(rt: &impl Abort, got: &Outcome, status: u8, line: &[u8]) {
-    assert_eq!(rt; got.status, status);
-    assert!(rt; got.errors.bytes.as_slice() == line);
+    match words(alloc, line) {
+        Some(words) => Some(run_words(alloc, &words, input, piece, failing)),
+        None => None,
+    }
 }
 
 /// The byte at an index where all are 0 but these.
@@ -87,47 +121,42 @@ fn are_zeros_but(bytes: &[u8], others: &[(usize, u8)]) -> bool {
 }
 
 /// A run packs this input into so many bytes, of which all are 0 but these.
-fn packs(
-    rt: &impl Abort,
-    alloc: Global,
-    line: &[&str],
-    input: &[u8],
-    len: usize,
-    others: &[(usize, u8)],
-) -> Result<(), Fail> {
-    let got = run(alloc, line, input, 100, SOUND)?;
-    ended(rt, &got, 0, b"");
-    assert_eq!(rt; got.sink.bytes.len(), len);
-    assert!(rt; are_zeros_but(&got.sink.bytes, others));
-    Ok(())
+fn packs(alloc: Global, line: &[&str], input: &[u8], len: usize, others: &[(usize, u8)]) -> bool {
+    match run(alloc, line, input, 100, SOUND) {
+        Some(got) => got.has_ended(0, b"") && got.has_written(len, others),
+        None => false,
+    }
 }
 
 /// A run refuses this input with this line, and writes nothing.
-fn refuses(
-    rt: &impl Abort,
-    alloc: Global,
-    line: &[&str],
-    input: &[u8],
-    refusal: &[u8],
-) -> Result<(), Fail> {
-    let got = run(alloc, line, input, 100, SOUND)?;
-    ended(rt, &got, 1, refusal);
-    assert!(rt; got.sink.bytes.is_empty());
-    Ok(())
+fn refuses(alloc: Global, line: &[&str], input: &[u8], refusal: &[u8]) -> bool {
+    match run(alloc, line, input, 100, SOUND) {
+        Some(got) => got.has_ended(1, refusal) && got.has_written(0, &[]),
+        None => false,
+    }
 }
 
-/// So many lines `0`, and then these.
-fn zeros_then(alloc: Global, zeros: usize, lines: &[u8]) -> Result<Vec<u8>, Fail> {
+/// So many lines `0`, and then these, where there is memory for them.
+fn zeros_then(alloc: Global, zeros: usize, lines: &[u8]) -> Option<Vec<u8>> {
     let mut text = Vec::new(alloc);
     for _ in 0..zeros {
-        text.extend_from_slice(b"0\n")?;
+        text.extend_from_slice(b"0\n").ok()?;
     }
-    text.extend_from_slice(lines)?;
-    Ok(text)
+    text.extend_from_slice(lines).ok()?;
+    Some(text)
 }
 
 /// A type, a width, how many zeros stand before the last lines, those lines, the bytes they are packed into, and which of these aren't 0.
-const PACKED: &[(&str, &str, usize, &[u8], usize, &[(usize, u8)])] = &[
+type Packed = (
+    &'static str,
+    &'static str,
+    usize,
+    &'static [u8],
+    usize,
+    &'static [(usize, u8)],
+);
+
+const PACKED: &[Packed] = &[
     ("u8", "1", 128, b"1\n", 128, &[(0, 2)]),
     ("u8", "1", 1025, b"", 256, &[]),
     ("u8", "1", 0, b"", 0, &[]),
@@ -152,303 +181,346 @@ const PACKED: &[(&str, &str, usize, &[u8], usize, &[(usize, u8)])] = &[
     ("u64", "1", 0, b"18446744073709551615\n", 128, &[(0, 1)]),
 ];
 
-#[test]
-fn packs_blocks(rt: HostRuntime) -> Result<(), Fail> {
-    for (kind, width, zeros, lines, len, others) in PACKED {
-        let text = zeros_then(rt.alloc(), *zeros, lines)?;
-        packs(&rt, rt.alloc(), &["pack", kind, width], &text, *len, others)?;
+/// A column of bytes at width 8, whose one number has this value.
+const NUMBERS: &[Packed] = &[
+    ("u8", "8", 0, b"1", 1024, &[(0, 1)]),
+    ("u8", "8", 0, b"1\n", 1024, &[(0, 1)]),
+    ("u8", "8", 0, b"007\n", 1024, &[(0, 7)]),
+    (
+        "u8",
+        "8",
+        0,
+        b"0000000000000000000000000000000000000000\n",
+        1024,
+        &[],
+    ),
+    (
+        "u8",
+        "8",
+        0,
+        b"0000000000000000000000000000000000000000200\n",
+        1024,
+        &[(0, 200)],
+    ),
+    ("u8", "8", 0, b"-0\n", 1024, &[]),
+    ("u8", "8", 0, b"-00", 1024, &[]),
+    ("u8", "8", 0, b"255", 1024, &[(0, 255)]),
+];
+
+/// No items, which take no bytes at any width.
+const WIDTHS: &[Packed] = &[
+    ("u8", "0", 0, b"", 0, &[]),
+    ("u8", "7", 0, b"", 0, &[]),
+    ("u8", "007", 0, b"", 0, &[]),
+    (
+        "u8",
+        "00000000000000000000000000000000000000008",
+        0,
+        b"",
+        0,
+        &[],
+    ),
+];
+
+fn packs_row(alloc: Global, row: &Packed) -> bool {
+    let (kind, width, zeros, lines, len, others) = row;
+    match zeros_then(alloc, *zeros, lines) {
+        Some(text) => packs(alloc, &["pack", kind, width], &text, *len, others),
+        None => false,
     }
-    Ok(())
 }
 
-#[test]
-fn reads_numbers(rt: HostRuntime) -> Result<(), Fail> {
-    let texts: &[(&[u8], u8)] = &[
-        (b"1", 1),
-        (b"1\n", 1),
-        (b"007\n", 7),
-        (b"0000000000000000000000000000000000000000\n", 0),
-        (b"0000000000000000000000000000000000000000200\n", 200),
-        (b"-0\n", 0),
-        (b"-00", 0),
-        (b"255", 255),
-    ];
-    for (text, item) in texts {
-        packs(
-            &rt,
-            rt.alloc(),
-            &["pack", "u8", "8"],
-            text,
-            1024,
-            &[(0, *item)],
-        )?;
-    }
-    Ok(())
-}
-
-#[test]
-fn refuses_bad_columns(rt: HostRuntime) -> Result<(), Fail> {
-    let texts: &[(&str, &[u8])] = &[
-        ("u64", b"\n"),
-        ("u64", b"1\n\n"),
-        ("u64", b"1\r\n"),
-        ("u64", b" 1\n"),
-        ("u64", b"1 \n"),
-        ("u64", b"+5\n"),
-        ("u64", b"-1\n"),
-        ("u64", b"-\n"),
-        ("u64", b"--0\n"),
-        ("u64", b"1-\n"),
-        ("u64", b"null\n"),
-        ("u64", b"\xff\n"),
-        ("u64", b"\xef\xbb\xbf1\n"),
-        ("u64", b"1234567890123456789012345678901234567890\n"),
-        ("u64", b"18446744073709551616\n"),
-        ("u32", b"4294967296\n"),
-        ("u16", b"65536\n"),
-        ("u8", b"256\n"),
-        ("u8", b"0\n1\n-2"),
-    ];
-    // The column is judged before the width.
-    for (kind, text) in texts {
-        for width in &["0", "255"] {
-            refuses(
-                &rt,
-                rt.alloc(),
-                &["pack", kind, width],
-                text,
-                b"error 41 BadColumn\n",
-            )?;
+fn packs_all(alloc: Global, rows: &[Packed]) -> bool {
+    for row in rows {
+        if !packs_row(alloc, row) {
+            return false;
         }
     }
-    Ok(())
+    true
 }
 
 #[test]
-fn refuses_wide_widths(rt: HostRuntime) -> Result<(), Fail> {
-    for (kind, width) in &[
-        ("u8", "9"),
-        ("u8", "255"),
-        ("u16", "17"),
-        ("u32", "33"),
-        ("u64", "65"),
-    ] {
-        for text in [b"0\n1\n".as_slice(), b"".as_slice()] {
-            refuses(
-                &rt,
-                rt.alloc(),
-                &["pack", kind, width],
-                text,
-                b"error 4 WidthTooLarge\n",
-            )?;
+fn packs_blocks(rt: HostRuntime) {
+    assert!(rt; packs_all(rt.alloc(), PACKED));
+}
+
+#[test]
+fn reads_numbers(rt: HostRuntime) {
+    assert!(rt; packs_all(rt.alloc(), NUMBERS));
+}
+
+#[test]
+fn reads_widths(rt: HostRuntime) {
+    assert!(rt; packs_all(rt.alloc(), WIDTHS));
+}
+
+/// A type, widths and a text that is refused at each of them.
+type Refused = (&'static str, &'static [&'static str], &'static [u8]);
+
+/// The column is judged before the width.
+const COLUMNS: &[Refused] = &[
+    ("u64", &["0", "255"], b"\n"),
+    ("u64", &["0", "255"], b"1\n\n"),
+    ("u64", &["0", "255"], b"1\r\n"),
+    ("u64", &["0", "255"], b" 1\n"),
+    ("u64", &["0", "255"], b"1 \n"),
+    ("u64", &["0", "255"], b"+5\n"),
+    ("u64", &["0", "255"], b"-1\n"),
+    ("u64", &["0", "255"], b"-\n"),
+    ("u64", &["0", "255"], b"--0\n"),
+    ("u64", &["0", "255"], b"1-\n"),
+    ("u64", &["0", "255"], b"null\n"),
+    ("u64", &["0", "255"], b"\xff\n"),
+    ("u64", &["0", "255"], b"\xef\xbb\xbf1\n"),
+    (
+        "u64",
+        &["0", "255"],
+        b"1234567890123456789012345678901234567890\n",
+    ),
+    ("u64", &["0", "255"], b"18446744073709551616\n"),
+    ("u32", &["0", "255"], b"4294967296\n"),
+    ("u16", &["0", "255"], b"65536\n"),
+    ("u8", &["0", "255"], b"256\n"),
+    ("u8", &["0", "255"], b"0\n1\n-2"),
+];
+
+const WIDE: &[Refused] = &[
+    ("u8", &["9", "255"], b"0\n1\n"),
+    ("u8", &["9", "255"], b""),
+    ("u16", &["17"], b"0\n1\n"),
+    ("u16", &["17"], b""),
+    ("u32", &["33"], b"0\n1\n"),
+    ("u32", &["33"], b""),
+    ("u64", &["65"], b"0\n1\n"),
+    ("u64", &["65"], b""),
+];
+
+fn refuses_row(alloc: Global, row: &Refused, refusal: &[u8]) -> bool {
+    let (kind, widths, text) = row;
+    for width in *widths {
+        if !refuses(alloc, &["pack", kind, width], text, refusal) {
+            return false;
         }
     }
-    Ok(())
+    true
+}
+
+fn refuses_all(alloc: Global, rows: &[Refused], refusal: &[u8]) -> bool {
+    for row in rows {
+        if !refuses_row(alloc, row, refusal) {
+            return false;
+        }
+    }
+    true
 }
 
 #[test]
-fn reads_widths(rt: HostRuntime) -> Result<(), Fail> {
-    for width in &["0", "7", "007", "00000000000000000000000000000000000000008"] {
-        packs(&rt, rt.alloc(), &["pack", "u8", width], b"", 0, &[])?;
-    }
-    Ok(())
+fn refuses_bad_columns(rt: HostRuntime) {
+    assert!(rt; refuses_all(rt.alloc(), COLUMNS, BAD_COLUMN));
+}
+
+#[test]
+fn refuses_wide_widths(rt: HostRuntime) {
+    assert!(rt; refuses_all(rt.alloc(), WIDE, TOO_LARGE));
 }
 
 /// These words give no command; no end but that for errors is called.
-fn gives_no_command(rt: &impl Abort, alloc: Global, line: &[&str]) -> Result<(), Fail> {
-    let got = run(alloc, line, b"x", 7, [Some(0), Some(0), None])?;
-    ended(rt, &got, 2, USAGE);
-    assert!(rt; got.sink.bytes.is_empty() && !got.sink.failed && !got.read_failed);
-    Ok(())
+fn gives_no_command(alloc: Global, line: &[&str]) -> bool {
+    match run(alloc, line, b"x", 7, [Some(0), Some(0), None]) {
+        Some(got) => got.has_ended(2, USAGE) && got.has_written(0, &[]) && !got.has_failed(),
+        None => false,
+    }
 }
 
+const NO_COMMANDS: &[&[&str]] = &[
+    &[],
+    &["pack"],
+    &["pack", "u8"],
+    &["pack", "u8", "1", "1"],
+    &["pack", "u8", "256"],
+    &["pack", "u8", "1000000000000000000000000000000000000000"],
+    &["pack", "u8", "+1"],
+    &["pack", "u8", "-0"],
+    &["pack", "u8", ""],
+    &["pack", "u8", " 1"],
+    &["pack", "u8", "one"],
+    &["pack", "u8?", "1"],
+    &["pack", "i8", "1"],
+    &["pack", "U8", "1"],
+    &["pack", "u128", "1"],
+    &["pack", "", "1"],
+    &["", "u8", "1"],
+    &["Pack", "u8", "1"],
+    &["encode", "u8", "for"],
+    &["run", "decode"],
+];
+
 #[test]
-fn refuses_words(rt: HostRuntime) -> Result<(), Fail> {
-    let bad: &[&[&str]] = &[
-        &[],
-        &["pack"],
-        &["pack", "u8"],
-        &["pack", "u8", "1", "1"],
-        &["pack", "u8", "256"],
-        &["pack", "u8", "1000000000000000000000000000000000000000"],
-        &["pack", "u8", "+1"],
-        &["pack", "u8", "-0"],
-        &["pack", "u8", ""],
-        &["pack", "u8", " 1"],
-        &["pack", "u8", "one"],
-        &["pack", "u8?", "1"],
-        &["pack", "i8", "1"],
-        &["pack", "U8", "1"],
-        &["pack", "u128", "1"],
-        &["pack", "", "1"],
-        &["", "u8", "1"],
-        &["Pack", "u8", "1"],
-        &["encode", "u8", "for"],
-        &["run", "decode"],
-    ];
-    for line in bad {
-        gives_no_command(&rt, rt.alloc(), line)?;
+fn refuses_words(rt: HostRuntime) {
+    for line in NO_COMMANDS {
+        assert!(rt; gives_no_command(rt.alloc(), line));
     }
-    Ok(())
 }
 
 /// The read with this number fails.
-fn read_fails(rt: &impl Abort, alloc: Global, nth: u32) -> Result<(), Fail> {
-    let line = &["pack", "u8", "9"];
-    let got = run(alloc, line, b"0\n255\n1x", 1, [Some(nth), Some(0), None])?;
-    ended(rt, &got, 1, b"error 43 ReadFault\n");
-    assert!(rt; got.read_failed && !got.sink.failed && got.sink.bytes.is_empty());
-    Ok(())
+fn read_fails(alloc: Global, nth: u32) -> bool {
+    match run(
+        alloc,
+        &["pack", "u8", "9"],
+        b"0\n255\n1x",
+        1,
+        [Some(nth), Some(0), None],
+    ) {
+        Some(got) => {
+            got.has_ended(1, READ_FAULT)
+                && got.has_written(0, &[])
+                && got.read_failed
+                && !got.sink.failed
+        }
+        None => false,
+    }
 }
 
 #[test]
-fn each_read_fails(rt: HostRuntime) -> Result<(), Fail> {
+fn each_read_fails(rt: HostRuntime) {
     for nth in 0..9 {
-        read_fails(&rt, rt.alloc(), nth)?;
+        assert!(rt; read_fails(rt.alloc(), nth));
     }
-    Ok(())
 }
 
-/// A column of one item is packed, of which the write with this number fails.
-fn write_fails(rt: &impl Abort, alloc: Global, nth: u32) -> Result<(), Fail> {
-    let got = run(
-        alloc,
-        &["pack", "u8", "1"],
-        b"1\n",
-        1,
-        [None, Some(nth), None],
-    )?;
-    ended(rt, &got, 1, WRITE_FAULT);
-    assert!(rt; got.sink.bytes.len() <= 128 && are_zeros_but(&got.sink.bytes, &[(0, 1)]));
-    Ok(())
+/// A run whose sink fails at a call ends so. It has written a beginning of the packed item 1, and all where it ends well.
+fn ends_at(alloc: Global, input: &[u8], nth: u32, status: u8, line: &[u8]) -> bool {
+    match run(alloc, BITS, input, 1, [None, Some(nth), None]) {
+        Some(got) => {
+            let len = got.sink.bytes.len();
+            got.has_ended(status, line)
+                && (len == 128 || len < 128 && status == 1)
+                && got.has_written(len, &[(0, 1)])
+        }
+        None => false,
+    }
 }
 
 /// A column of one item packs into 128 bytes, so the call behind 128 writes is the flush, and no other comes.
 #[test]
-fn each_write_fails(rt: HostRuntime) -> Result<(), Fail> {
+fn each_write_fails(rt: HostRuntime) {
     for nth in 0..129 {
-        write_fails(&rt, rt.alloc(), nth)?;
+        assert!(rt; ends_at(rt.alloc(), b"1\n", nth, 1, WRITE_FAULT));
     }
-    let got = run(
-        rt.alloc(),
-        &["pack", "u8", "1"],
-        b"1\n",
-        1,
-        [None, Some(129), None],
-    )?;
-    ended(&rt, &got, 0, b"");
-    assert_eq!(rt; got.sink.bytes.len(), 128);
-    Ok(())
+    assert!(rt; ends_at(rt.alloc(), b"1\n", 129, 0, b""));
 }
 
 #[test]
-fn empty_output_is_flushed(rt: HostRuntime) -> Result<(), Fail> {
-    let got = run(
-        rt.alloc(),
-        &["pack", "u8", "1"],
-        b"",
-        1,
-        [None, Some(0), None],
-    )?;
-    ended(&rt, &got, 1, WRITE_FAULT);
-    Ok(())
+fn empty_output_is_flushed(rt: HostRuntime) {
+    assert!(rt; ends_at(rt.alloc(), b"", 0, 1, WRITE_FAULT));
 }
 
 /// The fourth call of the sink for errors fails, and the status is this.
-fn keeps_status(
-    rt: &impl Abort,
-    alloc: Global,
-    line: &[&str],
-    input: &[u8],
-    status: u8,
-) -> Result<(), Fail> {
-    let got = run(alloc, line, input, 1, [None, None, Some(3)])?;
-    assert_eq!(rt; got.status, status);
-    assert!(rt; got.errors.bytes.len() <= 70);
-    Ok(())
+fn keeps_status(alloc: Global, line: &[&str], input: &[u8], status: u8) -> bool {
+    match run(alloc, line, input, 1, [None, None, Some(3)]) {
+        Some(got) => got.status == status && got.errors.bytes.len() <= 70,
+        None => false,
+    }
 }
 
 #[test]
-fn faults_of_errors_change_no_status(rt: HostRuntime) -> Result<(), Fail> {
-    keeps_status(&rt, rt.alloc(), &["pack", "u8", "1"], b"x", 1)?;
-    keeps_status(&rt, rt.alloc(), &["pack", "u8"], b"1", 2)?;
-    keeps_status(&rt, rt.alloc(), &["pack", "u8", "1"], b"1", 0)
+fn faults_of_errors_change_no_status(rt: HostRuntime) {
+    assert!(rt; keeps_status(rt.alloc(), BITS, b"x", 1));
+    assert!(rt; keeps_status(rt.alloc(), &["pack", "u8"], b"1", 2));
+    assert!(rt; keeps_status(rt.alloc(), BITS, b"1", 0));
 }
 
-/// A run over these ends of std, on the words `pack u8 1`, ends so.
+/// How a run over these ends of std ends, with its line of errors, on the words of a column at width 1.
+fn status_over_std<R: Read + Drop, W: Write + Drop>(
+    alloc: Global,
+    reader: R,
+    writer: W,
+    said: &mut Vec<u8>,
+) -> u8 {
+    match words(alloc, BITS) {
+        Some(words) => start(
+            alloc,
+            &words,
+            &mut ReadEnd::new(reader),
+            &mut WriteEnd::new(writer),
+            &mut WriteEnd::new(said),
+        ),
+        None => 1,
+    }
+}
+
+/// A run over these ends of std ends so.
 fn ends_over_std<R: Read + Drop, W: Write + Drop>(
-    rt: &impl Abort,
     alloc: Global,
     reader: R,
     writer: W,
     status: u8,
     line: &[u8],
-) -> Result<(), Fail> {
-    let words = words(alloc, &["pack", "u8", "1"])?;
+) -> bool {
     let mut said = Vec::new(alloc);
-    let ended = start(
-        alloc,
-        &words,
-        &mut ReadEnd::new(reader),
-        &mut WriteEnd::new(writer),
-        &mut WriteEnd::new(&mut said),
-    );
-    assert!(rt; ended == status);
-    assert!(rt; said.as_slice() == line);
-    Ok(())
+    status_over_std(alloc, reader, writer, &mut said) == status && said.as_slice() == line
 }
 
 #[test]
-fn runs_over_std(rt: HostRuntime) -> Result<(), Fail> {
+fn runs_over_std(rt: HostRuntime) {
     let mut bytes = Vec::new(rt.alloc());
-    ends_over_std(&rt, rt.alloc(), b"1\n".as_slice(), &mut bytes, 0, b"")?;
-    assert_eq!(rt; bytes.len(), 128);
-    Ok(())
+    assert!(rt; ends_over_std(rt.alloc(), b"1\n".as_slice(), &mut bytes, 0, b""));
+    assert!(rt; bytes.len() == 128 && are_zeros_but(&bytes, &[(0, 1)]));
 }
 
 /// A writer that takes no more bytes has failed.
 #[test]
-fn a_full_writer_has_failed(rt: HostRuntime) -> Result<(), Fail> {
+fn a_full_writer_has_failed(rt: HostRuntime) {
     let mut room = [0u8; 100];
-    ends_over_std(
-        &rt,
-        rt.alloc(),
-        b"1\n".as_slice(),
-        &mut room[..],
-        1,
-        WRITE_FAULT,
-    )
+    assert!(rt; ends_over_std(rt.alloc(), b"1\n".as_slice(), &mut room[..], 1, WRITE_FAULT));
+}
+
+/// Whether a reader of the line `1` and a writer, each interrupted at each other call, are read and written whole, and
+/// the writer is flushed once.
+fn are_outlasted(alloc: Global, mut reader: Interrupted, mut writer: Interrupted) -> bool {
+    ends_over_std(alloc, &mut reader, &mut writer, 0, b"")
+        && writer.bytes.len() == 128
+        && are_zeros_but(&writer.bytes, &[(0, 1)])
+        && writer.flushes == 1
+}
+
+fn outlasts_interruptions(alloc: Global) -> bool {
+    match Vec::from_slice(alloc, b"1\n") {
+        Ok(text) => are_outlasted(
+            alloc,
+            Interrupted::new(text),
+            Interrupted::new(Vec::new(alloc)),
+        ),
+        Err(_) => false,
+    }
 }
 
 /// An interrupted call is made again, and the writer is flushed once.
 #[test]
-fn interruptions_are_no_faults(rt: HostRuntime) -> Result<(), Fail> {
-    let mut reader = Interrupted::new(Vec::from_slice(rt.alloc(), b"1\n")?);
-    let mut writer = Interrupted::new(Vec::new(rt.alloc()));
-    ends_over_std(&rt, rt.alloc(), &mut reader, &mut writer, 0, b"")?;
-    assert!(rt; writer.bytes.len() == 128 && are_zeros_but(&writer.bytes, &[(0, 1)]));
-    assert_eq!(rt; writer.flushes, 1);
-    Ok(())
+fn interruptions_are_no_faults(rt: HostRuntime) {
+    assert!(rt; outlasts_interruptions(rt.alloc()));
 }
 
 /// An error of std's reader or writer is a fault, and so is one of its flush.
 #[test]
-fn errors_of_std_are_faults(rt: HostRuntime) -> Result<(), Fail> {
-    let none = Vec::new(rt.alloc());
-    ends_over_std(&rt, rt.alloc(), Broken, none, 1, b"error 43 ReadFault\n")?;
-    ends_over_std(&rt, rt.alloc(), b"1\n".as_slice(), Broken, 1, WRITE_FAULT)?;
-    ends_over_std(
-        &rt,
-        rt.alloc(),
-        b"1\n".as_slice(),
-        Unflushed,
-        1,
-        WRITE_FAULT,
-    )
+fn errors_of_std_are_faults(rt: HostRuntime) {
+    let alloc = rt.alloc();
+    assert!(rt; ends_over_std(alloc, Broken, Vec::new(alloc), 1, READ_FAULT));
+    assert!(rt; ends_over_std(alloc, b"1\n".as_slice(), Broken, 1, WRITE_FAULT));
+    assert!(rt; ends_over_std(alloc, b"1\n".as_slice(), Unflushed, 1, WRITE_FAULT));
+}
+
+/// The line of a fault has its number and its name.
+fn is_named(alloc: Global, fault: Fault) -> bool {
+    let number = fault.number();
+    match format!(in alloc; "error {number} {fault}\n") {
+        Ok(line) => line.as_str() == fault.line(),
+        Err(_) => false,
+    }
 }
 
 #[test]
-fn faults_are_named(rt: HostRuntime) -> Result<(), Fail> {
+fn faults_are_named(rt: HostRuntime) {
     for fault in [
         Fault::OutOfMemory,
         Fault::WidthTooLarge,
@@ -456,9 +528,6 @@ fn faults_are_named(rt: HostRuntime) -> Result<(), Fail> {
         Fault::ReadFault,
         Fault::WriteFault,
     ] {
-        let number = fault.number();
-        let line = format!(in rt.alloc(); "error {number} {fault}\n")?;
-        assert!(rt; line.as_str() == fault.line());
+        assert!(rt; is_named(rt.alloc(), fault));
     }
-    Ok(())
 }

@@ -1,0 +1,5 @@
+mod ArrayExamples
+mod CodecExamples
+mod PackedExamples
+mod PlainExamples
+mod WidthExamples

@@ -83,36 +83,40 @@ fn pack_one(alloc: Global, array: &PrimitiveArray, width: u8, answer: &mut Text)
     }
 }
 
-/// Packs a block and an item at widths 2 and 0.
-fn pack_first(alloc: Global, array: &PrimitiveArray, patches: Option<&Patches>, answer: &mut Text) {
-    if array.len() != 1025 || array.ptype() != PType::U16 {
+/// Packs a block and an item of `u16`, the block at width 2.
+fn pack_two(
+    alloc: Global,
+    array: &PrimitiveArray,
+    second: u8,
+    patches: Option<&Patches>,
+    answer: &mut Text,
+) {
+    if array.len() != 1025 || array.ptype() != PType::U16 || second > 16 {
         return;
     }
-    match bitpack_blocked_unchecked(alloc, array, &[2, 0]) {
+    match bitpack_blocked_unchecked(alloc, array, &[2, second]) {
         Ok(parts) => blocks(alloc, array, parts.0.as_slice(), &parts.1, patches, answer),
         Err(refusal) => answer.refusal(refusal),
     }
 }
 
-/// Packs a block and an item at widths 2 and 10.
-fn pack_both(alloc: Global, array: &PrimitiveArray, answer: &mut Text) {
-    if array.len() != 1025 || array.ptype() != PType::U16 {
-        return;
-    }
-    match bitpack_blocked_unchecked(alloc, array, &[2, 10]) {
-        Ok(parts) => blocks(alloc, array, parts.0.as_slice(), &parts.1, None, answer),
-        Err(refusal) => answer.refusal(refusal),
-    }
-}
-
 /// Packs a block and an item at widths 2 and 0, with the patches that these ask for.
-fn patch_first(alloc: Global, array: &PrimitiveArray, answer: &mut Text) {
+fn patch(alloc: Global, array: &PrimitiveArray, answer: &mut Text) {
     if array.len() != 1025 {
         return;
     }
     match gather_blocked_patches(alloc, array, &[2, 0], 1) {
-        Ok(patches) => pack_first(alloc, array, patches.as_ref(), answer),
+        Ok(patches) => pack_two(alloc, array, 0, patches.as_ref(), answer),
         Err(refusal) => answer.refusal(refusal),
+    }
+}
+
+/// Packs a column at none, one or two widths, of which the first is 2.
+fn pack(alloc: Global, widths: &[&str], array: &PrimitiveArray, answer: &mut Text) {
+    match widths {
+        [] => pack_none(alloc, array, answer),
+        [width] => pack_one(alloc, array, width_of(width), answer),
+        [_, second, ..] => pack_two(alloc, array, width_of(second), None, answer),
     }
 }
 
@@ -123,11 +127,8 @@ pub(crate) fn ask(
     answer: &mut Text,
 ) -> bool {
     match (question, columns) {
-        (["pack_blocked"], [array]) => pack_none(alloc, array, answer),
-        (["pack_blocked", width], [array]) => pack_one(alloc, array, width_of(width), answer),
-        (["pack_blocked", "2", "0"], [array]) => pack_first(alloc, array, None, answer),
-        (["pack_blocked", "2", "10"], [array]) => pack_both(alloc, array, answer),
-        (["patch_blocked", "2", "0"], [array]) => patch_first(alloc, array, answer),
+        (["pack_blocked", widths @ ..], [array]) => pack(alloc, widths, array, answer),
+        (["patch_blocked"], [array]) => patch(alloc, array, answer),
         _ => return false,
     }
     true

@@ -1,5 +1,6 @@
 //! Columns from text: a type, and items behind it.
 
+use crate::names::named;
 use fl_plain::PrimitiveArray;
 use fl_types::*;
 use std::alloc::Global;
@@ -112,18 +113,20 @@ fn typed<T: NativePType>(alloc: Global, integers: &[i128], validity: Validity) -
     PrimitiveArray::new(items, validity)
 }
 
+const TYPES: &[(&str, PType)] = &[
+    ("u8", PType::U8),
+    ("u16", PType::U16),
+    ("u32", PType::U32),
+    ("u64", PType::U64),
+    ("i8", PType::I8),
+    ("i16", PType::I16),
+    ("i32", PType::I32),
+    ("i64", PType::I64),
+];
+
 /// A type by its name.
 pub(crate) fn type_of(name: &str) -> PType {
-    match name {
-        "u16" => PType::U16,
-        "u32" => PType::U32,
-        "u64" => PType::U64,
-        "i8" => PType::I8,
-        "i16" => PType::I16,
-        "i32" => PType::I32,
-        "i64" => PType::I64,
-        _ => PType::U8,
-    }
+    named(TYPES, name).unwrap_or(PType::U8)
 }
 
 /// A type by its name, with the mark `?` where items may be null.

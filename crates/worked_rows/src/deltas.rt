@@ -4,10 +4,11 @@ use crate::columns::{Made, count};
 use crate::parts::{back, part};
 use crate::shown;
 use crate::text::Text;
-use fl_codec::delta::{delta_compress, delta_decompress};
+use fl_codec::delta::delta_decompress;
 use fl_plain::PrimitiveArray;
 use fl_types::*;
 use std::alloc::Global;
+use vortex_fastlanes::delta_compress;
 
 /// Bases and deltas.
 type Parts = (PrimitiveArray, PrimitiveArray);

@@ -8,8 +8,9 @@ use crate::text::Text;
 use fl_patches::Patches;
 use fl_plain::PrimitiveArray;
 use fl_types::*;
-use fl_widths::{gather_blocked_patches, gather_patches};
+use fl_widths::gather_blocked_patches;
 use std::alloc::Global;
+use vortex_fastlanes::bitpack_compress::gather_patches;
 
 /// Adds the form of a validity.
 fn show_validity(answer: &mut Text, validity: &Validity) {

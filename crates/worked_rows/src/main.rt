@@ -8,21 +8,19 @@ mod arrays;
 mod bits;
 mod blocks;
 mod columns;
-mod copies;
 mod deltas;
 mod frames;
 mod gathering;
 mod messages;
+mod names;
 mod packing;
 mod parts;
-mod passed_on;
 mod patches;
 mod plain;
 mod readers;
 mod runs;
 mod shown;
 mod text;
-mod truths;
 mod types;
 mod widths;
 mod words;
@@ -35,8 +33,6 @@ use std::{env, fs, io};
 /// Answers a question about columns.
 fn ask(alloc: Global, question: &[&str], columns: &[PrimitiveArray], answer: &mut Text) {
     let known = arrays::ask(alloc, question, columns, answer)
-        || copies::ask(alloc, question, columns, answer)
-        || truths::ask(alloc, question, columns, answer)
         || bits::ask(alloc, question, columns, answer)
         || types::ask(alloc, question, columns, answer)
         || frames::ask(alloc, question, columns, answer)
@@ -47,7 +43,6 @@ fn ask(alloc: Global, question: &[&str], columns: &[PrimitiveArray], answer: &mu
         || patches::ask(alloc, question, columns, answer)
         || blocks::ask(alloc, question, columns, answer)
         || words::ask(alloc, question, columns, answer)
-        || passed_on::ask(alloc, question, columns, answer)
         || messages::ask(alloc, question, answer)
         || packing::ask(alloc, question, columns, answer)
         || plain::ask(alloc, question, columns, answer);

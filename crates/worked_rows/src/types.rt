@@ -174,7 +174,7 @@ pub(crate) fn value_of(ptype: PType, text: &str) -> PValue
 }
 
 /// The scalar of a type's name and of an item: an integer, a truth value as 1 or 0, or `null`.
-pub(crate) fn scalar_of(name: &str, item: &str) -> Scalar {
+fn scalar_of(name: &str, item: &str) -> Scalar {
     match dtype_of(name) {
         dtype if item == "null" => Scalar::null(dtype),
         DType::Primitive(ptype, nullability) => {
@@ -185,7 +185,7 @@ pub(crate) fn scalar_of(name: &str, item: &str) -> Scalar {
 }
 
 /// Adds a value behind its own type, or `null`.
-pub(crate) fn show_value(answer: &mut Text, value: Option<PValue>) {
+fn show_value(answer: &mut Text, value: Option<PValue>) {
     if let Some(value) = value {
         shown::dtype(
             answer,

@@ -9,8 +9,11 @@ use crate::shown;
 use crate::text::Text;
 use fl_plain::PrimitiveArray;
 use fl_types::*;
-use fl_widths::*;
 use std::alloc::Global;
+use vortex_fastlanes::bitpack_compress::{
+    bit_width_histogram, find_best_bit_width, find_best_bit_widths,
+};
+use vortex_fastlanes::bitpack_decompress::count_exceptions;
 
 /// The numbers of a column, as entries of a histogram.
 fn entries(alloc: Global, numbers: &PrimitiveArray) -> Result<Vec<usize>, FastLanesError> {

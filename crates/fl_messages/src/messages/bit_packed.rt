@@ -32,8 +32,7 @@ impl BitPackedMetadata {
     {
         let number = Kind::Number(u32::MAX as u64);
         let values = Values::read(&[Kind::Unknown, number, number, Kind::Message], bytes)?;
-        let embedded = PatchesMetadata::embedded_values(values.message(3))?;
-        let patches = PatchesMetadata::embedded(&embedded)?;
+        let patches = PatchesMetadata::embedded(values.message(3))?;
         Ok(BitPackedMetadata {
             bit_width: values.small_number(1),
             offset: values.small_number(2),
@@ -45,15 +44,15 @@ impl BitPackedMetadata {
     pub fn encode(&self, alloc: Global) -> Result<Vec<u8>, FastLanesError>
         ensures { Answers (λ v. v.items) result (Ok (text_of (bit_packed_slots self.now))) }
     {
-        let bit_width = Slot::number(1, u64::from(self.bit_width));
-        let offset = Slot::number(2, u64::from(self.offset));
-        match &self.patches {
-            None => write(alloc, &[bit_width, offset, Slot::message(3, None)]),
-            Some(patches) => {
-                let text = patches.encode(alloc)?;
-                write(alloc, &[bit_width, offset, Slot::message(3, Some(&text))])
-            }
-        }
+        let patches = PatchesMetadata::embed(alloc, &self.patches)?;
+        write(
+            alloc,
+            &[
+                Slot::number(1, u64::from(self.bit_width)),
+                Slot::number(2, u64::from(self.offset)),
+                Slot::message(3, &patches),
+            ],
+        )
     }
 }
 
@@ -86,9 +85,8 @@ impl BitPackedBlockedMetadata {
             &[Kind::Unknown, offset, block_offsets, Kind::Message],
             bytes,
         )?;
-        let embedded = PatchesMetadata::embedded_values(values.message(3))?;
+        let patches = PatchesMetadata::embedded(values.message(3))?;
         let block_offsets = type_of_number(values.number(2))?;
-        let patches = PatchesMetadata::embedded(&embedded)?;
         Ok(BitPackedBlockedMetadata {
             offset: values.small_number(1),
             block_offsets,
@@ -100,17 +98,14 @@ impl BitPackedBlockedMetadata {
     pub fn encode(&self, alloc: Global) -> Result<Vec<u8>, FastLanesError>
         ensures { Answers (λ v. v.items) result (Ok (text_of (bit_packed_blocked_slots self.now))) }
     {
-        let offset = Slot::number(1, u64::from(self.offset));
-        let block_offsets = Slot::number(2, type_number(self.block_offsets));
-        match &self.patches {
-            None => write(alloc, &[offset, block_offsets, Slot::message(3, None)]),
-            Some(patches) => {
-                let text = patches.encode(alloc)?;
-                write(
-                    alloc,
-                    &[offset, block_offsets, Slot::message(3, Some(&text))],
-                )
-            }
-        }
+        let patches = PatchesMetadata::embed(alloc, &self.patches)?;
+        write(
+            alloc,
+            &[
+                Slot::number(1, u64::from(self.offset)),
+                Slot::number(2, type_number(self.block_offsets)),
+                Slot::message(3, &patches),
+            ],
+        )
     }
 }

@@ -25,7 +25,7 @@ impl PatchesMetadata {
     ghost use Rattle.std.specs.Prelude.{◌≡◌, Ok, option_map};
     ghost use Rattle.fl_types.specs.Refusals.{Answers};
     ghost use Rattle.fl_messages.specs.Schemas.{values_of, seen_values, Gives};
-    ghost use Rattle.fl_messages.specs.Messages.{patches_schema, patches_of, patches_in, patches_text, embedded_values, embedded_patches};
+    ghost use Rattle.fl_messages.specs.Messages.{patches_schema, patches_of, patches_in, patches_text, embedded_of};
 
     /// Reads the message: `BadMetadata` where the bytes are none, else `UnknownType` where a number
     /// stands for no type.
@@ -62,27 +62,15 @@ impl PatchesMetadata {
         })
     }
 
-    /// The values of an embedded message, if there is one.
-    pub(super) fn embedded_values(text: Option<&[u8]>) -> Result<Option<Values<'_>>, FastLanesError>
-        ensures { Gives (option_map seen_values) result (embedded_values (option_map (λ held. held.now) text.entry)) }
+    /// The patches of an embedded message, if there is one.
+    pub(super) fn embedded(text: Option<&[u8]>) -> Result<Option<Self>, FastLanesError>
+        ensures { result ≡ embedded_of (option_map (λ held. held.now) text.entry) }
     {
         match text {
             None => Ok(None),
             Some(text) => {
                 let values = PatchesMetadata::values(text)?;
-                Ok(Some(values))
-            }
-        }
-    }
-
-    /// The patches of an embedded message, if there is one.
-    pub(super) fn embedded(values: &Option<Values<'_>>) -> Result<Option<Self>, FastLanesError>
-        ensures { result ≡ embedded_patches (option_map seen_values values.now) }
-    {
-        match values {
-            None => Ok(None),
-            Some(values) => {
-                let patches = PatchesMetadata::of(values)?;
+                let patches = PatchesMetadata::of(&values)?;
                 Ok(Some(patches))
             }
         }
@@ -102,5 +90,21 @@ impl PatchesMetadata {
                 Slot::stated(5, optional_type_number(self.chunk_offsets)),
             ],
         )
+    }
+
+    /// The text of an embedded message, if there is one.
+    pub(super) fn embed(
+        alloc: Global,
+        patches: &Option<PatchesMetadata>,
+    ) -> Result<Option<Vec<u8>>, FastLanesError>
+        ensures { Answers (λ text. option_map (λ v. v.items) text) result (Ok (option_map patches_text patches.now)) }
+    {
+        match patches {
+            None => Ok(None),
+            Some(patches) => {
+                let text = patches.encode(alloc)?;
+                Ok(Some(text))
+            }
+        }
     }
 }

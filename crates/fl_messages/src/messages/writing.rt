@@ -3,7 +3,7 @@
 ghost use Rattle.std.specs.Prelude.{◌≡◌, ◌<◌, ◌*◌, ◌+◌, ◌++◌, length, map, option_map, OnOk, Ok};
 ghost use Rattle.fl_types.specs.Refusals.{Answers};
 ghost use Rattle.fl_messages.specs.WireReading.{seen};
-ghost use Rattle.fl_messages.specs.WrittenText.{wire_of, varint_text, field_text, payload_text_at, text_of, number as number_slot, stated as stated_slot, message as message_slot, seen_slot};
+ghost use Rattle.fl_messages.specs.WrittenText.{wire_of, varint_text, field_text, payload_text, payload_text_at, text_of, number as number_slot, stated as stated_slot, message as message_slot, seen_slot};
 
 use super::wire::Value;
 use fl_types::FastLanesError;
@@ -41,8 +41,8 @@ impl<'a> Slot<'a> {
     }
 
     /// A message that is written where it is there.
-    pub fn message(tag: u32, text: Option<&'a [u8]>) -> Slot<'a>
-        ensures { seen_slot result ≡ message_slot tag (option_map (λ held. held.now) text.entry) }
+    pub fn message(tag: u32, text: &'a Option<Vec<u8>>) -> Slot<'a>
+        ensures { seen_slot result ≡ message_slot tag (option_map (λ held. held.items) text.now) }
     {
         let value = match text {
             None => None,
@@ -68,31 +68,39 @@ fn push_varint(out: &mut Vec<u8>, number: u64) -> Result<(), AllocError>
     Ok(())
 }
 
+/// The wire type that the key of a value names.
+fn wire(value: Value<'_>) -> u64
+    ensures { result ≡ wire_of (seen value.entry) }
+{
+    match value {
+        Value::Number(_) => 0,
+        Value::Eight(_) => 1,
+        Value::Bytes(_) => 2,
+        Value::Four(_) => 5,
+    }
+}
+
+/// Adds a value, as it stands behind its key.
+fn push_value(out: &mut Vec<u8>, value: Value<'_>) -> Result<(), AllocError>
+    ensures { OnOk result (out.new.items ≡ out.old.items ++ payload_text (seen value.entry)) }
+{
+    match value {
+        Value::Number(number) => push_varint(out, number),
+        Value::Eight(held) | Value::Four(held) => out.extend_from_slice(held),
+        Value::Bytes(held) => {
+            push_varint(out, held.len() as u64)?;
+            out.extend_from_slice(held)
+        }
+    }
+}
+
 /// Adds a field: its key, and its value.
 #[tactic(auto, unfolding(crate::specs::WrittenText::field_text))]
 fn push_field(out: &mut Vec<u8>, tag: u32, value: Value<'_>) -> Result<(), AllocError>
     ensures { OnOk result (out.new.items ≡ out.old.items ++ field_text tag (seen value.entry)) }
 {
-    let key = u64::from(tag) * 8;
-    match value {
-        Value::Number(number) => {
-            push_varint(out, key)?;
-            push_varint(out, number)
-        }
-        Value::Eight(held) => {
-            push_varint(out, key + 1)?;
-            out.extend_from_slice(held)
-        }
-        Value::Bytes(held) => {
-            push_varint(out, key + 2)?;
-            push_varint(out, held.len() as u64)?;
-            out.extend_from_slice(held)
-        }
-        Value::Four(held) => {
-            push_varint(out, key + 5)?;
-            out.extend_from_slice(held)
-        }
-    }
+    push_varint(out, u64::from(tag) * 8 + wire(value))?;
+    push_value(out, value)
 }
 
 /// Adds what is written under a tag.

@@ -7,12 +7,16 @@ ghost use Rattle.fl_ops.specs.Questions.{is_comparable, may_ask};
 
 use super::Built;
 use crate::columns::count;
+use crate::names::{asked, named};
 use crate::text::Text;
-use crate::{plain, shown, types};
+use crate::{shown, types};
 use std::alloc::Global;
 use vortex_fastlanes::array::{Answer, ArrayOps, ArrayRef, Query, ask};
 use vortex_fastlanes::laws::{item_of_decoded, slice_of_slice};
-use vortex_fastlanes::{BetweenOptions, FastLanesError, Nullability, Scalar, Validity};
+use vortex_fastlanes::{
+    BetweenOptions, CompareOperator, FastLanesError, Nullability, Scalar, StrictComparison,
+    Validity,
+};
 
 /// An integer of an array's type.
 fn constant(array: &ArrayRef, integer: &str) -> Scalar
@@ -43,8 +47,37 @@ fn ask_again(alloc: Global, array: &ArrayRef, query: &Query, answer: &mut Text)
     answer.unless_same(&mut asked);
 }
 
+const OPERATORS: &[(&str, CompareOperator)] = &[
+    ("eq", CompareOperator::Eq),
+    ("ne", CompareOperator::NotEq),
+    ("gt", CompareOperator::Gt),
+    ("gte", CompareOperator::Gte),
+    ("lt", CompareOperator::Lt),
+    ("lte", CompareOperator::Lte),
+];
+
+/// A comparison by its name.
+fn operator(name: &str) -> CompareOperator {
+    named(OPERATORS, name).unwrap_or(CompareOperator::Eq)
+}
+
+/// How a bound is meant, by the comparison with it: `gt`, `gte`, `lt` or `lte`.
+fn strictness(name: &str) -> StrictComparison {
+    match operator(name) {
+        CompareOperator::Gt | CompareOperator::Lt => StrictComparison::Strict,
+        _ => StrictComparison::NonStrict,
+    }
+}
+
+fn options(lower: &str, upper: &str) -> BetweenOptions {
+    BetweenOptions {
+        lower_strict: strictness(lower),
+        upper_strict: strictness(upper),
+    }
+}
+
 fn compare(alloc: Global, array: &ArrayRef, name: &str, integer: &str, answer: &mut Text) {
-    let (operator, constant) = (plain::operator(name), constant(array, integer));
+    let (operator, constant) = (operator(name), constant(array, integer));
     shown::made_truths(answer, array.compare(alloc, operator, &constant));
     ask_again(alloc, array, &Query::Compare(operator, constant), answer);
 }
@@ -79,23 +112,58 @@ fn constancy(alloc: Global, array: &ArrayRef, answer: &mut Text) {
     ask_again(alloc, array, &Query::IsConstant, answer);
 }
 
-/// Answers a question that words name: `at 2`, `constant`, `sorted`, `strict`, `compare lt 7`
+/// What may be asked of an array.
+#[derive(Clone, Copy)]
+enum Question {
+    Items,
+    Copy,
+    Decode,
+    Plain,
+    Validity,
+    Item,
+    Slices,
+    At,
+    Constant,
+    Sorted,
+    Strict,
+    Compare,
+    Between,
+}
+
+const QUESTIONS: &[(&str, Question)] = &[
+    ("items", Question::Items),
+    ("copy", Question::Copy),
+    ("decode", Question::Decode),
+    ("plain", Question::Plain),
+    ("validity", Question::Validity),
+    ("item", Question::Item),
+    ("slices", Question::Slices),
+    ("at", Question::At),
+    ("constant", Question::Constant),
+    ("sorted", Question::Sorted),
+    ("strict", Question::Strict),
+    ("compare", Question::Compare),
+    ("between", Question::Between),
+];
+
+/// Answers a question that has a query too: `at 2`, `constant`, `sorted`, `strict`, `compare lt 7`
 /// or `between gte 3 lt 7`.
-fn answer_query(alloc: Global, array: &ArrayRef, words: &[&str], answer: &mut Text) {
-    match words {
-        ["at", i] => reply(&ask(alloc, array, &Query::ScalarAt(count(i))), answer),
-        ["constant"] => constancy(alloc, array, answer),
-        ["sorted"] => sorted(alloc, array, false, answer),
-        ["strict"] => sorted(alloc, array, true, answer),
-        ["compare", name, integer] => compare(alloc, array, name, integer, answer),
-        ["between", from, lower, to, upper] => {
-            between(
-                alloc,
-                array,
-                (lower, upper),
-                plain::options(from, to),
-                answer,
-            );
+fn answer_query(
+    alloc: Global,
+    array: &ArrayRef,
+    asked: Question,
+    words: &[&str],
+    answer: &mut Text,
+) {
+    match (asked, words) {
+        (Question::At, [i]) => reply(&ask(alloc, array, &Query::ScalarAt(count(i))), answer),
+        (Question::Constant, []) => constancy(alloc, array, answer),
+        (Question::Sorted, []) => sorted(alloc, array, false, answer),
+        (Question::Strict, []) => sorted(alloc, array, true, answer),
+        (Question::Compare, [name, integer]) => compare(alloc, array, name, integer, answer),
+        (Question::Between, [from, lower, to, upper]) => {
+            let options = options(from, to);
+            between(alloc, array, (lower, upper), options, answer);
         }
         _ => answer.word("no such question"),
     }
@@ -170,19 +238,33 @@ fn sliced_twice(
     slice_of_slice(array, alloc, outer.0..outer.1, inner.0..inner.1)
 }
 
-/// Answers what words ask of an array: its parts, or a question.
-pub(super) fn answer(alloc: Global, array: &ArrayRef, words: &[&str], answer: &mut Text) {
-    match words {
-        ["items"] => array_read(alloc, array, answer),
-        ["copy"] => array_made(alloc, &array.try_clone(alloc), answer),
-        ["decode"] => array_made(alloc, &array.decode(alloc), answer),
-        ["plain"] => shown::made(answer, array.to_primitive(alloc)),
-        ["validity"] => validity(alloc, array, answer),
-        ["item", i] => item_decoded(alloc, array, count(i), answer),
-        ["slices", a, b, c, d] => {
+/// Answers a question that looks at an array's parts, or asks a query.
+fn answer_asked(
+    alloc: Global,
+    array: &ArrayRef,
+    asked: Question,
+    words: &[&str],
+    answer: &mut Text,
+) {
+    match (asked, words) {
+        (Question::Items, []) => array_read(alloc, array, answer),
+        (Question::Copy, []) => array_made(alloc, &array.try_clone(alloc), answer),
+        (Question::Decode, []) => array_made(alloc, &array.decode(alloc), answer),
+        (Question::Plain, []) => shown::made(answer, array.to_primitive(alloc)),
+        (Question::Validity, []) => validity(alloc, array, answer),
+        (Question::Item, [i]) => item_decoded(alloc, array, count(i), answer),
+        (Question::Slices, [a, b, c, d]) => {
             let made = sliced_twice(alloc, array, (count(a), count(b)), (count(c), count(d)));
             array_made(alloc, &made, answer);
         }
-        _ => answer_query(alloc, array, words, answer),
+        _ => answer_query(alloc, array, asked, words, answer),
+    }
+}
+
+/// Answers what words ask of an array.
+pub(super) fn answer(alloc: Global, array: &ArrayRef, words: &[&str], answer: &mut Text) {
+    match asked(QUESTIONS, words) {
+        Some((asked, words)) => answer_asked(alloc, array, asked, words, answer),
+        None => answer.word("no such question"),
     }
 }

@@ -1,6 +1,13 @@
-use Rattle.std.proofs.Common.{map}
+use Rattle.std.proofs.Common.{length, map, ap, ◌∙◌}
 use Rattle.fl_codec.proofs.FrameColumns.{global_column}
+use Rattle.std.proofs.lemmas.List.{length-map}
+use Rattle.fl_codec.proofs.ReferenceLaws.{length_of_values}
 use Rattle.fl_codec.proofs.frame_of_reference.decode_typed.Goals as goal
+
+pub under_validity_of-requires : goal.under_validity_of-requires
+under_validity_of-requires g c =
+    let long = simp length-map at (ap length c.in_ok-slots.ensures) in
+    long ∙ length_of_values g.T.Number.value c.as_slice.result.now c.args.child.now.slots c.as_slice.ensures
 
 pub returns : goal.returns
 returns g c =

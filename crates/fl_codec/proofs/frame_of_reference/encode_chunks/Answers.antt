@@ -1,9 +1,18 @@
-use Rattle.std.proofs.Common.{Ok, Some, None, map, refl, ap, sym, subst}
+use Rattle.std.proofs.Common.{◌∙◌, Ok, Some, None, map, refl, ap, sym, subst}
 use Rattle.fl_types.specs.Refusals.{Answers}
+use Rattle.fl_codec.specs.Chunks.{chunks_of}
 use Rattle.fl_codec.specs.Parts.{frame_parts, FrameParts}
 use Rattle.fl_codec.proofs.FrameColumns.{whole_ok}
-use Rattle.fl_codec.proofs.ReferenceLaws.{references_of_plain}
+use Rattle.fl_codec.proofs.ReferenceLaws.{covered_read, length_of_values, references_of_plain}
 use Rattle.fl_codec.proofs.frame_of_reference.encode_chunks.Goals as goal
+
+pub chunk_references-requires : goal.chunk_references-requires
+chunk_references-requires g c = covered_read g.T.Number.value c.args.array.now c.validity.result.now c.as_slice.result.now c.validity.ensures.value c.validity.ensures.covers c.as_slice.ensures
+
+pub less_references-requires-clause-references : goal.less_references-requires-clause-references
+less_references-requires-clause-references g c =
+    let long = length_of_values g.T.Number.value c.as_slice.result.now c.args.array.now.slots c.as_slice.ensures in
+    c.in_ok-references.ensures.long ∙ ap chunks_of long
 
 pub returns-in_ok-less_reference-in-Some : goal.returns-in_ok-less_reference-in-Some
 returns-in_ok-less_reference-in-Some g c =

@@ -1,4 +1,5 @@
-use Rattle.std.proofs.Common.{◌∙◌}
+use Rattle.std.proofs.Common.{length, ap, sym, ◌∙◌}
+use Rattle.fl_codec.specs.Chunks.{chunks_of}
 use Rattle.fl_codec.proofs.ReferenceLaws.{covered_read, length_of_values}
 use Rattle.fl_codec.proofs.frame_of_reference.less_references.Goals as goal
 
@@ -7,3 +8,8 @@ chunked_differences-requires-clause-covers g c = covered_read g.T.Number.value c
 
 pub under_validity_of-requires : goal.under_validity_of-requires
 under_validity_of-requires g c = c.in_ok-slots.ensures.long ∙ length_of_values g.T.Number.value c.as_slice-items.result.now c.args.array.now.slots c.as_slice-items.ensures
+
+pub chunked_differences-requires-clause-references : goal.chunked_differences-requires-clause-references
+chunked_differences-requires-clause-references g c =
+    let long = length_of_values g.T.Number.value c.as_slice-items.result.now c.args.array.now.slots c.as_slice-items.ensures in
+    ap length c.deref.ensures.value ∙ (c.requires.references ∙ ap chunks_of (sym long))

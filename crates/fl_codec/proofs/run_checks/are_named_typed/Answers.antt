@@ -5,6 +5,7 @@ use Rattle.fl_codec.specs.Chunks.{chunk}
 use Rattle.fl_codec.specs.Parts.{items_of_plain}
 use Rattle.fl_codec.specs.RunColumns.{is_run_index}
 use Rattle.fl_codec.proofs.FillingLaws.{below_next, length-chunk}
+use Rattle.fl_codec.proofs.ReferenceLaws.{covered_read, length_of_values}
 use Rattle.fl_codec.proofs.RunChecks.{chunk_item}
 use Rattle.fl_codec.proofs.RunDecoding.{whole_chunk}
 use Rattle.fl_codec.proofs.run_checks.are_named_typed.Goals as goal
@@ -39,3 +40,14 @@ returns g c =
     let few = length-chunk items c.args.k in
     let last = c.loop-q-test.false in
     sym (all_from (is_run_index c.args.count) (chunk c.args.k items) None (λ j h. c.loop-q.invariant j (omega arith)))
+
+pub item_at-requires : goal.item_at-requires
+item_at-requires g c =
+    let p = c.args.indices.now in
+    let long = length_of_values g.I.Number.value c.as_slice-items.result.now p.slots c.as_slice-items.ensures in
+    let room = c.requires.chunk in
+    let here = c.loop-q-test.true in
+    record {
+      covers = covered_read g.I.Number.value p c.validity-validity.result.now c.as_slice-items.result.now c.validity-validity.ensures.value c.validity-validity.ensures.covers c.as_slice-items.ensures;
+      range = omega arith;
+    }

@@ -1,5 +1,6 @@
-use Rattle.std.proofs.Common.{◌≡◌, ◌+◌, ◌-◌, ◌∙◌, length, arith, inl, inr}
+use Rattle.std.proofs.Common.{◌≡◌, ◌+◌, ◌-◌, ◌∙◌, ◌<◌, length, arith, inl, inr}
 use Rattle.std.proofs.lemmas.Bool.{cases_lt}
+use Rattle.fl_patches.specs.PatchMaps.{chunk_count}
 use Rattle.fl_packed.specs.Widths.{blocks_of}
 use Rattle.fl_packed.proofs.Joined.{item_read}
 use Rattle.fl_packed.proofs.decoding.unpack_counted.Goals as goal
@@ -43,3 +44,40 @@ loop-j-preserved g c =
       blocks = omega arith;
       words = omega arith;
     }
+
+pub block-start-requires-clause-room : goal.block-start-requires-clause-room
+block-start-requires-clause-room g c =
+    let more = c.loop-j-test.true in
+    let ended = c.chunk_count-j-end.ensures in
+    let there : c.loop-j.j < chunk_count (c.args.offset + c.args.len) = omega arith in
+    let room = c.requires.within.room c.loop-j.j there in
+    omega arith
+
+pub block_at-block-requires : goal.block_at-block-requires
+block_at-block-requires g c =
+    let more = c.loop-j-test.true in
+    let ended = c.chunk_count-j-end.ensures in
+    let there : c.loop-j.j < chunk_count (c.args.offset + c.args.len) = omega arith in
+    rw (c.block-start.ensures.start, c.block-start.ensures.width) (c.requires.within.room c.loop-j.j there)
+
+pub returns-clause-long : goal.returns-clause-long
+returns-clause-long g c =
+    let last = c.loop-j-test.false in
+    let ended = c.chunk_count-j-end.ensures in
+    let so_far = c.loop-j.invariant.long in
+    omega arith
+
+pub returns-clause-items : goal.returns-clause-items
+returns-clause-items g c i h =
+    let last = c.loop-j-test.false in
+    let ended = c.chunk_count-j-end.ensures in
+    let so_far = c.loop-j.invariant.long in
+    c.loop-j.invariant.done i (omega arith)
+
+pub returns-clause-blocks : goal.returns-clause-blocks
+returns-clause-blocks g c =
+    let last = c.loop-j-test.false in
+    let ended = c.chunk_count-j-end.ensures in
+    let reached = c.loop-j.auto.j-end in
+    let counted = c.loop-j.invariant.blocks in
+    omega arith

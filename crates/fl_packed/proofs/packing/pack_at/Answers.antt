@@ -1,6 +1,17 @@
-use Rattle.std.proofs.Common.{arith}
+use Rattle.std.proofs.Common.{◌+◌, ◌-◌, ◌*◌, arith, drop, length-drop, length-take}
 use Rattle.fl_packed.proofs.Slices.{between_front}
 use Rattle.fl_packed.proofs.packing.pack_at.Goals as goal
 
 pub returns-clause-before : goal.returns-clause-before
 returns-clause-before g c a b h = let within = c.requires.within in between_front a b c.args.start c.args.bytes.now _ h (omega arith)
+
+pub overflow_add-start : goal.overflow_add-start
+overflow_add-start g c = let within = c.requires.within in omega arith
+
+pub pack_block-requires-clause-room : goal.pack_block-requires-clause-room
+pack_block-requires-clause-room g c =
+    let within = c.requires.within in
+    let start = c.args.start in
+    let rest = length-drop start c.args.bytes.now in
+    let taken = length-take (start + 128 * c.args.width - start) (drop start c.args.bytes.now) in
+    omega arith

@@ -1,4 +1,4 @@
-use Rattle.std.proofs.Common.{◌≡◌, length, arith, ap, ◌∙◌}
+use Rattle.std.proofs.Common.{◌≡◌, ◌<◌, length, arith, ap, ◌∙◌}
 use Rattle.fl_types.specs.Integers.{bits_of_type, lanes_of_type}
 use Rattle.fl_packed.proofs.Natives.{word_width}
 use Rattle.fl_patches.specs.PatchMaps.{chunk_count}
@@ -33,3 +33,34 @@ returns-clause-each g c j h =
     let last = c.loop-j-test.false in
     let ended = c.chunk_count-j-end.ensures in
     c.loop-j.invariant.each j (omega arith)
+
+pub block-start-requires-clause-room : goal.block-start-requires-clause-room
+block-start-requires-clause-room g c =
+    let more = c.loop-j-test.true in
+    let ended = c.chunk_count-j-end.ensures in
+    let there : c.loop-j.j < chunk_count (length c.args.items.now) = omega arith in
+    let room = c.requires.within.room c.loop-j.j there in
+    omega arith
+
+pub push_block-requires-clause-width : goal.push_block-requires-clause-width
+push_block-requires-clause-width g c =
+    let more = c.loop-j-test.true in
+    let ended = c.chunk_count-j-end.ensures in
+    let there : c.loop-j.j < chunk_count (length c.args.items.now) = omega arith in
+    rw c.block-start.ensures.width (c.requires.within.narrow c.loop-j.j there)
+
+pub push_block-requires-clause-room : goal.push_block-requires-clause-room
+push_block-requires-clause-room g c =
+    let more = c.loop-j-test.true in
+    let ended = c.chunk_count-j-end.ensures in
+    let there : c.loop-j.j < chunk_count (length c.args.items.now) = omega arith in
+    let room = c.requires.within.room c.loop-j.j there in
+    let so_far = c.loop-j.invariant.long in
+    let width = c.block-start.ensures.width in
+    omega arith
+
+pub returns-then-size-eq0-clause-each : goal.returns-then-size-eq0-clause-each
+returns-then-size-eq0-clause-each g c j h =
+    let none = c.if-size-eq0.true in
+    let room = c.requires.within.room j h in
+    record { bits = λ r l b p q below. absurd (omega arith) }

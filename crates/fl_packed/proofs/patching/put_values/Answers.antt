@@ -38,3 +38,25 @@ returns g c i h =
     let all : c.loop-k.k ≡ length xs = omega (arith, c.loop-k.auto) in
     let whole = c.loop-k.invariant.whole in
     c.loop-k.invariant.put i (omega arith) ∙ ap (λ o. unwrap_or o (value_at g.T.Number.value c.args.items.now i)) (all_found (map g.T.Number.value c.args.values.now) xs (c.args.offset + i) c.loop-k.k all)
+
+pub place_of-requires-clause-above : goal.place_of-requires-clause-above
+place_of-requires-clause-above g c =
+    let len = length-read g.I.Number.value c.args.indices.now in
+    let more = c.loop-k-test.true in
+    (c.requires.within c.loop-k.k (omega arith)).0
+
+pub bounds-values-k : goal.bounds-values-k
+bounds-values-k g c =
+    let len = length-read g.I.Number.value c.args.indices.now in
+    let more = c.loop-k-test.true in
+    let even = c.requires.even in
+    omega arith
+
+pub put_at-requires : goal.put_at-requires
+put_at-requires g c =
+    let len = length-read g.I.Number.value c.args.indices.now in
+    let more = c.loop-k-test.true in
+    let whole = c.loop-k.invariant.whole in
+    let place = c.place_of.ensures in
+    let high = (c.requires.within c.loop-k.k (omega arith)).1 in
+    omega arith

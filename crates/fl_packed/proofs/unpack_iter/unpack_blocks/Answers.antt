@@ -1,4 +1,5 @@
-use Rattle.std.proofs.Common.{◌≡◌, ◌+◌, ◌-◌, length, take, drop, arith, length-take, length-drop}
+use Rattle.std.proofs.Common.{◌≡◌, ◌<◌, ◌+◌, ◌-◌, length, take, drop, arith, length-take, length-drop}
+use Rattle.fl_patches.specs.PatchMaps.{chunk_count}
 use Rattle.fl_packed.specs.Blocks.{item_of_blocks}
 use Rattle.fl_packed.specs.Widths.{blocks_of}
 use Rattle.fl_packed.proofs.Joined.{item_read}
@@ -42,3 +43,32 @@ loop-j-preserved g c =
       blocks = omega arith;
       words = omega arith;
     }
+
+pub block-start-requires-clause-room : goal.block-start-requires-clause-room
+block-start-requires-clause-room g c =
+    let more = c.loop-j-test.true in
+    let ended = c.chunk_count-j-end.ensures in
+    let there : c.loop-j.j < chunk_count (c.args.offset + length c.args.items.now) = omega arith in
+    let room = c.requires.within.room c.loop-j.j there in
+    omega arith
+
+pub block_at-block-requires : goal.block_at-block-requires
+block_at-block-requires g c =
+    let more = c.loop-j-test.true in
+    let ended = c.chunk_count-j-end.ensures in
+    let there : c.loop-j.j < chunk_count (c.args.offset + length c.args.items.now) = omega arith in
+    rw (c.block-start.ensures.start, c.block-start.ensures.width) (c.requires.within.room c.loop-j.j there)
+
+pub returns-clause-items : goal.returns-clause-items
+returns-clause-items g c i h =
+    let last = c.loop-j-test.false in
+    let ended = c.chunk_count-j-end.ensures in
+    c.loop-j.invariant.done i (omega arith)
+
+pub returns-clause-blocks : goal.returns-clause-blocks
+returns-clause-blocks g c =
+    let last = c.loop-j-test.false in
+    let ended = c.chunk_count-j-end.ensures in
+    let reached = c.loop-j.auto.j-end in
+    let counted = c.loop-j.invariant.blocks in
+    omega arith

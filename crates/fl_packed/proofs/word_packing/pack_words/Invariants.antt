@@ -1,4 +1,4 @@
-use Rattle.std.proofs.Common.{◌≡◌, ◌≤◌, ℕ, ◌+◌, ◌*◌, ◌<◌, length, map, vec_capacity}
+use Rattle.std.proofs.Common.{◌≡◌, ◌≤◌, ℕ, ◌+◌, ◌*◌, ◌<◌, length, map, vec_capacity, vec_len}
 use Rattle.fastlanes.specs.Layout.{Packed}
 use Rattle.fl_packed.specs.Blocks.{pattern_in}
 use Rattle.fl_packed.proofs.word_packing.pack_words.Given as goal
@@ -11,6 +11,7 @@ invariant-loop-j g l =
     let lanes = g.T.Physical.FastLanes.LANES in record {
       words : length l.words ≡ 1024;
       long : length l.packed.items ≡ l.width * lanes * l.j;
-      room : l.total ≤ vec_capacity l.packed;
+      all : l.total ≤ vec_capacity l.packed;
+      room : l.j < l.blocks → vec_len l.packed + l.width * lanes ≤ vec_capacity l.packed;
       each : (k : ℕ) → k < l.j → Packed g.T.Physical.FastLanes.T lanes l.width (λ q. pattern_in ptype (map value l.items) (1024 * k + q)) (λ m. pattern_in ptype (map value l.packed.items) (l.width * lanes * k + m));
     }

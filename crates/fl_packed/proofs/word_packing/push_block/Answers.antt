@@ -1,4 +1,4 @@
-use Rattle.std.proofs.Common.{◌+◌, ◌*◌, ◌≤◌, ◌∙◌, length, arith, ap, sym}
+use Rattle.std.proofs.Common.{◌+◌, ◌*◌, ◌≤◌, ◌∙◌, length, take, arith, rules, refl, ap, sym}
 use Rattle.fl_packed.proofs.Natives.{few_words, packed_by_items}
 use Rattle.fl_packed.proofs.WordLaws.{block_added, front_words, words_kept, words_more}
 use Rattle.fl_packed.proofs.word_packing.push_block.Goals as goal
@@ -26,3 +26,26 @@ returns-clause-packed g c =
     let packed = packed_by_items _ _ c.args.width _ _ _ g.met.T.Physical.FastLanes.shape (λ i h. sym (c.put_patterns.ensures.patterns i h)) c.pack.ensures in
     block_added g.T.Physical.FastLanes.pattern g.T.Number.value g.T.NativePType.PTYPE g.T.Physical.FastLanes.T g.T.Physical.FastLanes.LANES c.args.width _ c.args.packed.now.items _ words g.met.T.Physical.FastLanes.shape g.met.T.PhysicalPType.width_law block
     c.push_words.ensures.words c.all_in_range.ensures packed
+
+pub overflow_mul-words : goal.overflow_mul-words
+overflow_mul-words g c =
+    let few : c.args.width * c.LANES-lanes.result ≤ 1024 = rw c.LANES-lanes.ensures (few_words g.T.Physical.FastLanes.T g.T.Physical.FastLanes.LANES c.args.width g.met.T.Physical.FastLanes.shape c.requires.width) in
+    omega arith
+
+pub pack-requires : goal.pack-requires
+pack-requires g c =
+    let lanes = c.LANES-lanes.result in
+    let front = take (c.args.width * lanes) c.args.words.now in
+    (search rules, (c.requires.width, front_words g.T.Physical.FastLanes.T g.T.Physical.FastLanes.LANES c.args.width lanes c.args.words.now front g.met.T.Physical.FastLanes.shape c.requires.width c.LANES-lanes.ensures c.requires.words refl))
+
+pub push_words-requires : goal.push_words-requires
+push_words-requires g c =
+    let block = front_words g.T.Physical.FastLanes.T g.T.Physical.FastLanes.LANES c.args.width c.LANES-lanes.result c.args.words.now c.pack.new.packed g.met.T.Physical.FastLanes.shape c.requires.width c.LANES-lanes.ensures c.requires.words c.pack.auto.packed in
+    rw block c.requires.room
+
+pub slice_bounds-words-end-2 : goal.slice_bounds-words-end-2
+slice_bounds-words-end-2 g c =
+    let lanes = c.LANES-lanes.result in
+    let front = take (c.args.width * lanes) c.args.words.now in
+    let block = front_words g.T.Physical.FastLanes.T g.T.Physical.FastLanes.LANES c.args.width lanes c.args.words.now front g.met.T.Physical.FastLanes.shape c.requires.width c.LANES-lanes.ensures c.requires.words refl in
+    ap (λ n. c.args.width * n) c.LANES-lanes.ensures ∙ sym block

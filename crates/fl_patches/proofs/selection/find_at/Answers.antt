@@ -2,6 +2,9 @@ use Rattle.fl_patches.proofs.Picked.{found_more, found_all}
 use Rattle.fl_patches.proofs.Rising.{read}
 use Rattle.fl_patches.proofs.selection.find_at.Goals as goal
 
+pub rank_at-requires : goal.rank_at-requires
+rank_at-requires g c = rw c.as_slice-indices.ensures c.requires.rising
+
 pub loop-place-preserved : goal.loop-place-preserved
 loop-place-preserved g c = found_more c.args.offset (read g.I.Number.value c.as_slice-indices.result.now) c.args.positions.now c.loop-place.place c.rank_at.result c.loop-place.found.places.items c.loop-place.found.ranks.items c.push.new.self.places.items c.push.new.self.ranks.items c.in_ok-push.ensures.found c.loop-place.invariant c.rank_at.ensures c.loop-place-test.true
 

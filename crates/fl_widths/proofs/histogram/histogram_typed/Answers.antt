@@ -1,14 +1,15 @@
-use Rattle.std.proofs.Common.{◌≡◌, Ok, ap, map, sym, arith, length, ◌+◌}
+use Rattle.std.proofs.Common.{◌≡◌, [], Ok, ap, drop, map, sym, arith, length, ◌+◌}
 use Rattle.std.proofs.lemmas.List.{length-map}
 use Rattle.fl_types.specs.Integers.{bits_of_type}
-use Rattle.fl_widths.proofs.Histograms.{histogram_all}
+use Rattle.fl_widths.proofs.Gathers.{covered_slice}
+use Rattle.fl_widths.proofs.Histograms.{histogram_all, length-histogram}
 use Rattle.fl_widths.proofs.histogram.histogram_typed.Goals as goal
+
+pub count_items-requires-clause-covers : goal.count_items-requires-clause-covers
+count_items-requires-clause-covers g c = covered_slice g.T.Number.value c.args.array.now.validity c.validity.result.now c.as_slice-items.result.now c.args.array.now.slots c.as_slice-items.ensures c.validity.ensures.value c.validity.ensures.covers
 
 pub returns : goal.returns
 returns g c =
-    let t = g.T.NativePType.PTYPE in
-    let p = c.args.array.now in
-    let items = c.as_slice-items.result.now in
-    let count = length-map items g.T.Number.value in
-    let room : c.in_ok-entries.entries.len ≡ bits_of_type t + 1 = omega (arith, c.in_ok-entries.entries.ok, c.in_ok-entries.ensures) in
-    ap (λ xs. Ok xs) (histogram_all t p.ptype p.validity c.validity.result.now (map g.T.Number.value items) p.slots (length items) c.in_ok-entries.entries.len c.count_items.new.entries _ c.requires c.validity.ensures.value c.as_slice-items.ensures c.validity.ensures.covers (sym count) room c.count_items.ensures)
+    let room : c.in_ok-entries.entries.len ≡ bits_of_type g.T.NativePType.PTYPE + 1 = omega (arith, c.in_ok-entries.entries.ok, ap length c.in_ok-entries.ensures, length-histogram g.T.NativePType.PTYPE []) in
+    ap (λ xs. Ok xs) (histogram_all g.T.NativePType.PTYPE c.args.array.now.ptype c.args.array.now.validity c.validity.result.now (map g.T.Number.value c.as_slice-items.result.now) c.args.array.now.slots (length c.as_slice-items.result.now) c.in_ok-entries.entries.len c.count_items.new.entries (drop (length c.count_items.new.entries) c.in_ok-entries.entries.items)
+    c.requires c.validity.ensures.value c.as_slice-items.ensures c.validity.ensures.covers (sym (length-map c.as_slice-items.result.now g.T.Number.value)) room c.count_items.ensures)

@@ -12,3 +12,7 @@ loop-at-preserved g c = record {
   mark = search rules;
   within = omega (arith, c.in_ok-at.ensures.bound);
 }
+
+-- said here, where the search finds it too: a body that breaks it is refused at once
+pub returns-clause-mark : goal.returns-clause-mark
+returns-clause-mark g c = search rules

@@ -22,7 +22,7 @@ returns g c =
     let packed_is : packed ≡ c.args.self.now.packed = ap (λ (r : Reader). r.packed) c.self.view_is in
     let read : map value (take (to - from) (drop from c.unpack_chunk.new.dst)) ≡ items_at ptype width packed (1024 * j + from) (to - from) =
     integers_between value (λ k. item_of_blocks ptype (even_blocks width) packed (1024 * j + from + k)) c.unpack_chunk.new.dst from to order (omega arith)
-    (λ k h. item_read ptype (even_blocks width) packed c.block_at-block.result.now j _ width (from + k) (1024 * j + from + k) _ refl refl c.block_at-block.ensures.bytes (omega arith) (omega arith) (c.unpack_chunk.ensures.items (from + k) (omega arith))) in (
+    (λ k h. item_read ptype (even_blocks width) packed c.even_block-block.result.now j _ width (from + k) (1024 * j + from + k) _ refl refl c.even_block-block.ensures.bytes (omega arith) (omega arith) (c.unpack_chunk.ensures.items (from + k) (omega arith))) in (
       (refl, λ w. search rules),
       record {
         after = tt;

@@ -5,6 +5,18 @@ use Rattle.fl_patches.proofs.Parts.{sound}
 use Rattle.fl_patches.proofs.Rising.{rank_at}
 use Rattle.fl_patches.proofs.patches.Patches.get_patched.Goals as goal
 
+pub rank_in-requires : goal.rank_in-requires
+rank_in-requires c =
+    let f = c.self.inside in
+    let p : PatchMap = record { array_len = f.array_len; offset = f.offset; indices = f.indices; values = f.values; chunk_offsets = f.chunk_offsets } in
+    (sound p c.self.invariant).rising
+
+pub value_in-requires-clause-valued : goal.value_in-requires-clause-valued
+value_in-requires-clause-valued c =
+    let f = c.self.inside in
+    let p : PatchMap = record { array_len = f.array_len; offset = f.offset; indices = f.indices; values = f.values; chunk_offsets = f.chunk_offsets } in
+    (sound p c.self.invariant).valued
+
 pub value_in-requires-clause-range : goal.value_in-requires-clause-range
 value_in-requires-clause-range c =
     let f = c.self.inside in

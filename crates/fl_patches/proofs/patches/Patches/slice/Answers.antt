@@ -6,6 +6,18 @@ use Rattle.fl_patches.proofs.Parts.{ok_same, patches_none, patches_some, sound, 
 use Rattle.fl_patches.proofs.Slices.{before_in_order, before_within, cut, cut_is, first_at, none_cut, patched_cut, sound_cut}
 use Rattle.fl_patches.proofs.patches.Patches.slice.Goals as goal
 
+pub count_in-first-requires : goal.count_in-first-requires
+count_in-first-requires c =
+    let f = c.self.inside in
+    let p : PatchMap = record { array_len = f.array_len; offset = f.offset; indices = f.indices; values = f.values; chunk_offsets = f.chunk_offsets } in
+    (sound p c.self.invariant).rising
+
+pub count_in-last-requires : goal.count_in-last-requires
+count_in-last-requires c =
+    let f = c.self.inside in
+    let p : PatchMap = record { array_len = f.array_len; offset = f.offset; indices = f.indices; values = f.values; chunk_offsets = f.chunk_offsets } in
+    (sound p c.self.invariant).rising
+
 pub returns-then-first-last-clause-parts : goal.returns-then-first-last-clause-parts
 returns-then-first-last-clause-parts c =
     let f = c.self.inside in
@@ -47,6 +59,14 @@ slice_of-requires-clause-order c =
     let p : PatchMap = record { array_len = f.array_len; offset = f.offset; indices = f.indices; values = f.values; chunk_offsets = f.chunk_offsets } in
     let order = before_in_order p c.args.start c.args.end (sound p c.self.invariant) c.requires.order in
     let first = c.count_in-first.ensures in
+    let last = c.count_in-last.ensures in
+    omega arith
+
+pub slice_of-requires-clause-range : goal.slice_of-requires-clause-range
+slice_of-requires-clause-range c =
+    let f = c.self.inside in
+    let p : PatchMap = record { array_len = f.array_len; offset = f.offset; indices = f.indices; values = f.values; chunk_offsets = f.chunk_offsets } in
+    let room = before_within p c.args.end in
     let last = c.count_in-last.ensures in
     omega arith
 

@@ -1,0 +1,12 @@
+use Rattle.std.proofs.Common.{◌∙◌, ap, sym}
+use Rattle.std.proofs.lemmas.List.{drop_all}
+use Rattle.fl_array.specs.Kinds.{kind}
+use Rattle.fl_array.specs.Trees.{column}
+use Rattle.fl_ops.specs.Operations.{run, run_kind}
+use Rattle.fl_ops.proofs.operations.apply_all.Goals as goal
+
+pub returns-clause-column : goal.returns-clause-column
+returns-clause-column c = sym c.loop-op.invariant.0 ∙ ap (run (column c.loop-op.current)) (drop_all c.loop-op.op-index c.in-Some.rest.now c.loop-op-test.false)
+
+pub returns-clause-kind : goal.returns-clause-kind
+returns-clause-kind c = sym (ap (run_kind (kind c.loop-op.current)) (drop_all c.loop-op.op-index c.in-Some.rest.now c.loop-op-test.false)) ∙ c.loop-op.invariant.1

@@ -1,0 +1,27 @@
+use Rattle.std.proofs.Common.{◌≡◌, ◌∙◌, length, map, ap, arith}
+use Rattle.fl_types.specs.Validities.{items_of}
+use Rattle.fl_patches.specs.PatchMaps.{chunk_count}
+use Rattle.fl_widths.specs.Exceptions.{exceptions_of}
+use Rattle.fl_widths.specs.PatchParts.{counts_before}
+use Rattle.fl_widths.specs.Widths.{width_at}
+use Rattle.fl_widths.proofs.Gathers.{all_found, blocks_none, named_at}
+use Rattle.fl_widths.proofs.gathering.find.Goals as goal
+
+pub loop-block-init : goal.loop-block-init
+loop-block-init g c = blocks_none _ _ _ _ c.in_ok-found.ensures c.in_ok-offsets.ensures.items
+
+pub of_block-requires : goal.of_block-requires
+of_block-requires g c = named_at c.args.widths (length c.args.items.now) c.loop-block.block c.requires.names (omega arith)
+
+pub loop-block-preserved : goal.loop-block-preserved
+loop-block-preserved g c = c.in_ok-push_block.ensures (width_at c.args.widths) c.of_block.ensures c.loop-block.invariant
+
+pub returns-clause-found : goal.returns-clause-found
+returns-clause-found g c =
+    all_found g.T.NativePType.PTYPE g.T.Number.value c.args.validity.now c.args.items.now (width_at c.args.widths) c.loop-block.block c.loop-block.found.places.items (map g.T.Number.value c.loop-block.found.values.items) c.loop-block.offsets.items c.requires.covers (omega arith) c.loop-block.invariant
+
+pub returns-clause-offsets : goal.returns-clause-offsets
+returns-clause-offsets g c =
+    let all = exceptions_of g.T.NativePType.PTYPE (width_at c.args.widths) (items_of c.args.validity.now (map g.T.Number.value c.args.items.now)) in
+    let end : c.loop-block.block ≡ chunk_count (length c.args.items.now) = omega arith in
+    c.loop-block.invariant.counted ∙ ap (counts_before all) end
