@@ -1,4 +1,4 @@
-use Rattle.std.proofs.Common.{option_map}
+use Rattle.std.proofs.Common.{option_map, rules}
 use Rattle.fl_types.specs.Slots.{integers_of}
 use Rattle.fl_plain.proofs.GatherLaws.{covers_read, positions_more, positions_fail, positions_end}
 use Rattle.fl_plain.proofs.selection.positions_typed.Goals as goal
@@ -19,3 +19,7 @@ item_at-index-requires-clause-covers g c = covers_read g.T.Number.value c.as_sli
 
 pub item_at-index-requires-clause-range : goal.item_at-index-requires-clause-range
 item_at-index-requires-clause-range g c = c.loop-i-test.true
+
+-- said here, where the search finds it too: a body that breaks it is refused at once
+pub position_of-requires : goal.position_of-requires
+position_of-requires g c = search rules
