@@ -13,7 +13,7 @@ pub changes_more : (item : ℕ → ℕ) (q : ℕ) → changes item (q + 1) ≡ c
 unfolding changes counted
 changes_more item q = rw add-one refl
 
-value_step : (b : Bool) → bit_value (not b) ≤ 1
+pub value_step : (b : Bool) → bit_value (not b) ≤ 1
 value_step true = omega arith
 value_step false = omega arith
 

@@ -77,6 +77,16 @@ whole_eights _ _ bits_16 = (refl, refl)
 whole_eights _ _ bits_32 = (refl, refl)
 whole_eights _ _ bits_64 = (refl, refl)
 
+-- a word whose bits are neither 8 nor 16 nor 32 has 64
+pub widest : (T lanes t : ℕ) → IsWordWidth T lanes → t ≡ T → (t ≡ 8 → ⊥) → (t ≡ 16 → ⊥) → (t ≡ 32 → ⊥) → T ≡ 64
+widest _ _ t bits_8 e not_8 not_16 not_32 = absurd (not_8 e)
+widest _ _ t bits_16 e not_8 not_16 not_32 = absurd (not_16 e)
+widest _ _ t bits_32 e not_8 not_16 not_32 = absurd (not_32 e)
+widest _ _ t bits_64 e not_8 not_16 not_32 = refl
+
+pub has_64_rows : (T lanes t : ℕ) → IsWordWidth T lanes → t ≡ T → (t ≡ 8 → ⊥) → (t ≡ 16 → ⊥) → (t ≡ 32 → ⊥) → 64 ≤ T
+has_64_rows T lanes t shape e not_8 not_16 not_32 = let wide = widest T lanes t shape e not_8 not_16 not_32 in omega arith
+
 pub filled_all : (rows lanes : ℕ) (at value : ℕ → ℕ → ℕ) (g to : ℕ) (old new : ℕ → ℕ) → to ≡ rows → Filled rows lanes at value g 0 to old new → Filled rows lanes at value g 0 rows old new
 filled_all rows lanes at value g to old new e filled = rw e at filled
 

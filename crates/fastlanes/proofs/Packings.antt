@@ -146,6 +146,9 @@ row_goes_on T lanes width item r l shift x f y shape w shift_is beyond x_is f_is
     ∙ (cut_bit (item (place r l)) width (T - r * width % T + t) far
     ∙ (sym (row_bit width item l r (T - r * width % T + t) far) ∙ ap (stream_bit width item l) same))))
 
+pub next_word_stays : (T lanes width r shift : ℕ) → IsWordWidth T lanes → shift ≡ r * width % T → shift + width < T → (r + 1) * width / T ≡ r * width / T
+next_word_stays T lanes width r shift shape shift_is within = rw (next_row r width) (stays T lanes (r * width) width shape (rw shift_is at within)).0
+
 pub next_word_moves : (T lanes width r shift : ℕ) → IsWordWidth T lanes → width ≤ T → shift ≡ r * width % T → T ≤ shift + width → (r + 1) * width / T ≡ r * width / T + 1
 next_word_moves T lanes width r shift shape w shift_is beyond = rw (next_row r width) (moves T lanes (r * width) width shape w (rw shift_is at beyond)).0
 

@@ -174,6 +174,7 @@ fn nothing_begun<W: FastLanes>(width: usize, items: &[W; FL_CHUNK_SIZE], g: usiz
 
 /// Packs the items of the lanes of group `g`.
 #[inline(always)]
+#[tactic(auto, using(crate::proofs::Fillings::has_64_rows))]
 fn pack_group<W: FastLanes, S: Storage<W>, const FIRST: usize, const MORE: usize>(
     width: usize,
     items: &[W; FL_CHUNK_SIZE],

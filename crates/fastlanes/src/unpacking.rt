@@ -160,6 +160,7 @@ fn unpack_64<
 
 /// Writes the items at all rows of the lanes of group `g`, plus the reference.
 #[inline(always)]
+#[tactic(auto, using(crate::proofs::Fillings::has_64_rows))]
 fn unpack_group<
     W: FastLanes,
     S: Storage<W>,

@@ -173,7 +173,7 @@ fn old_and_new_agree_on_words_of_64_bits(rt: HostRuntime) {
 }
 
 /// The bytes hold these words, the low byte first.
-fn hold<W: FastLanes>(bytes: &[u8], words: &[W]) -> bool {
+pub(crate) fn hold<W: FastLanes>(bytes: &[u8], words: &[W]) -> bool {
     for m in 0..words.len() {
         if bytes.len() / (W::T / 8) <= m || !W::word(bytes, m).same(words[m]) {
             return false;

@@ -3,7 +3,7 @@ use Rattle.std.proofs.Common.{◌≡◌, ℕ, ℤ, ◌+◌, ◌-◌, ◌<◌, �
 use borrow.Author.Count.{below_more}
 use Rattle.std.specs.List.{list_all, flat_map}
 use Rattle.fl_types.specs.Bits.{between}
-use Rattle.std.proofs.lemmas.List.{map-append, map_more, take_all, length-map, replicate_more, take_more, flat_map_more, get_or-map, append_assoc}
+use Rattle.std.proofs.lemmas.List.{map-append, map_more, take_all, length-map, replicate_more, take_more, flat_map_more, get_or-map, append_assoc, take-map, drop-map}
 use Rattle.fl_types.specs.Integers.{fits}
 use Rattle.fl_types.specs.Refusals.{Answers}
 use Rattle.fl_types.specs.Types.{can_be_null}
@@ -216,6 +216,26 @@ pub covers_read : {A : Type 0} (f : A → ℤ) (xs : List A) (zs : List ℤ) (v 
 covers_read f xs zs v slots covered =
     let each : length xs ≡ length zs = sym (length-map xs f) ∙ ap length slots in
     rw each covered
+
+-- what lies within the slots lies within the items that are read
+pub within_read : {A : Type 0} (f : A → ℤ) (xs : List A) (zs : List ℤ) (n : ℕ) → map f xs ≡ zs → n ≤ length zs → n ≤ length xs
+within_read f xs zs n slots within =
+    let each : length xs ≡ length zs = sym (length-map xs f) ∙ ap length slots in
+    rw each within
+
+pub below_read : {A : Type 0} (f : A → ℤ) (xs : List A) (zs : List ℤ) (i : ℕ) → map f xs ≡ zs → i < length zs → i < length xs
+below_read f xs zs i slots within =
+    let each : length xs ≡ length zs = sym (length-map xs f) ∙ ap length slots in
+    rw each within
+
+-- the slots that were made of a part of the items that are read
+pub part_read : {A : Type 0} (f : A → ℤ) (xs part : List A) (zs made : List ℤ) (start end : ℕ) → map f xs ≡ zs → part ≡ between start end xs → made ≡ map f part → made ≡ between start end zs
+part_read f xs part zs made start end slots is values = rw (values, is, ← slots, drop-map, take-map) refl
+
+-- the value of an item that is read, seen among the slots
+pub slot_read : {A : Type 0} (f : A → ℤ) (xs : List A) (zs : List ℤ) (i : ℕ) (x : A) (z : ℤ) → map f xs ≡ zs → i < length zs → x ≡ get_or xs i x → z ≡ f x → z ≡ get_or zs i z
+slot_read f xs zs i x z slots within is value =
+    rw (← slots) (value ∙ ap f is ∙ sym (get_or-map f xs i x z (below_read f xs zs i slots within)))
 
 -- a bit for each slot that was read
 pub bit_within : {A : Type 0} (f : A → ℤ) (xs : List A) (zs : List ℤ) (n i : ℕ) → map f xs ≡ zs → n ≡ length zs → i < length xs → i < n

@@ -1,6 +1,7 @@
 -- The items under a validity: how many, which, and those of a part.
 use Rattle.std.proofs.Common.{◌≡◌, ℕ, zero, suc, ◌+◌, ◌-◌, ◌<◌, ◌≤◌, ℤ, pos, Bool, true, false, List, [], ◌∷◌, ◌++◌, length, map, take, drop, replicate, get_or, Option, Some, None, option_map, IsTrue, cond, refl, ap, ◌∙◌, sym, arith, slice_get, is_some, unwrap_or, Result, Ok, ◌==◌, length-take, length-drop}
 use Rattle.std.specs.List.{list_all}
+use Rattle.std.specs.Result.{IsOk}
 use Rattle.std.proofs.lemmas.List.{take-map, drop-map, length-map, get_or-map, map-append, map_more, replicate_more, take-replicate, drop-replicate, length-replicate, same_lists, get_or_default}
 use Rattle.std.proofs.lemmas.Option.{get_or_from_slice_get}
 use Rattle.std.proofs.lemmas.Bool.Decides.{Decides-eqb}
@@ -12,7 +13,8 @@ use Rattle.fl_types.specs.Integers.{fits, pattern_of, read_as}
 use Rattle.fl_types.proofs.Patterns.{read_pattern}
 use Rattle.std.specs.List.{list_all}
 use Rattle.fl_plain.proofs.ListLaws.{and_first, and_second}
-use Rattle.fl_plain.specs.Columns.{Plain, reread_plain, new_plain, plain_of_options}
+use Rattle.fl_plain.specs.Operations.{slice_of}
+use Rattle.fl_plain.specs.Columns.{Column, Plain, column_of_bools, column_of_plain, reread_plain, new_plain, plain_of_options}
 use Rattle.fl_types.specs.Validities.{items_of, covers, masked, is_valid_at, validity_between, nullability_of}
 use Rattle.fl_types.specs.declared.dtype.Nullability.TheVariants.{Nullable}
 use Rattle.fl_types.specs.declared.validity.Validity.{Validity}
@@ -76,6 +78,33 @@ covers-between (valid.Array bits) xs start end o r k =
     (Decides-eqb _ _).1 (length-between bits start end o (omega arith) ∙ sym (length-between xs start end o r))
 
 pub ruleset slices = (items_of-between, nullability_of-between, covers-between, length-items_of)
+
+-- what lies within the items lies within the slots
+pub within_slots : {A : Type 0} (v : Validity) (xs : List A) (n : ℕ) → IsTrue (covers v (length xs)) → n ≤ length (items_of v xs) → n ≤ length xs
+within_slots v xs n k h = rw (← length-items_of v xs k) h
+
+-- the validity that was made for a part covers the slots that were
+pub part_covered : {A : Type 0} (v w : Validity) (xs ys : List A) (start end : ℕ) → start ≤ end → end ≤ length xs → IsTrue (covers v (length xs)) → ◌≡◌ {A = Result Validity FastLanesError} (Ok (validity_between start end v)) (Ok w) → ys ≡ between start end xs → IsTrue (covers w (length ys))
+part_covered v w xs ys start end o r k part slots =
+    let same : validity_between start end v ≡ w = cc in
+    rw (slots, ← same) (covers-between v xs start end o r k)
+
+ok_is : {A : Type 0} (x y : A) → ◌≡◌ {A = Result A FastLanesError} (Ok x) (Ok y) → x ≡ y
+ok_is x y e = cc
+
+-- the same of truth values
+pub truths_covered : (v w : Validity) (xs ys : List Bool) (start end : ℕ) → start ≤ end → end ≤ length xs → IsTrue (covers v (length xs)) → ◌≡◌ {A = Result Validity FastLanesError} (Ok (validity_between start end v)) (Ok w) → ◌≡◌ {A = Result (List Bool) FastLanesError} (Ok (between start end xs)) (Ok ys) → IsTrue (covers w (length ys))
+truths_covered v w xs ys start end o r k part made = part_covered v w xs ys start end o r k part (sym (ok_is (between start end xs) ys made))
+
+-- the array that was made of a part is that part of the column
+pub part_of_plain : (t u : PType) (v w : Validity) (xs ys : List ℤ) (start end : ℕ) → u ≡ t → ◌≡◌ {A = Result Validity FastLanesError} (Ok (validity_between start end v)) (Ok w) → ys ≡ between start end xs
+    → ◌≡◌ {A = Result Column FastLanesError} (Ok (slice_of start end (column_of_plain (record { ptype = t; slots = xs; validity = v })))) (Ok (column_of_plain (record { ptype = u; slots = ys; validity = w })))
+part_of_plain t u v w xs ys start end typed part slots = rw (typed, slots, ← ok_is (validity_between start end v) w part, nullability_of-between, items_of-between) refl
+
+-- the truth values that were made of a part are that part of the column
+pub part_of_truths : (v w : Validity) (xs ys : List Bool) (start end : ℕ) → ◌≡◌ {A = Result Validity FastLanesError} (Ok (validity_between start end v)) (Ok w) → ◌≡◌ {A = Result (List Bool) FastLanesError} (Ok (between start end xs)) (Ok ys)
+    → ◌≡◌ {A = Result Column FastLanesError} (Ok (slice_of start end (column_of_bools (record { bits = xs; validity = v })))) (Ok (column_of_bools (record { bits = ys; validity = w })))
+part_of_truths v w xs ys start end part made = rw (← ok_is (validity_between start end v) w part, ← ok_is (between start end xs) ys made, nullability_of-between, items_of-between, drop-map, take-map) refl
 
 get_or-masked : {A : Type 0} (bits : List Bool) (xs : List A) (i : ℕ) (d : A) → length bits ≡ length xs → i < length xs → get_or (masked bits xs) i None ≡ cond (get_or bits i false) (Some (get_or xs i d)) None
 get_or-masked [] xs i d n h = absurd (omega arith)
@@ -184,6 +213,12 @@ new_options ptype items slots bits r e f is =
     let covered : (length bits == length slots) ≡ true = (Decides-eqb (length bits) (length slots)).1 even in
     let made : r ≡ Ok (record { ptype = ptype; slots = slots; validity = valid.Array bits }) = is ∙ (rw covered refl) in
     rw made (rw (e, f) refl)
+
+-- parts of one length make an array
+pub parts_fit : (ptype : PType) (slots : List ℤ) (bits : List Bool) (r : Result Plain FastLanesError) → length bits ≡ length slots → r ≡ new_plain ptype slots (valid.Array bits) → IsOk r
+parts_fit ptype slots bits r even is =
+    let covered : (length bits == length slots) ≡ true = (Decides-eqb (length bits) (length slots)).1 even in
+    rw (is, covered) refl
 
 -- one more item of a list that is mapped, as a loop reads it
 pub map_read : {A B : Type 0} (f : A → B) (xs : List A) (i : ℕ) (x : A) → i < length xs → x ≡ get_or xs i x → map f (take (i + 1) xs) ≡ map f (take i xs) ++ f x ∷ []

@@ -1,8 +1,8 @@
 -- Tests of items, and what they say of a whole column.
-use Rattle.std.proofs.Common.{◌≡◌, ℕ, ℤ, pos, zero, suc, ◌+◌, ◌<◌, Bool, true, false, List, [], ◌∷◌, length, map, get_or, Option, Some, None, Result, Ok, Err, IfOk, IfErr, option_map, IsTrue, refl, ap, ◌∙◌, sym, arith}
+use Rattle.std.proofs.Common.{◌≡◌, ℕ, ℤ, pos, zero, suc, ◌+◌, ◌<◌, Bool, true, false, List, [], ◌∷◌, length, map, get_or, not, negsuc, int_lt, int_le, nat_lt, nat_le, Option, Some, None, Result, Ok, Err, IfOk, IfErr, option_map, IsTrue, refl, ap, ◌∙◌, sym, arith}
 use Rattle.std.specs.List.{list_all}
 use Rattle.std.proofs.lemmas.List.{length-map, same_lists, get_or-map, get_or_default}
-use Rattle.std.proofs.lemmas.Bool.Decides.{Decides-int_eq}
+use Rattle.std.proofs.lemmas.Bool.Decides.{Decides-int_eq, nat_tests}
 use Rattle.std.specs.Ordering.{int_eq}
 use Rattle.fl_types.specs.Validities.{items_of, covers, masked}
 use Rattle.fl_types.specs.Refusals.{Answers}
@@ -82,3 +82,13 @@ pub next_holds : {A : Type 0} (test : A → A → Bool) (xs : List A) (d : A) �
 next_holds test [] d h = refl
 next_holds test (x ∷ []) d h = refl
 next_holds test (x ∷ y ∷ rest) d h = and_true (test x y) (each_next test (y ∷ rest)) (h 0 (omega arith)) (next_holds test (y ∷ rest) d (λ i k. let step : suc i + 1 ≡ suc (i + 1) = omega arith in rw step at (h (suc i) (omega arith))))
+
+not_below : (x y : ℕ) → not (nat_lt x y) ≡ nat_le y x
+not_below x y = grind (arith, nat_tests)
+
+-- what is not below is at it or above
+pub not_less : (x y : ℤ) → not (int_lt x y) ≡ int_le y x
+not_less (pos x) (pos y) = not_below x y
+not_less (pos x) (negsuc y) = refl
+not_less (negsuc x) (pos y) = refl
+not_less (negsuc x) (negsuc y) = not_below y x

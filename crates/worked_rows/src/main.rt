@@ -23,7 +23,6 @@ mod shown;
 mod text;
 mod types;
 mod widths;
-mod words;
 
 use crate::text::Text;
 use fl_plain::PrimitiveArray;
@@ -42,7 +41,6 @@ fn ask(alloc: Global, question: &[&str], columns: &[PrimitiveArray], answer: &mu
         || gathering::ask(alloc, question, columns, answer)
         || patches::ask(alloc, question, columns, answer)
         || blocks::ask(alloc, question, columns, answer)
-        || words::ask(alloc, question, columns, answer)
         || messages::ask(alloc, question, answer)
         || packing::ask(alloc, question, columns, answer)
         || plain::ask(alloc, question, columns, answer);

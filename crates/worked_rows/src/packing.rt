@@ -178,35 +178,44 @@ fn pack(
     }
 }
 
-/// Asks for an item of bytes.
-fn ask_item(question: &[&str], bytes: &[u8], answer: &mut Text) -> bool {
-    match question {
-        ["item", name, width, index] => {
-            answer.word(name);
-            let (width, index) = (count(width), count(index));
-            match_each_integer_ptype!(type_of(name), item(bytes, width, index, answer));
-        }
-        ["block_item", name, width, index] => {
-            answer.word(name);
-            let (width, index) = (count(width), count(index));
-            match_each_integer_ptype!(type_of(name), block_item(bytes, width, index, answer));
-        }
-        _ => return false,
-    }
-    true
+/// Adds an item of bytes, by the name of its type.
+fn item_of(bytes: &[u8], name: &str, width: usize, index: usize, answer: &mut Text) {
+    answer.word(name);
+    match_each_integer_ptype!(type_of(name), item(bytes, width, index, answer));
+}
+
+/// Adds an item of a block's bytes, by the name of its type.
+fn block_item_of(bytes: &[u8], name: &str, width: usize, index: usize, answer: &mut Text) {
+    answer.word(name);
+    match_each_integer_ptype!(type_of(name), block_item(bytes, width, index, answer));
+}
+
+/// Adds the column of bytes, by the name of its type, without nulls.
+fn unpack_of(alloc: Global, bytes: &[u8], name: &str, numbers: [usize; 3], answer: &mut Text) {
+    let [width, offset, len] = numbers;
+    let (ptype, solid) = (type_of(name), Validity::NonNullable);
+    unpack_bytes(alloc, bytes, &solid, ptype, width, offset, len, answer);
 }
 
 /// Asks a question of bytes.
 fn ask_bytes(alloc: Global, question: &[&str], bytes: &[u8], answer: &mut Text) -> bool {
     match question {
-        ["unpack", name, width, offset, len] => {
-            let (width, offset, len) = (count(width), count(offset), count(len));
-            let (ptype, solid) = (type_of(name), Validity::NonNullable);
-            unpack_bytes(alloc, bytes, &solid, ptype, width, offset, len, answer);
-            true
+        ["item", name, width, index] => item_of(bytes, name, count(width), count(index), answer),
+        ["block_item", name, width, index] => {
+            block_item_of(bytes, name, count(width), count(index), answer);
         }
-        _ => ask_item(question, bytes, answer) || readers::ask(question, bytes, answer),
+        ["unpack", name, width, offset, len] => {
+            let numbers = [count(width), count(offset), count(len)];
+            unpack_of(alloc, bytes, name, numbers, answer);
+        }
+        _ => return readers::ask(question, bytes, answer),
     }
+    true
+}
+
+/// Asks a question of a column of bytes.
+fn ask_column(alloc: Global, question: &[&str], bytes: &PrimitiveArray, answer: &mut Text) -> bool {
+    bytes.ptype() == PType::U8 && ask_bytes(alloc, question, bytes.as_slice::<u8>(), answer)
 }
 
 pub(crate) fn ask(
@@ -216,14 +225,12 @@ pub(crate) fn ask(
     answer: &mut Text,
 ) -> bool {
     match (question, columns) {
-        (["pack", width, rest @ ..], [array]) => {
-            return pack(alloc, rest, array, width_of(width), answer);
+        (["pack", width, rest @ ..], [array]) => pack(alloc, rest, array, width_of(width), answer),
+        (["pack_into", width], [array]) => {
+            pack_into(array, width_of(width), answer);
+            true
         }
-        (["pack_into", width], [array]) => pack_into(array, width_of(width), answer),
-        (_, [bytes]) if bytes.ptype() == PType::U8 => {
-            return ask_bytes(alloc, question, bytes.as_slice::<u8>(), answer);
-        }
-        _ => return false,
+        (_, [bytes]) => ask_column(alloc, question, bytes, answer),
+        _ => false,
     }
-    true
 }

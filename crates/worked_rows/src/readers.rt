@@ -146,29 +146,36 @@ fn calls(
     }
 }
 
+/// Adds all items that are read from bytes, by the name of their type.
+fn read_of(bytes: &[u8], name: &str, numbers: [usize; 3], answer: &mut Text) {
+    let [width, offset, len] = numbers;
+    answer.word(name);
+    match_each_integer_ptype!(type_of(name), read(bytes, width, offset, len, answer));
+}
+
+/// Asks a question of a reader with this width, offset and length.
+fn ask_reader(asked: &str, bytes: &[u8], numbers: [usize; 3], answer: &mut Text) -> bool {
+    let [width, offset, len] = numbers;
+    match asked {
+        "lend" => lend(bytes, width, offset, len, answer),
+        "strategy" => calls(bytes, width, offset, len, &Cell::new(0), answer),
+        _ => return false,
+    }
+    true
+}
+
 /// Asks a question of bytes.
 pub(crate) fn ask(question: &[&str], bytes: &[u8], answer: &mut Text) -> bool {
     match question {
         ["read", name, width, offset, len] => {
-            answer.word(name);
-            let (width, offset, len) = (count(width), count(offset), count(len));
-            match_each_integer_ptype!(type_of(name), read(bytes, width, offset, len, answer));
+            let numbers = [count(width), count(offset), count(len)];
+            read_of(bytes, name, numbers, answer);
+            true
         }
-        ["lend", width, offset, len] => {
-            lend(bytes, count(width), count(offset), count(len), answer);
+        [asked, width, offset, len] => {
+            let numbers = [count(width), count(offset), count(len)];
+            ask_reader(asked, bytes, numbers, answer)
         }
-        ["strategy", width, offset, len] => {
-            let zero = Cell::new(0);
-            calls(
-                bytes,
-                count(width),
-                count(offset),
-                count(len),
-                &zero,
-                answer,
-            );
-        }
-        _ => return false,
+        _ => false,
     }
-    true
 }

@@ -1,6 +1,7 @@
-use Rattle.std.proofs.Common.{◌+◌, ◌*◌, ◌∙◌, sym}
+use Rattle.std.proofs.Common.{◌+◌, ◌*◌, ◌∙◌, sym, arith}
 use Rattle.fastlanes.specs.Layout.{pattern_at}
 use Rattle.fastlanes.specs.Delta.{item_delta}
+use Rattle.fastlanes.proofs.RowBits.{row_room}
 use Rattle.fastlanes.proofs.Fillings.{row_filled, item_here}
 use Rattle.fastlanes.proofs.DeltaRows.{before_more, delta_here}
 use Rattle.fastlanes.proofs.deltas.delta_row.Goals as goal
@@ -17,3 +18,13 @@ returns-clause-filled g c =
     g.met.W.FastLanes.shape c.requires.row c.requires.group c.pos-at.ensures c.store.ensures.lanes c.store.ensures.others
     (λ j h. delta_here g.W.FastLanes.T (pattern_at g.W.FastLanes.pattern c.args.bases.now) (pattern_at g.W.FastLanes.pattern c.args.items.now) c.args.r c.args.g j _ _ _ _
     c.pos-at.ensures (c.load-row.ensures.lanes j h) (c.requires.before j h) (c.subtract.ensures.lanes j h))
+
+pub load-row-requires : goal.load-row-requires
+load-row-requires g c =
+    let within = row_room g.W.FastLanes.T g.W.FastLanes.LANES c.args.r (16 * c.args.g) g.met.W.FastLanes.shape c.requires.row c.requires.group in
+    record { room = omega arith }
+
+pub store-requires-clause-room : goal.store-requires-clause-room
+store-requires-clause-room g c =
+    let within = row_room g.W.FastLanes.T g.W.FastLanes.LANES c.args.r (16 * c.args.g) g.met.W.FastLanes.shape c.requires.row c.requires.group in
+    omega arith

@@ -1,6 +1,7 @@
-use Rattle.std.proofs.Common.{◌+◌, ◌*◌}
+use Rattle.std.proofs.Common.{◌+◌, ◌*◌, arith}
 use Rattle.fastlanes.specs.Layout.{pattern_at}
 use Rattle.fastlanes.specs.Delta.{summed_item}
+use Rattle.fastlanes.proofs.RowBits.{row_room}
 use Rattle.fastlanes.proofs.Fillings.{row_filled}
 use Rattle.fastlanes.proofs.DeltaRows.{sums_here, sum_is_item}
 use Rattle.fastlanes.proofs.deltas.undelta_row.Goals as goal
@@ -18,3 +19,13 @@ returns-clause-filled g c =
     (λ j h. sum_is_item g.W.FastLanes.T (pattern_at g.W.FastLanes.pattern c.args.bases.now) (pattern_at g.W.FastLanes.pattern c.args.deltas.now) c.args.r (16 * c.args.g + j) _
     (sums_here g.W.FastLanes.T (pattern_at g.W.FastLanes.pattern c.args.bases.now) (pattern_at g.W.FastLanes.pattern c.args.deltas.now) c.args.r c.args.g j _ _ _ _
     c.pos-at.ensures (c.requires.sums j h) (c.load.ensures.lanes j h) (c.add-row.ensures.lanes j h)))
+
+pub load-requires : goal.load-requires
+load-requires g c =
+    let within = row_room g.W.FastLanes.T g.W.FastLanes.LANES c.args.r (16 * c.args.g) g.met.W.FastLanes.shape c.requires.row c.requires.group in
+    record { room = omega arith }
+
+pub store-requires-clause-room : goal.store-requires-clause-room
+store-requires-clause-room g c =
+    let within = row_room g.W.FastLanes.T g.W.FastLanes.LANES c.args.r (16 * c.args.g) g.met.W.FastLanes.shape c.requires.row c.requires.group in
+    omega arith

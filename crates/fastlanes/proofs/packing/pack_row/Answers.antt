@@ -2,8 +2,8 @@ use Rattle.std.proofs.Common.{◌+◌, ◌*◌, arith, ◌∙◌, sym, refl}
 use Rattle.fastlanes.specs.Layout.{pattern_at}
 use Rattle.fastlanes.specs.Filled.{word_of}
 use Rattle.fastlanes.proofs.RowBits.{row_room}
-use Rattle.fastlanes.proofs.Packings.{row_stays, row_fills, row_ends, row_goes_on, next_word_moves}
-use Rattle.fastlanes.proofs.Fillings.{words_filled, item_here}
+use Rattle.fastlanes.proofs.Packings.{row_stays, row_fills, row_ends, row_goes_on, next_word_moves, next_word_stays}
+use Rattle.fastlanes.proofs.Fillings.{filled_none, words_filled, item_here}
 use Rattle.fastlanes.proofs.packing.pack_row.Goals as goal
 
 pub load-requires : goal.load-requires
@@ -15,6 +15,11 @@ pub returns-then-shift-width-clause-begun : goal.returns-then-shift-width-clause
 returns-then-shift-width-clause-begun g c j h =
     row_stays g.W.FastLanes.T g.W.FastLanes.LANES c.args.width (pattern_at g.W.FastLanes.pattern c.args.items.now) c.args.r (16 * c.args.g + j) _ _ _ _ _ _ _ g.met.W.FastLanes.shape c.begin-k.ensures.word c.begin-k.ensures.bit (omega arith)
     (c.requires.begun j h) (c.load.ensures.lanes j h ∙ item_here (pattern_at g.W.FastLanes.pattern c.args.items.now) c.args.r c.args.g j _ c.pos.ensures) (rw (c.low_mask.ensures.lanes j h) at (c.and-row.ensures.lanes j h)) (c.shift_left.ensures.lanes j h) (c.or-both.ensures.lanes j h)
+
+pub returns-then-shift-width-clause-words : goal.returns-then-shift-width-clause-words
+returns-then-shift-width-clause-words g c =
+    filled_none c.args.width g.W.FastLanes.LANES _ (word_of g.W.FastLanes.T c.args.width (pattern_at g.W.FastLanes.pattern c.args.items.now)) c.args.g _ _ (g.S.Storage.word c.args.packed.now)
+    (next_word_stays g.W.FastLanes.T g.W.FastLanes.LANES c.args.width c.args.r _ g.met.W.FastLanes.shape c.begin-k.ensures.bit (rw c.bits-t.ensures at c.if-shift-width.true))
 
 pub returns-then-shift-width-2-clause-begun : goal.returns-then-shift-width-2-clause-begun
 returns-then-shift-width-2-clause-begun g c j h =

@@ -1,6 +1,8 @@
 use Rattle.std.proofs.Common.{◌≡◌, ◌<◌, IsTrue, map, length, sym, arith}
 use Rattle.std.proofs.lemmas.List.{length-map}
 use Rattle.fl_types.specs.Validities.{items_of, covers}
+use Rattle.fl_types.specs.Slots.{integers_of}
+use Rattle.fl_plain.proofs.GatherLaws.{covers_read}
 use Rattle.fl_plain.proofs.ItemLaws.{length-items_of}
 use Rattle.fl_plain.proofs.QuestionLaws.{constant_from_first, not_constant}
 use Rattle.fl_plain.proofs.questions.is_constant_typed.Goals as goal
@@ -23,3 +25,9 @@ returns g c =
     let each : length items ≡ length slots = length-items_of c.args.validity.now slots covered in
     let all = length-map c.as_slice-items.result.now g.T.Number.value in
     rw (← c.as_slice-items.ensures) (sym (constant_from_first items (λ k h. c.loop-i.invariant k (omega arith))))
+
+pub item_at-requires-clause-covers : goal.item_at-requires-clause-covers
+item_at-requires-clause-covers g c = covers_read g.T.Number.value c.as_slice-items.result.now (integers_of c.args.slots.now) c.args.validity.now c.as_slice-items.ensures c.requires.covers
+
+pub item_at-requires-in-loop-i-clause-covers : goal.item_at-requires-in-loop-i-clause-covers
+item_at-requires-in-loop-i-clause-covers g c = covers_read g.T.Number.value c.as_slice-items.result.now (integers_of c.args.slots.now) c.args.validity.now c.as_slice-items.ensures c.requires.covers
