@@ -1,7 +1,7 @@
 //! Columns that are kept as runs: in each chunk of 1024 items the items that differ from the one
 //! before, and for each position the number of its run.
 
-ghost use Rattle.std.specs.Prelude.{◌≡◌, ◌+◌, ◌*◌, ◌<◌, ◌≤◌, ◌^◌, ℕ, pos, IsTrue, IfOk, OnOk, Ok, None, length, map, option_map, slice_index, slice_index_or, unsigned_abs, unwrap_or, ◌++◌, ◌-◌, replicate, false};
+ghost use Rattle.std.specs.Prelude.{◌≡◌, ◌+◌, ◌*◌, ◌<◌, ◌≤◌, ◌^◌, ℕ, [], pos, IsTrue, IfOk, OnOk, Ok, None, length, map, option_map, slice_index, slice_index_or, unsigned_abs, unwrap_or, ◌++◌, ◌-◌, replicate, false};
 ghost use Rattle.std.specs.List.{list_all};
 ghost use Rattle.fastlanes.specs.Layout.{pattern_at};
 ghost use Rattle.fl_types.specs.Bits.{table};
@@ -13,7 +13,7 @@ ghost use Rattle.fl_plain.specs.Columns.{column_of_plain, numbers_of};
 ghost use Rattle.fl_codec.specs.Chunks.{chunks_of};
 ghost use Rattle.fl_codec.specs.Parts.{encode_runs, items_of_plain, run_parts};
 ghost use Rattle.fl_codec.specs.RunColumns.{IsRunChunk, chunk_end, chunk_start, is_run_index, run_column, run_integer, runs_refusal};
-ghost use Rattle.fl_codec.specs.Runs.{indices_to, run_validity, values_to};
+ghost use Rattle.fl_codec.specs.Runs.{indices_to, offsets_to, run_validity, values_to};
 
 use crate::chunks::chunk_count;
 use crate::delta::{push_block, push_values, put_patterns};
@@ -95,17 +95,23 @@ fn padded_validity(
     }
 }
 
-fn encode_typed<T: PhysicalPType>(
-    alloc: Global,
+/// Adds the run values, the indices and the offsets of all chunks.
+fn push_chunks<T: PhysicalPType>(
     array: &PrimitiveArray,
-) -> Result<Runs, FastLanesError>
-    requires { array.now.ptype ≡ T.PTYPE }
-    ensures { Answers run_parts result (Ok (encode_runs array.now)) }
+    chunks: usize,
+    values: &mut Vec<T>,
+    indices: &mut Vec<u16>,
+    offsets: &mut Vec<u64>,
+) -> Result<(), AllocError>
+    requires same { array.now.ptype ≡ T.PTYPE }
+    requires chunks { chunks ≡ chunks_of (length array.now.slots) }
+    requires no_values { values.old.items ≡ [] }
+    requires no_indices { indices.old.items ≡ [] }
+    requires no_offsets { offsets.old.items ≡ [] }
+    ensures values { OnOk result (map T.value values.new.items ≡ values_to (items_of_plain array.now) chunks) }
+    ensures indices { OnOk result (indices.new.items ≡ indices_to (items_of_plain array.now) chunks) }
+    ensures offsets { OnOk result (offsets.new.items ≡ offsets_to (items_of_plain array.now) chunks) }
 {
-    let chunks = chunk_count(array.len());
-    let mut values = Vec::<T>::new(alloc);
-    let mut indices = Vec::with_capacity(alloc, chunks.saturating_mul(FL_CHUNK_SIZE))?;
-    let mut offsets = Vec::with_capacity(alloc, chunks)?;
     T::Physical::in_memory();
     let mut block = [T::Physical::zero(); FL_CHUNK_SIZE];
     let mut runs = [T::Physical::zero(); FL_CHUNK_SIZE];
@@ -118,10 +124,25 @@ fn encode_typed<T: PhysicalPType>(
             &mut block,
             &mut runs,
             &mut positions,
-            &mut values,
-            &mut indices,
+            values,
+            indices,
         )?;
     }
+    Ok(())
+}
+
+fn encode_typed<T: PhysicalPType>(
+    alloc: Global,
+    array: &PrimitiveArray,
+) -> Result<Runs, FastLanesError>
+    requires { array.now.ptype ≡ T.PTYPE }
+    ensures { Answers run_parts result (Ok (encode_runs array.now)) }
+{
+    let chunks = chunk_count(array.len());
+    let mut values = Vec::<T>::new(alloc);
+    let mut indices = Vec::with_capacity(alloc, chunks.saturating_mul(FL_CHUNK_SIZE))?;
+    let mut offsets = Vec::with_capacity(alloc, chunks)?;
+    push_chunks(array, chunks, &mut values, &mut indices, &mut offsets)?;
     let total = indices.as_slice().len();
     let validity = padded_validity(alloc, array.validity(), array.len(), total)?;
     Ok(Runs {

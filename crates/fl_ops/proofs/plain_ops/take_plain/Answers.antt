@@ -1,4 +1,5 @@
-use Rattle.fl_plain.specs.Columns.{column_of_plain}
+use Rattle.std.proofs.Common.{rules}
+use Rattle.fl_plain.specs.Columns.{column_of_copies, column_of_plain}
 use Rattle.fl_plain.specs.Operations.{take_column}
 use Rattle.fl_array.specs.Trees.{column}
 use Rattle.fl_ops.proofs.Answered.{answered_as, decoded_is}
@@ -9,3 +10,6 @@ returns-in-Some c = answered_as (take_column (column_of_plain c.args.indices.now
 
 pub returns : goal.returns
 returns c = answered_as (take_column (column_of_plain c.args.indices.now)) (column c.args.array.now) (column_of_plain c.in_ok-to_primitive.field-0) c.take-2.result (decoded_is (column c.args.array.now) (column_of_plain c.in_ok-to_primitive.field-0) c.in_ok-to_primitive.ensures) c.take-2.ensures
+
+pub returns-in-Some-as_constant : goal.returns-in-Some-as_constant
+returns-in-Some-as_constant c = answered_as (take_column (column_of_plain c.args.indices.now)) (column c.args.array.now) (column_of_copies c.in-Some-as_constant.copies.now) _ c.in-Some-as_constant.ensures.column (search rules)

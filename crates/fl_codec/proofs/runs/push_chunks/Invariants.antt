@@ -1,7 +1,7 @@
 use Rattle.std.proofs.Common.{◌≡◌, map}
 use Rattle.fl_codec.specs.Parts.{items_of_plain}
 use Rattle.fl_codec.specs.Runs.{indices_to, offsets_to, values_to}
-use Rattle.fl_codec.proofs.runs.encode_typed.Given as goal
+use Rattle.fl_codec.proofs.runs.push_chunks.Given as goal
 
 -- the chunks so far
 abbrev pub invariant-loop-k : goal.invariant-loop-k

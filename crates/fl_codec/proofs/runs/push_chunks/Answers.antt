@@ -1,0 +1,18 @@
+use Rattle.std.proofs.Common.{◌≡◌, ◌++◌, ◌∷◌, [], length, map, ap, sym, ◌∙◌}
+use Rattle.std.proofs.lemmas.List.{length-map}
+use Rattle.fl_codec.specs.Parts.{items_of_plain}
+use Rattle.fl_codec.specs.Runs.{offsets_to, values_to}
+use Rattle.fl_codec.proofs.ReferenceLaws.{table_more}
+use Rattle.fl_codec.proofs.runs.push_chunks.Goals as goal
+
+pub loop-k-preserved : goal.loop-k-preserved
+loop-k-preserved g c =
+    let value = g.T.Number.value in
+    let items = items_of_plain c.args.array.now in
+    let k = c.loop-k.k in
+    let count : length c.as_slice.result.now ≡ length (values_to items k) = ap length c.as_slice.ensures.value ∙ (sym (length-map c.loop-k.values.items value) ∙ ap length c.loop-k.invariant.values) in
+    record {
+      values = c.in_ok-push_runs.ensures.values;
+      indices = c.in_ok-push_runs.ensures.indices;
+      offsets = c.in_ok-push.ensures.items ∙ (ap (λ xs. xs ++ length c.as_slice.result.now ∷ []) c.loop-k.invariant.offsets ∙ (ap (λ n. offsets_to items k ++ n ∷ []) count ∙ sym (table_more (λ j. length (values_to items j)) k)));
+    }
