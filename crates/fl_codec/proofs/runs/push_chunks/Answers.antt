@@ -1,5 +1,6 @@
 use Rattle.std.proofs.Common.{◌≡◌, ◌++◌, ◌∷◌, [], length, map, ap, sym, ◌∙◌}
 use Rattle.std.proofs.lemmas.List.{length-map}
+use Rattle.std.proofs.lemmas.Result.{err_from_is_err_and}
 use Rattle.fl_codec.specs.Parts.{items_of_plain}
 use Rattle.fl_codec.specs.Runs.{offsets_to, values_to}
 use Rattle.fl_codec.proofs.ReferenceLaws.{table_more}
@@ -16,3 +17,12 @@ loop-k-preserved g c =
       indices = c.in_ok-push_runs.ensures.indices;
       offsets = c.in_ok-push.ensures.items ∙ (ap (λ xs. xs ++ length c.as_slice.result.now ∷ []) c.loop-k.invariant.offsets ∙ (ap (λ n. offsets_to items k ++ n ∷ []) count ∙ sym (table_more (λ j. length (values_to items j)) k)));
     }
+
+pub returns-in_err-push_runs-clause-values : goal.returns-in_err-push_runs-clause-values
+returns-in_err-push_runs-clause-values g c = let failed = err_from_is_err_and c.from_residual-in_err-push_runs.result c.from_residual-in_err-push_runs.ensures.1 in rw failed.1 tt
+
+pub returns-in_err-push_runs-clause-indices : goal.returns-in_err-push_runs-clause-indices
+returns-in_err-push_runs-clause-indices g c = let failed = err_from_is_err_and c.from_residual-in_err-push_runs.result c.from_residual-in_err-push_runs.ensures.1 in rw failed.1 tt
+
+pub returns-in_err-push_runs-clause-offsets : goal.returns-in_err-push_runs-clause-offsets
+returns-in_err-push_runs-clause-offsets g c = let failed = err_from_is_err_and c.from_residual-in_err-push_runs.result c.from_residual-in_err-push_runs.ensures.1 in rw failed.1 tt

@@ -1,4 +1,7 @@
-use Rattle.std.proofs.Common.{map}
+use Rattle.std.proofs.Common.{map, length, nat_lt, get_or, arith, sym, ap, ◌∙◌}
+use Rattle.std.proofs.lemmas.Bool.{ltb-true}
+use Rattle.std.proofs.lemmas.List.{length-map}
+use Rattle.fl_plain.proofs.ListLaws.{all_at}
 use Rattle.fl_patches.proofs.Picked.{picked_more, picked_all}
 use Rattle.fl_patches.proofs.found.values_at_typed.Goals as goal
 
@@ -7,3 +10,10 @@ loop-rank-preserved g c = picked_more g.T.Number.value c.as_slice-slots.result.n
 
 pub returns : goal.returns
 returns g c = picked_all g.T.NativePType.PTYPE c.args.values.now.ptype c.args.values.now.validity c.from.result c.nullability.result (map g.T.Number.value c.loop-rank.picked.items) c.args.values.now.slots c.args.ranks.now c.loop-rank.rank-index c.new.result c.new.ensures c.from.ensures c.nullability.ensures c.requires.same c.loop-rank.invariant c.loop-rank-test.false
+
+pub bounds-slots-rank : goal.bounds-slots-rank
+bounds-slots-rank g c =
+    let slots = c.args.values.now.slots in
+    let low = ltb-true (get_or c.args.ranks.now c.loop-rank.rank-index 0) (length slots) (all_at (λ rank. nat_lt rank (length slots)) c.args.ranks.now c.loop-rank.rank-index 0 c.requires.ranked c.loop-rank-test.true) in
+    let long = sym (length-map c.as_slice-slots.result.now g.T.Number.value) ∙ ap length c.as_slice-slots.ensures in
+    omega arith
