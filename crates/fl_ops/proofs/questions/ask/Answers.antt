@@ -1,0 +1,9 @@
+use Rattle.std.proofs.Common.{rules}
+use Rattle.fl_ops.proofs.Truths.{first_true, second_true}
+use Rattle.fl_ops.proofs.questions.ask.Goals as goal
+
+pub between-requires-clause-lower : goal.between-requires-clause-lower
+between-requires-clause-lower c = search (rules, first_true)
+
+pub between-requires-clause-upper : goal.between-requires-clause-upper
+between-requires-clause-upper c = search (rules, second_true)
