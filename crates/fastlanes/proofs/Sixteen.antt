@@ -2,7 +2,7 @@
 use Rattle.std.proofs.Common.{◌≡◌, ◌⊎◌, ℕ, ◌+◌, ◌<◌, ◌≤◌, List, length, replicate, ◌∙◌, ap, sym}
 use Rattle.std.specs.Prelude.{slice_index}
 use Rattle.std.specs.Simd.Lanes.{zip2, put_chunk, chunk}
-use Rattle.std.proofs.lemmas.Simd.{get_or-put_chunk_at, get_or-zip2, get_or-chunk, length-zip2, length-replicate, get_or-replicate}
+use Rattle.std.proofs.lemmas.Simd.{get_or-put_chunk_at, get_or-zip2, get_or-chunk, length-replicate, get_or-replicate}
 use Rattle.fastlanes.specs.Layout.{pattern_at}
 use Rattle.fastlanes.proofs.Vectors.{pattern_at_number, stored_elsewhere}
 
@@ -25,6 +25,3 @@ zipped f xs ys j h a b = get_or-zip2 f xs ys j 0 0 0 (rw a h) (rw b h)
 -- the same, with one number in each lane of the second vector
 pub zipped_splat : (f : ℕ → ℕ → ℕ) (xs : List ℕ) (s j : ℕ) → j < 16 → length xs ≡ 16 → slice_index (zip2 f xs (replicate 16 s)) j ≡ f (slice_index xs j) s
 zipped_splat f xs s j h a = zipped f xs (replicate 16 s) j h a (length-replicate 16 s) ∙ ap (f (slice_index xs j)) (splatted s j h)
-
-pub zip_whole : (f : ℕ → ℕ → ℕ) (xs ys : List ℕ) → length xs ≡ 16 → length ys ≡ 16 → length (zip2 f xs ys) ≡ 16
-zip_whole f xs ys a b = length-zip2 f xs ys (a ∙ sym b) ∙ a

@@ -33,7 +33,6 @@ pub record IsGroup (T lanes width count g : ℕ) : Type 0 where
   pub block : count ≡ width * lanes
   pub inside : 16 * g + 16 ≤ lanes
 
--- the reference has its lanes, and one that is not added is 0 in each of them
-pub record IsReference (framed : Bool) (IsWhole : Type 0) (lane : ℕ → ℕ) : Type 0 where
-  pub whole : IsWhole
+-- a reference that is not added is 0 in each lane
+pub record IsReference (framed : Bool) (lane : ℕ → ℕ) : Type 0 where
   pub plain : framed ≡ false → (j : ℕ) → j < 16 → lane j ≡ 0

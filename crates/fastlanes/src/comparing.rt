@@ -11,20 +11,19 @@ use crate::storage::AsWords;
 use crate::unpacking::items_of_row;
 use crate::widths::{at_eight, bits, lanes};
 use crate::words::FastLanes;
+use std::simd::Simd;
 
 /// Sets bit `r` of each word whose item compares so with `rhs`, and no other.
 #[inline(always)]
 #[tactic(auto, using(crate::proofs::ComparedBits::zero_below), unfolding(crate::specs::Compared::IsAnswer))]
 fn compare_lanes<W: FastLanes, F: Fn(W, W) -> bool>(
-    row: W::Vector,
+    row: Simd<W, 16>,
     cmp: &F,
     rhs: W,
     r: usize,
-) -> W::Vector
-    requires whole { W.whole row }
+) -> Simd<W, 16>
     requires row { r < W.T }
     requires callable { F.IsAlwaysCallable cmp.now }
-    ensures whole { W.whole result }
     ensures one { (j : ℕ) → j < 16 → W.lane result j ≡ bit_value (is_set (W.lane result j) r) * 2 ^ r }
     ensures set { (j : ℕ) → j < 16 → IsAnswer W.pattern (F.post cmp.now) rhs (W.lane row j) (is_set (W.lane result j) r) }
 {
@@ -45,14 +44,12 @@ fn compare_row<W: FastLanes, F: Fn(W, W) -> bool>(
     rhs: W,
     r: usize,
     g: usize,
-    held: W::Vector,
-) -> W::Vector
+    held: Simd<W, 16>,
+) -> Simd<W, 16>
     requires row { r < W.T }
     requires group { IsGroup W.T W.LANES width (length words.now) g }
     requires callable { F.IsAlwaysCallable cmp.now }
-    requires whole { W.whole held }
     requires held { Answers W.pattern (F.post cmp.now) rhs (item_of W.T W.LANES width (pattern_at W.pattern words.now)) g r (W.lane held) }
-    ensures whole { W.whole result }
     ensures held { Answers W.pattern (F.post cmp.now) rhs (item_of W.T W.LANES width (pattern_at W.pattern words.now)) g (r + 1) (W.lane result) }
 {
     let row = items_of_row::<W, AsWords>(width, words, r, g);
@@ -68,14 +65,12 @@ fn compare_4<W: FastLanes, F: Fn(W, W) -> bool>(
     rhs: W,
     r: usize,
     g: usize,
-    held: W::Vector,
-) -> W::Vector
+    held: Simd<W, 16>,
+) -> Simd<W, 16>
     requires row { r + 4 ≤ W.T }
     requires group { IsGroup W.T W.LANES width (length words.now) g }
     requires callable { F.IsAlwaysCallable cmp.now }
-    requires whole { W.whole held }
     requires held { Answers W.pattern (F.post cmp.now) rhs (item_of W.T W.LANES width (pattern_at W.pattern words.now)) g r (W.lane held) }
-    ensures whole { W.whole result }
     ensures held { Answers W.pattern (F.post cmp.now) rhs (item_of W.T W.LANES width (pattern_at W.pattern words.now)) g (r + 4) (W.lane result) }
 {
     let held = compare_row(width, words, cmp, rhs, r, g, held);
@@ -93,39 +88,34 @@ fn compare_8<W: FastLanes, F: Fn(W, W) -> bool>(
     rhs: W,
     r: usize,
     g: usize,
-    held: W::Vector,
-) -> W::Vector
+    held: Simd<W, 16>,
+) -> Simd<W, 16>
     requires row { r + 8 ≤ W.T }
     requires group { IsGroup W.T W.LANES width (length words.now) g }
     requires callable { F.IsAlwaysCallable cmp.now }
-    requires whole { W.whole held }
     requires held { Answers W.pattern (F.post cmp.now) rhs (item_of W.T W.LANES width (pattern_at W.pattern words.now)) g r (W.lane held) }
-    ensures whole { W.whole result }
     ensures held { Answers W.pattern (F.post cmp.now) rhs (item_of W.T W.LANES width (pattern_at W.pattern words.now)) g (r + 8) (W.lane result) }
 {
     let held = compare_4(width, words, cmp, rhs, r, g, held);
     compare_4(width, words, cmp, rhs, r + 4, g, held)
 }
 
-/// The answers for the 16 rows of the lanes of group `g`.
-fn compare_16<W: FastLanes, F: Fn(W, W) -> bool, const FIRST: usize, const MORE: usize>(
-    width: usize,
-    words: &[W],
-    cmp: &F,
-    rhs: W,
-    g: usize,
-    held: W::Vector,
-) -> W::Vector
-    requires row { 16 ≤ W.T }
+/// Adds the answers for the sixteen rows from `FROM` on of the lanes of group `g` to those for the rows below.
+fn compare_16<
+    W: FastLanes,
+    F: Fn(W, W) -> bool,
+    const FIRST: usize,
+    const MORE: usize,
+    const FROM: usize,
+>(width: usize, words: &[W], cmp: &F, rhs: W, g: usize, held: Simd<W, 16>) -> Simd<W, 16>
+    requires row { FROM + 16 ≤ W.T }
     requires group { IsGroup W.T W.LANES width (length words.now) g }
     requires callable { F.IsAlwaysCallable cmp.now }
-    requires whole { W.whole held }
-    requires held { Answers W.pattern (F.post cmp.now) rhs (item_of W.T W.LANES width (pattern_at W.pattern words.now)) g 0 (W.lane held) }
-    ensures whole { W.whole result }
-    ensures held { Answers W.pattern (F.post cmp.now) rhs (item_of W.T W.LANES width (pattern_at W.pattern words.now)) g 16 (W.lane result) }
+    requires held { Answers W.pattern (F.post cmp.now) rhs (item_of W.T W.LANES width (pattern_at W.pattern words.now)) g FROM (W.lane held) }
+    ensures held { Answers W.pattern (F.post cmp.now) rhs (item_of W.T W.LANES width (pattern_at W.pattern words.now)) g (FROM + 16) (W.lane result) }
 {
-    let held = compare_8(width, words, cmp, rhs, 0, g, held);
-    compare_8(width, words, cmp, rhs, 8, g, held)
+    let held = compare_8(width, words, cmp, rhs, FROM, g, held);
+    compare_8(width, words, cmp, rhs, FROM + 8, g, held)
 }
 
 /// The answers for the 32 rows of the lanes of group `g`.
@@ -135,20 +125,16 @@ fn compare_32<W: FastLanes, F: Fn(W, W) -> bool, const FIRST: usize, const MORE:
     cmp: &F,
     rhs: W,
     g: usize,
-    held: W::Vector,
-) -> W::Vector
+    held: Simd<W, 16>,
+) -> Simd<W, 16>
     requires row { 32 ≤ W.T }
     requires group { IsGroup W.T W.LANES width (length words.now) g }
     requires callable { F.IsAlwaysCallable cmp.now }
-    requires whole { W.whole held }
     requires held { Answers W.pattern (F.post cmp.now) rhs (item_of W.T W.LANES width (pattern_at W.pattern words.now)) g 0 (W.lane held) }
-    ensures whole { W.whole result }
     ensures held { Answers W.pattern (F.post cmp.now) rhs (item_of W.T W.LANES width (pattern_at W.pattern words.now)) g 32 (W.lane result) }
 {
-    let held = compare_8(width, words, cmp, rhs, 0, g, held);
-    let held = compare_8(width, words, cmp, rhs, 8, g, held);
-    let held = compare_8(width, words, cmp, rhs, 16, g, held);
-    compare_8(width, words, cmp, rhs, 24, g, held)
+    let held = compare_16::<W, F, FIRST, MORE, 0>(width, words, cmp, rhs, g, held);
+    compare_16::<W, F, FIRST, MORE, 16>(width, words, cmp, rhs, g, held)
 }
 
 /// The answers for the 64 rows of the lanes of group `g`.
@@ -158,30 +144,23 @@ fn compare_64<W: FastLanes, F: Fn(W, W) -> bool, const FIRST: usize, const MORE:
     cmp: &F,
     rhs: W,
     g: usize,
-    held: W::Vector,
-) -> W::Vector
+    held: Simd<W, 16>,
+) -> Simd<W, 16>
     requires row { 64 ≤ W.T }
     requires group { IsGroup W.T W.LANES width (length words.now) g }
     requires callable { F.IsAlwaysCallable cmp.now }
-    requires whole { W.whole held }
     requires held { Answers W.pattern (F.post cmp.now) rhs (item_of W.T W.LANES width (pattern_at W.pattern words.now)) g 0 (W.lane held) }
-    ensures whole { W.whole result }
     ensures held { Answers W.pattern (F.post cmp.now) rhs (item_of W.T W.LANES width (pattern_at W.pattern words.now)) g 64 (W.lane result) }
 {
-    let held = compare_8(width, words, cmp, rhs, 0, g, held);
-    let held = compare_8(width, words, cmp, rhs, 8, g, held);
-    let held = compare_8(width, words, cmp, rhs, 16, g, held);
-    let held = compare_8(width, words, cmp, rhs, 24, g, held);
-    let held = compare_8(width, words, cmp, rhs, 32, g, held);
-    let held = compare_8(width, words, cmp, rhs, 40, g, held);
-    let held = compare_8(width, words, cmp, rhs, 48, g, held);
-    compare_8(width, words, cmp, rhs, 56, g, held)
+    let held = compare_16::<W, F, FIRST, MORE, 0>(width, words, cmp, rhs, g, held);
+    let held = compare_16::<W, F, FIRST, MORE, 16>(width, words, cmp, rhs, g, held);
+    let held = compare_16::<W, F, FIRST, MORE, 32>(width, words, cmp, rhs, g, held);
+    compare_16::<W, F, FIRST, MORE, 48>(width, words, cmp, rhs, g, held)
 }
 
 /// No answer yet.
 #[inline(always)]
-fn none_held<W: FastLanes>() -> W::Vector
-    ensures whole { W.whole result }
+fn none_held<W: FastLanes>() -> Simd<W, 16>
     ensures lanes { (j : ℕ) → j < 16 → W.lane result j ≡ 0 }
 {
     W::splat(W::zero())
@@ -196,10 +175,9 @@ fn compare_group<W: FastLanes, F: Fn(W, W) -> bool, const FIRST: usize, const MO
     cmp: &F,
     rhs: W,
     g: usize,
-) -> W::Vector
+) -> Simd<W, 16>
     requires group { IsGroup W.T W.LANES width (length words.now) g }
     requires callable { F.IsAlwaysCallable cmp.now }
-    ensures whole { W.whole result }
     ensures held { Answers W.pattern (F.post cmp.now) rhs (item_of W.T W.LANES width (pattern_at W.pattern words.now)) g W.T (W.lane result) }
 {
     let held = none_held::<W>();
@@ -207,7 +185,7 @@ fn compare_group<W: FastLanes, F: Fn(W, W) -> bool, const FIRST: usize, const MO
     if t == 8 {
         compare_8(width, words, cmp, rhs, 0, g, held)
     } else if t == 16 {
-        compare_16::<W, F, FIRST, MORE>(width, words, cmp, rhs, g, held)
+        compare_16::<W, F, FIRST, MORE, 0>(width, words, cmp, rhs, g, held)
     } else if t == 32 {
         compare_32::<W, F, FIRST, MORE>(width, words, cmp, rhs, g, held)
     } else {
@@ -218,12 +196,10 @@ fn compare_group<W: FastLanes, F: Fn(W, W) -> bool, const FIRST: usize, const MO
 /// Writes the words of the lanes of group `g`, the low byte first.
 #[inline(always)]
 #[tactic(auto, using(crate::proofs::Patterns::pattern_at_read, crate::proofs::Streams::word_in_bytes))]
-fn put_group<W: FastLanes>(held: W::Vector, g: usize, bytes: &mut [u8; 128])
-    requires whole { W.whole held }
+fn put_group<W: FastLanes>(held: Simd<W, 16>, g: usize, bytes: &mut [u8; 128])
     requires group { 16 * g + 16 ≤ W.LANES }
     ensures put { (j : ℕ) → j < 16 → word_at W.T bytes.new (16 * g + j) ≡ W.lane held j }
     ensures others { (k : ℕ) → k < 16 * g → word_at W.T bytes.new k ≡ word_at W.T bytes.old k }
-    ensures whole { length bytes.new ≡ 128 }
 {
     W::in_memory();
     let words = W::to_words(held);
@@ -246,8 +222,8 @@ fn compare_groups<W: FastLanes, F: Fn(W, W) -> bool, const FIRST: usize, const M
     requires block { length words.now ≡ width * W.LANES }
     requires callable { F.IsAlwaysCallable cmp.now }
     ensures set { (r l : ℕ) → r < W.T → l < W.LANES → IsAnswer W.pattern (F.post cmp.now) rhs (item_of W.T W.LANES width (pattern_at W.pattern words.now) r l) (is_set (word_at W.T bytes.new l) r) }
-    ensures whole { length bytes.new ≡ 128 }
 {
+    W::in_memory();
     for g in 0..lanes::<W>() / 16 {
         put_group::<W>(
             compare_group::<W, F, FIRST, MORE>(width, words, cmp, rhs, g),
@@ -269,7 +245,6 @@ fn compare_at<W: FastLanes, F: Fn(W, W) -> bool, const FIRST: usize, const MORE:
     requires block { length words.now ≡ (FIRST + MORE) * W.LANES }
     requires callable { F.IsAlwaysCallable cmp.now }
     ensures set { (r l : ℕ) → r < W.T → l < W.LANES → IsAnswer W.pattern (F.post cmp.now) rhs (item_of W.T W.LANES (FIRST + MORE) (pattern_at W.pattern words.now) r l) (is_set (word_at W.T bytes.new l) r) }
-    ensures whole { length bytes.new ≡ 128 }
 {
     compare_groups::<W, F, FIRST, MORE>(FIRST + MORE, words, cmp, rhs, bytes);
 }
@@ -288,7 +263,6 @@ fn compare_eight<W: FastLanes, F: Fn(W, W) -> bool, const FIRST: usize>(
     requires block { length words.now ≡ width * W.LANES }
     requires callable { F.IsAlwaysCallable cmp.now }
     ensures set { (r l : ℕ) → r < W.T → l < W.LANES → IsAnswer W.pattern (F.post cmp.now) rhs (item_of W.T W.LANES width (pattern_at W.pattern words.now) r l) (is_set (word_at W.T bytes.new l) r) }
-    ensures whole { length bytes.new ≡ 128 }
 {
     at_eight!(
         width - FIRST,
@@ -311,7 +285,6 @@ fn compare_below_32<W: FastLanes, F: Fn(W, W) -> bool>(
     requires block { length words.now ≡ width * W.LANES }
     requires callable { F.IsAlwaysCallable cmp.now }
     ensures set { (r l : ℕ) → r < W.T → l < W.LANES → IsAnswer W.pattern (F.post cmp.now) rhs (item_of W.T W.LANES width (pattern_at W.pattern words.now) r l) (is_set (word_at W.T bytes.new l) r) }
-    ensures whole { length bytes.new ≡ 128 }
 {
     let t = bits::<W>();
     if t == 8 || width < 8 {
@@ -339,7 +312,6 @@ fn compare_from_32<W: FastLanes, F: Fn(W, W) -> bool>(
     requires block { length words.now ≡ width * W.LANES }
     requires callable { F.IsAlwaysCallable cmp.now }
     ensures set { (r l : ℕ) → r < W.T → l < W.LANES → IsAnswer W.pattern (F.post cmp.now) rhs (item_of W.T W.LANES width (pattern_at W.pattern words.now) r l) (is_set (word_at W.T bytes.new l) r) }
-    ensures whole { length bytes.new ≡ 128 }
 {
     if width < 40 {
         compare_eight::<W, F, 32>(width, words, cmp, rhs, bytes);
@@ -363,7 +335,6 @@ fn compare_whole<W: FastLanes, F: Fn(W, W) -> bool>(
     requires block { length words.now ≡ W.T * W.LANES }
     requires callable { F.IsAlwaysCallable cmp.now }
     ensures set { (r l : ℕ) → r < W.T → l < W.LANES → IsAnswer W.pattern (F.post cmp.now) rhs (item_of W.T W.LANES W.T (pattern_at W.pattern words.now) r l) (is_set (word_at W.T bytes.new l) r) }
-    ensures whole { length bytes.new ≡ 128 }
 {
     compare_groups::<W, F, 64, 0>(bits::<W>(), words, cmp, rhs, bytes);
 }
@@ -380,7 +351,6 @@ fn compare_block<W: FastLanes, F: Fn(W, W) -> bool>(
     requires block { length words.now ≡ width * W.LANES }
     requires callable { F.IsAlwaysCallable cmp.now }
     ensures set { (r l : ℕ) → r < W.T → l < W.LANES → IsAnswer W.pattern (F.post cmp.now) rhs (item_of W.T W.LANES width (pattern_at W.pattern words.now) r l) (is_set (word_at W.T bytes.new l) r) }
-    ensures whole { length bytes.new ≡ 128 }
 {
     let t = bits::<W>();
     if width == t {

@@ -6,9 +6,10 @@ ghost use Rattle.fastlanes.specs.Layout.{place, pattern_at};
 ghost use Rattle.fastlanes.specs.Delta.{item_before, item_delta, summed_before, summed_item};
 ghost use Rattle.fastlanes.specs.Filled.{Filled};
 
-use crate::layout::{FL_CHUNK_SIZE, pos};
+use crate::layout::{FL_CHUNK_SIZE, pos, whole_block};
 use crate::widths::{bits, lanes};
 use crate::words::FastLanes;
+use std::simd::Simd;
 
 /// Writes the deltas at row `r` of the lanes of group `g`, and gives the row's items.
 #[inline(always)]
@@ -16,19 +17,16 @@ use crate::words::FastLanes;
 fn delta_row<W: FastLanes>(
     items: &[W; FL_CHUNK_SIZE],
     bases: &[W],
-    before: W::Vector,
+    before: Simd<W, 16>,
     r: usize,
     g: usize,
     deltas: &mut [W; FL_CHUNK_SIZE],
-) -> W::Vector
+) -> Simd<W, 16>
     requires row { r < W.T }
     requires group { 16 * g + 16 ≤ W.LANES }
-    requires whole { W.whole before }
     requires before { (j : ℕ) → j < 16 → W.lane before j ≡ item_before (pattern_at W.pattern bases.now) (pattern_at W.pattern items.now) r (16 * g + j) }
-    ensures vector { W.whole result }
     ensures before { (j : ℕ) → j < 16 → W.lane result j ≡ item_before (pattern_at W.pattern bases.now) (pattern_at W.pattern items.now) (r + 1) (16 * g + j) }
     ensures filled { Filled W.T W.LANES place (item_delta W.T (pattern_at W.pattern bases.now) (pattern_at W.pattern items.now)) g r (r + 1) (pattern_at W.pattern deltas.old) (pattern_at W.pattern deltas.new) }
-    ensures whole { length deltas.new ≡ 1024 }
 {
     let at = pos(r, 16 * g);
     let row = W::load(items, at);
@@ -41,19 +39,16 @@ fn delta_row<W: FastLanes>(
 fn delta_8<W: FastLanes>(
     items: &[W; FL_CHUNK_SIZE],
     bases: &[W],
-    before: W::Vector,
+    before: Simd<W, 16>,
     r: usize,
     g: usize,
     deltas: &mut [W; FL_CHUNK_SIZE],
-) -> W::Vector
+) -> Simd<W, 16>
     requires row { r + 8 ≤ W.T }
     requires group { 16 * g + 16 ≤ W.LANES }
-    requires whole { W.whole before }
     requires before { (j : ℕ) → j < 16 → W.lane before j ≡ item_before (pattern_at W.pattern bases.now) (pattern_at W.pattern items.now) r (16 * g + j) }
-    ensures vector { W.whole result }
     ensures before { (j : ℕ) → j < 16 → W.lane result j ≡ item_before (pattern_at W.pattern bases.now) (pattern_at W.pattern items.now) (r + 8) (16 * g + j) }
     ensures filled { Filled W.T W.LANES place (item_delta W.T (pattern_at W.pattern bases.now) (pattern_at W.pattern items.now)) g r (r + 8) (pattern_at W.pattern deltas.old) (pattern_at W.pattern deltas.new) }
-    ensures whole { length deltas.new ≡ 1024 }
 {
     let before = delta_row(items, bases, before, r, g, deltas);
     let before = delta_row(items, bases, before, r + 1, g, deltas);
@@ -67,10 +62,9 @@ fn delta_8<W: FastLanes>(
 
 /// The bases of the lanes of group `g`.
 #[inline(always)]
-fn bases_of<W: FastLanes>(bases: &[W], g: usize) -> W::Vector
+fn bases_of<W: FastLanes>(bases: &[W], g: usize) -> Simd<W, 16>
     requires bases { length bases.now ≡ W.LANES }
     requires group { 16 * g + 16 ≤ W.LANES }
-    ensures whole { W.whole result }
     ensures lanes { (j : ℕ) → j < 16 → W.lane result j ≡ pattern_at W.pattern bases.now (16 * g + j) }
     ensures small { (j : ℕ) → j < 16 → W.lane result j < 2 ^ W.T }
 {
@@ -89,7 +83,6 @@ fn delta_group<W: FastLanes>(
     requires bases { length bases.now ≡ W.LANES }
     requires group { 16 * g + 16 ≤ W.LANES }
     ensures filled { Filled W.T W.LANES place (item_delta W.T (pattern_at W.pattern bases.now) (pattern_at W.pattern items.now)) g 0 W.T (pattern_at W.pattern deltas.old) (pattern_at W.pattern deltas.new) }
-    ensures whole { length deltas.new ≡ 1024 }
 {
     let mut before = bases_of(bases, g);
     for q in 0..bits::<W>() / 8 {
@@ -106,6 +99,7 @@ pub fn delta<W: FastLanes>(items: &[W; FL_CHUNK_SIZE], bases: &[W], deltas: &mut
     for g in 0..lanes::<W>() / 16 {
         delta_group(items, bases, g, deltas);
     }
+    whole_block(deltas);
 }
 
 /// Adds the deltas at row `r` of the lanes of group `g` to the sums, writes them and gives them.
@@ -114,19 +108,16 @@ pub fn delta<W: FastLanes>(items: &[W; FL_CHUNK_SIZE], bases: &[W], deltas: &mut
 fn undelta_row<W: FastLanes>(
     deltas: &[W; FL_CHUNK_SIZE],
     bases: &[W],
-    sums: W::Vector,
+    sums: Simd<W, 16>,
     r: usize,
     g: usize,
     items: &mut [W; FL_CHUNK_SIZE],
-) -> W::Vector
+) -> Simd<W, 16>
     requires row { r < W.T }
     requires group { 16 * g + 16 ≤ W.LANES }
-    requires whole { W.whole sums }
     requires sums { (j : ℕ) → j < 16 → W.lane sums j ≡ summed_before W.T (pattern_at W.pattern bases.now) (pattern_at W.pattern deltas.now) r (16 * g + j) }
-    ensures vector { W.whole result }
     ensures sums { (j : ℕ) → j < 16 → W.lane result j ≡ summed_before W.T (pattern_at W.pattern bases.now) (pattern_at W.pattern deltas.now) (r + 1) (16 * g + j) }
     ensures filled { Filled W.T W.LANES place (summed_item W.T (pattern_at W.pattern bases.now) (pattern_at W.pattern deltas.now)) g r (r + 1) (pattern_at W.pattern items.old) (pattern_at W.pattern items.new) }
-    ensures whole { length items.new ≡ 1024 }
 {
     let at = pos(r, 16 * g);
     let row = W::add(sums, W::load(deltas, at));
@@ -139,19 +130,16 @@ fn undelta_row<W: FastLanes>(
 fn undelta_8<W: FastLanes>(
     deltas: &[W; FL_CHUNK_SIZE],
     bases: &[W],
-    sums: W::Vector,
+    sums: Simd<W, 16>,
     r: usize,
     g: usize,
     items: &mut [W; FL_CHUNK_SIZE],
-) -> W::Vector
+) -> Simd<W, 16>
     requires row { r + 8 ≤ W.T }
     requires group { 16 * g + 16 ≤ W.LANES }
-    requires whole { W.whole sums }
     requires sums { (j : ℕ) → j < 16 → W.lane sums j ≡ summed_before W.T (pattern_at W.pattern bases.now) (pattern_at W.pattern deltas.now) r (16 * g + j) }
-    ensures vector { W.whole result }
     ensures sums { (j : ℕ) → j < 16 → W.lane result j ≡ summed_before W.T (pattern_at W.pattern bases.now) (pattern_at W.pattern deltas.now) (r + 8) (16 * g + j) }
     ensures filled { Filled W.T W.LANES place (summed_item W.T (pattern_at W.pattern bases.now) (pattern_at W.pattern deltas.now)) g r (r + 8) (pattern_at W.pattern items.old) (pattern_at W.pattern items.new) }
-    ensures whole { length items.new ≡ 1024 }
 {
     let sums = undelta_row(deltas, bases, sums, r, g, items);
     let sums = undelta_row(deltas, bases, sums, r + 1, g, items);
@@ -175,7 +163,6 @@ fn undelta_group<W: FastLanes>(
     requires bases { length bases.now ≡ W.LANES }
     requires group { 16 * g + 16 ≤ W.LANES }
     ensures filled { Filled W.T W.LANES place (summed_item W.T (pattern_at W.pattern bases.now) (pattern_at W.pattern deltas.now)) g 0 W.T (pattern_at W.pattern items.old) (pattern_at W.pattern items.new) }
-    ensures whole { length items.new ≡ 1024 }
 {
     let mut sums = bases_of(bases, g);
     for q in 0..bits::<W>() / 8 {
@@ -196,4 +183,5 @@ pub fn undelta<W: FastLanes>(
     for g in 0..lanes::<W>() / 16 {
         undelta_group(deltas, bases, g, items);
     }
+    whole_block(items);
 }

@@ -9,6 +9,7 @@ use crate::layout::{FL_CHUNK_SIZE, pos};
 use crate::storage::{AsBytes, AsWords, Storage};
 use crate::widths::{at_eight, begin, bits, group_at, lanes};
 use crate::words::FastLanes;
+use std::simd::Simd;
 
 /// Puts the items at row `r` of the lanes of group `g` into the words that are being made, writes those that are whole, and gives the words that are begun.
 #[inline(always)]
@@ -17,15 +18,13 @@ fn pack_row<W: FastLanes, S: Storage<W>>(
     items: &[W; FL_CHUNK_SIZE],
     r: usize,
     g: usize,
-    begun: W::Vector,
+    begun: Simd<W, 16>,
     packed: &mut [S::Unit],
-) -> W::Vector
+) -> Simd<W, 16>
     requires some { 0 < width }
     requires row { r < W.T }
     requires group { IsGroup W.T W.LANES width (S.count (length packed.old)) g }
-    requires whole { W.whole begun }
     requires begun { (j : ℕ) → j < 16 → W.lane begun j ≡ held W.T width (pattern_at W.pattern items.now) (r * width) (16 * g + j) }
-    ensures whole { W.whole result }
     ensures begun { (j : ℕ) → j < 16 → W.lane result j ≡ held W.T width (pattern_at W.pattern items.now) ((r + 1) * width) (16 * g + j) }
     ensures words { Filled width W.LANES (word_place W.LANES) (word_of W.T width (pattern_at W.pattern items.now)) g (r * width / W.T) ((r + 1) * width / W.T) (S.word packed.old) (S.word packed.new) }
 {
@@ -51,15 +50,13 @@ fn pack_4<W: FastLanes, S: Storage<W>>(
     items: &[W; FL_CHUNK_SIZE],
     r: usize,
     g: usize,
-    begun: W::Vector,
+    begun: Simd<W, 16>,
     packed: &mut [S::Unit],
-) -> W::Vector
+) -> Simd<W, 16>
     requires some { 0 < width }
     requires row { r + 4 ≤ W.T }
     requires group { IsGroup W.T W.LANES width (S.count (length packed.old)) g }
-    requires whole { W.whole begun }
     requires begun { (j : ℕ) → j < 16 → W.lane begun j ≡ held W.T width (pattern_at W.pattern items.now) (r * width) (16 * g + j) }
-    ensures whole { W.whole result }
     ensures begun { (j : ℕ) → j < 16 → W.lane result j ≡ held W.T width (pattern_at W.pattern items.now) ((r + 4) * width) (16 * g + j) }
     ensures words { Filled width W.LANES (word_place W.LANES) (word_of W.T width (pattern_at W.pattern items.now)) g (r * width / W.T) ((r + 4) * width / W.T) (S.word packed.old) (S.word packed.new) }
 {
@@ -76,15 +73,13 @@ fn pack_8<W: FastLanes, S: Storage<W>>(
     items: &[W; FL_CHUNK_SIZE],
     r: usize,
     g: usize,
-    begun: W::Vector,
+    begun: Simd<W, 16>,
     packed: &mut [S::Unit],
-) -> W::Vector
+) -> Simd<W, 16>
     requires some { 0 < width }
     requires row { r + 8 ≤ W.T }
     requires group { IsGroup W.T W.LANES width (S.count (length packed.old)) g }
-    requires whole { W.whole begun }
     requires begun { (j : ℕ) → j < 16 → W.lane begun j ≡ held W.T width (pattern_at W.pattern items.now) (r * width) (16 * g + j) }
-    ensures whole { W.whole result }
     ensures begun { (j : ℕ) → j < 16 → W.lane result j ≡ held W.T width (pattern_at W.pattern items.now) ((r + 8) * width) (16 * g + j) }
     ensures words { Filled width W.LANES (word_place W.LANES) (word_of W.T width (pattern_at W.pattern items.now)) g (r * width / W.T) ((r + 8) * width / W.T) (S.word packed.old) (S.word packed.new) }
 {
@@ -92,25 +87,23 @@ fn pack_8<W: FastLanes, S: Storage<W>>(
     pack_4::<W, S>(width, items, r + 4, g, begun, packed)
 }
 
-/// Puts the items at the 16 rows into the words that are being made.
-fn pack_16<W: FastLanes, S: Storage<W>, const FIRST: usize, const MORE: usize>(
+/// Puts the items at the sixteen rows from `FROM` on into the words that are being made.
+fn pack_16<W: FastLanes, S: Storage<W>, const FIRST: usize, const MORE: usize, const FROM: usize>(
     width: usize,
     items: &[W; FL_CHUNK_SIZE],
     g: usize,
-    begun: W::Vector,
+    begun: Simd<W, 16>,
     packed: &mut [S::Unit],
-) -> W::Vector
+) -> Simd<W, 16>
     requires some { 0 < width }
-    requires row { 16 ≤ W.T }
+    requires row { FROM + 16 ≤ W.T }
     requires group { IsGroup W.T W.LANES width (S.count (length packed.old)) g }
-    requires whole { W.whole begun }
-    requires begun { (j : ℕ) → j < 16 → W.lane begun j ≡ held W.T width (pattern_at W.pattern items.now) (0 * width) (16 * g + j) }
-    ensures whole { W.whole result }
-    ensures begun { (j : ℕ) → j < 16 → W.lane result j ≡ held W.T width (pattern_at W.pattern items.now) (16 * width) (16 * g + j) }
-    ensures words { Filled width W.LANES (word_place W.LANES) (word_of W.T width (pattern_at W.pattern items.now)) g (0 * width / W.T) (16 * width / W.T) (S.word packed.old) (S.word packed.new) }
+    requires begun { (j : ℕ) → j < 16 → W.lane begun j ≡ held W.T width (pattern_at W.pattern items.now) (FROM * width) (16 * g + j) }
+    ensures begun { (j : ℕ) → j < 16 → W.lane result j ≡ held W.T width (pattern_at W.pattern items.now) ((FROM + 16) * width) (16 * g + j) }
+    ensures words { Filled width W.LANES (word_place W.LANES) (word_of W.T width (pattern_at W.pattern items.now)) g (FROM * width / W.T) ((FROM + 16) * width / W.T) (S.word packed.old) (S.word packed.new) }
 {
-    let begun = pack_8::<W, S>(width, items, 0, g, begun, packed);
-    pack_8::<W, S>(width, items, 8, g, begun, packed)
+    let begun = pack_8::<W, S>(width, items, FROM, g, begun, packed);
+    pack_8::<W, S>(width, items, FROM + 8, g, begun, packed)
 }
 
 /// Puts the items at the 32 rows into the words that are being made.
@@ -118,22 +111,18 @@ fn pack_32<W: FastLanes, S: Storage<W>, const FIRST: usize, const MORE: usize>(
     width: usize,
     items: &[W; FL_CHUNK_SIZE],
     g: usize,
-    begun: W::Vector,
+    begun: Simd<W, 16>,
     packed: &mut [S::Unit],
-) -> W::Vector
+) -> Simd<W, 16>
     requires some { 0 < width }
     requires row { 32 ≤ W.T }
     requires group { IsGroup W.T W.LANES width (S.count (length packed.old)) g }
-    requires whole { W.whole begun }
     requires begun { (j : ℕ) → j < 16 → W.lane begun j ≡ held W.T width (pattern_at W.pattern items.now) (0 * width) (16 * g + j) }
-    ensures whole { W.whole result }
     ensures begun { (j : ℕ) → j < 16 → W.lane result j ≡ held W.T width (pattern_at W.pattern items.now) (32 * width) (16 * g + j) }
     ensures words { Filled width W.LANES (word_place W.LANES) (word_of W.T width (pattern_at W.pattern items.now)) g (0 * width / W.T) (32 * width / W.T) (S.word packed.old) (S.word packed.new) }
 {
-    let begun = pack_8::<W, S>(width, items, 0, g, begun, packed);
-    let begun = pack_8::<W, S>(width, items, 8, g, begun, packed);
-    let begun = pack_8::<W, S>(width, items, 16, g, begun, packed);
-    pack_8::<W, S>(width, items, 24, g, begun, packed)
+    let begun = pack_16::<W, S, FIRST, MORE, 0>(width, items, g, begun, packed);
+    pack_16::<W, S, FIRST, MORE, 16>(width, items, g, begun, packed)
 }
 
 /// Puts the items at the 64 rows into the words that are being made.
@@ -141,32 +130,25 @@ fn pack_64<W: FastLanes, S: Storage<W>, const FIRST: usize, const MORE: usize>(
     width: usize,
     items: &[W; FL_CHUNK_SIZE],
     g: usize,
-    begun: W::Vector,
+    begun: Simd<W, 16>,
     packed: &mut [S::Unit],
-) -> W::Vector
+) -> Simd<W, 16>
     requires some { 0 < width }
     requires row { 64 ≤ W.T }
     requires group { IsGroup W.T W.LANES width (S.count (length packed.old)) g }
-    requires whole { W.whole begun }
     requires begun { (j : ℕ) → j < 16 → W.lane begun j ≡ held W.T width (pattern_at W.pattern items.now) (0 * width) (16 * g + j) }
-    ensures whole { W.whole result }
     ensures begun { (j : ℕ) → j < 16 → W.lane result j ≡ held W.T width (pattern_at W.pattern items.now) (64 * width) (16 * g + j) }
     ensures words { Filled width W.LANES (word_place W.LANES) (word_of W.T width (pattern_at W.pattern items.now)) g (0 * width / W.T) (64 * width / W.T) (S.word packed.old) (S.word packed.new) }
 {
-    let begun = pack_8::<W, S>(width, items, 0, g, begun, packed);
-    let begun = pack_8::<W, S>(width, items, 8, g, begun, packed);
-    let begun = pack_8::<W, S>(width, items, 16, g, begun, packed);
-    let begun = pack_8::<W, S>(width, items, 24, g, begun, packed);
-    let begun = pack_8::<W, S>(width, items, 32, g, begun, packed);
-    let begun = pack_8::<W, S>(width, items, 40, g, begun, packed);
-    let begun = pack_8::<W, S>(width, items, 48, g, begun, packed);
-    pack_8::<W, S>(width, items, 56, g, begun, packed)
+    let begun = pack_16::<W, S, FIRST, MORE, 0>(width, items, g, begun, packed);
+    let begun = pack_16::<W, S, FIRST, MORE, 16>(width, items, g, begun, packed);
+    let begun = pack_16::<W, S, FIRST, MORE, 32>(width, items, g, begun, packed);
+    pack_16::<W, S, FIRST, MORE, 48>(width, items, g, begun, packed)
 }
 
 /// No bits of any word.
 #[inline(always)]
-fn nothing_begun<W: FastLanes>(width: usize, items: &[W; FL_CHUNK_SIZE], g: usize) -> W::Vector
-    ensures whole { W.whole result }
+fn nothing_begun<W: FastLanes>(width: usize, items: &[W; FL_CHUNK_SIZE], g: usize) -> Simd<W, 16>
     ensures begun { (j : ℕ) → j < 16 → W.lane result j ≡ held W.T width (pattern_at W.pattern items.now) (0 * width) (16 * g + j) }
 {
     W::splat(W::zero())
@@ -190,7 +172,7 @@ fn pack_group<W: FastLanes, S: Storage<W>, const FIRST: usize, const MORE: usize
     if t == 8 {
         pack_8::<W, S>(width, items, 0, g, begun, packed);
     } else if t == 16 {
-        pack_16::<W, S, FIRST, MORE>(width, items, g, begun, packed);
+        pack_16::<W, S, FIRST, MORE, 0>(width, items, g, begun, packed);
     } else if t == 32 {
         pack_32::<W, S, FIRST, MORE>(width, items, g, begun, packed);
     } else {

@@ -4,6 +4,7 @@ ghost use Rattle.std.specs.Prelude.{◌≡◌, ◌⊎◌, ℕ, ◌+◌, ◌/◌,
 ghost use Rattle.fastlanes.specs.Layout.{pattern_at, word_at};
 
 use crate::words::FastLanes;
+use std::simd::Simd;
 
 /// How the words of a packed block are kept: as words, or as bytes.
 pub(crate) trait Storage<W: FastLanes> {
@@ -19,15 +20,13 @@ pub(crate) trait Storage<W: FastLanes> {
     ghost word: { List Self.Unit → ℕ → ℕ };
 
     /// The sixteen words from word `at` on.
-    fn load(units: &[Self::Unit], at: usize) -> W::Vector
+    fn load(units: &[Self::Unit], at: usize) -> Simd<W, 16>
         requires room { at + 16 ≤ count (length units.now) }
-        ensures whole { W.whole result }
         ensures lanes { (j : ℕ) → j < 16 → W.lane result j ≡ word units.now (at + j) }
         ensures small { (j : ℕ) → j < 16 → W.lane result j < 2 ^ W.T };
 
     /// Writes the sixteen words from word `at` on.
-    fn store(vector: W::Vector, units: &mut [Self::Unit], at: usize)
-        requires whole { W.whole vector }
+    fn store(vector: Simd<W, 16>, units: &mut [Self::Unit], at: usize)
         requires room { at + 16 ≤ count (length units.old) }
         ensures lanes { (j : ℕ) → j < 16 → word units.new (at + j) ≡ W.lane vector j }
         ensures others { (i : ℕ) → (i < at) ⊎ (at + 16 ≤ i) → word units.new i ≡ word units.old i };
@@ -44,12 +43,16 @@ impl<W: FastLanes> Storage<W> for AsWords {
     ghost word = { λ units m. pattern_at W.pattern units m };
 
     #[inline(always)]
-    fn load(units: &[W], at: usize) -> W::Vector {
+    fn load(units: &[W], at: usize) -> Simd<W, 16> {
         W::load(units, at)
     }
 
     #[inline(always)]
-    fn store(vector: W::Vector, units: &mut [W], at: usize) {
+    fn store(vector: Simd<W, 16>, units: &mut [W], at: usize)
+        requires room { at + 16 ≤ length units.old }
+        ensures lanes { (j : ℕ) → j < 16 → pattern_at W.pattern units.new (at + j) ≡ W.lane vector j }
+        ensures others { (i : ℕ) → (i < at) ⊎ (at + 16 ≤ i) → pattern_at W.pattern units.new i ≡ pattern_at W.pattern units.old i }
+    {
         W::store(vector, units, at);
     }
 }
@@ -65,7 +68,7 @@ impl<W: FastLanes> Storage<W> for AsBytes {
     ghost word = { λ units m. word_at W.T units m };
 
     #[inline(always)]
-    fn load(units: &[u8], at: usize) -> W::Vector {
+    fn load(units: &[u8], at: usize) -> Simd<W, 16> {
         W::in_memory();
         let mut words = [W::zero(); 16];
         read_sixteen(units, at, &mut words);
@@ -73,7 +76,11 @@ impl<W: FastLanes> Storage<W> for AsBytes {
     }
 
     #[inline(always)]
-    fn store(vector: W::Vector, units: &mut [u8], at: usize) {
+    fn store(vector: Simd<W, 16>, units: &mut [u8], at: usize)
+        requires room { at + 16 ≤ length units.old / (W.T / 8) }
+        ensures lanes { (j : ℕ) → j < 16 → word_at W.T units.new (at + j) ≡ W.lane vector j }
+        ensures others { (i : ℕ) → (i < at) ⊎ (at + 16 ≤ i) → word_at W.T units.new i ≡ word_at W.T units.old i }
+    {
         W::in_memory();
         let words = W::to_words(vector);
         for j in 0..16usize {

@@ -6,10 +6,11 @@ ghost use Rattle.fastlanes.specs.Layout.{place, pattern_at, unpacked_item, word_
 ghost use Rattle.fastlanes.specs.Filled.{Filled, IsGroup, IsReference, item_of, sum_of};
 
 use crate::counts::Work;
-use crate::layout::{FL_CHUNK_SIZE, pos};
+use crate::layout::{FL_CHUNK_SIZE, pos, whole_block};
 use crate::storage::{AsBytes, AsWords, Storage};
 use crate::widths::{at_eight, begin, bits, group_at, lanes};
 use crate::words::FastLanes;
+use std::simd::Simd;
 
 /// The items at row `r` of the lanes of group `g`.
 #[inline(always)]
@@ -18,10 +19,9 @@ pub(crate) fn items_of_row<W: FastLanes, S: Storage<W>>(
     words: &[S::Unit],
     r: usize,
     g: usize,
-) -> W::Vector
+) -> Simd<W, 16>
     requires row { r < W.T }
     requires group { IsGroup W.T W.LANES width (S.count (length words.now)) g }
-    ensures whole { W.whole result }
     ensures items { (j : ℕ) → j < 16 → W.lane result j ≡ item_of W.T W.LANES width (S.word words.now) r (16 * g + j) }
 {
     if width == 0 {
@@ -40,11 +40,9 @@ pub(crate) fn items_of_row<W: FastLanes, S: Storage<W>>(
 
 /// Each lane plus the lane of the reference, which is 0 where the items have no frame.
 #[inline(always)]
-fn framed<W: FastLanes, const FRAMED: bool>(row: W::Vector, reference: W::Vector) -> W::Vector
-    requires row { W.whole row }
-    requires reference { IsReference FRAMED (W.whole reference) (W.lane reference) }
+fn framed<W: FastLanes, const FRAMED: bool>(row: Simd<W, 16>, reference: Simd<W, 16>) -> Simd<W, 16>
+    requires reference { IsReference FRAMED (W.lane reference) }
     requires small { (j : ℕ) → j < 16 → W.lane row j < 2 ^ W.T }
-    ensures whole { W.whole result }
     ensures lanes { (j : ℕ) → j < 16 → W.lane result j ≡ (W.lane row j + W.lane reference j) % 2 ^ W.T }
 {
     if FRAMED { W::add(row, reference) } else { row }
@@ -55,16 +53,15 @@ fn framed<W: FastLanes, const FRAMED: bool>(row: W::Vector, reference: W::Vector
 fn unpack_row<W: FastLanes, S: Storage<W>, const FRAMED: bool>(
     width: usize,
     words: &[S::Unit],
-    reference: W::Vector,
+    reference: Simd<W, 16>,
     r: usize,
     g: usize,
     items: &mut [W; FL_CHUNK_SIZE],
 )
-    requires reference { IsReference FRAMED (W.whole reference) (W.lane reference) }
+    requires reference { IsReference FRAMED (W.lane reference) }
     requires row { r < W.T }
     requires group { IsGroup W.T W.LANES width (S.count (length words.now)) g }
     ensures filled { Filled W.T W.LANES place (sum_of W.T W.LANES width (S.word words.now) (W.lane reference)) g r (r + 1) (pattern_at W.pattern items.old) (pattern_at W.pattern items.new) }
-    ensures whole { length items.new ≡ 1024 }
 {
     let row = framed::<W, FRAMED>(items_of_row::<W, S>(width, words, r, g), reference);
     W::store(row, items, pos(r, 16 * g));
@@ -75,16 +72,15 @@ fn unpack_row<W: FastLanes, S: Storage<W>, const FRAMED: bool>(
 fn unpack_8<W: FastLanes, S: Storage<W>, const FRAMED: bool>(
     width: usize,
     words: &[S::Unit],
-    reference: W::Vector,
+    reference: Simd<W, 16>,
     r: usize,
     g: usize,
     items: &mut [W; FL_CHUNK_SIZE],
 )
-    requires reference { IsReference FRAMED (W.whole reference) (W.lane reference) }
+    requires reference { IsReference FRAMED (W.lane reference) }
     requires row { r + 8 ≤ W.T }
     requires group { IsGroup W.T W.LANES width (S.count (length words.now)) g }
     ensures filled { Filled W.T W.LANES place (sum_of W.T W.LANES width (S.word words.now) (W.lane reference)) g r (r + 8) (pattern_at W.pattern items.old) (pattern_at W.pattern items.new) }
-    ensures whole { length items.new ≡ 1024 }
 {
     unpack_row::<W, S, FRAMED>(width, words, reference, r, g, items);
     unpack_row::<W, S, FRAMED>(width, words, reference, r + 1, g, items);
@@ -96,22 +92,22 @@ fn unpack_8<W: FastLanes, S: Storage<W>, const FRAMED: bool>(
     unpack_row::<W, S, FRAMED>(width, words, reference, r + 7, g, items);
 }
 
-/// Writes the items at the 16 rows of the lanes of group `g`, plus the reference.
+/// Writes the items at the sixteen rows from `FROM` on of the lanes of group `g`, plus the reference.
 fn unpack_16<
     W: FastLanes,
     S: Storage<W>,
     const FRAMED: bool,
     const FIRST: usize,
     const MORE: usize,
->(width: usize, words: &[S::Unit], reference: W::Vector, g: usize, items: &mut [W; FL_CHUNK_SIZE])
-    requires reference { IsReference FRAMED (W.whole reference) (W.lane reference) }
-    requires row { 16 ≤ W.T }
+    const FROM: usize,
+>(width: usize, words: &[S::Unit], reference: Simd<W, 16>, g: usize, items: &mut [W; FL_CHUNK_SIZE])
+    requires reference { IsReference FRAMED (W.lane reference) }
+    requires row { FROM + 16 ≤ W.T }
     requires group { IsGroup W.T W.LANES width (S.count (length words.now)) g }
-    ensures filled { Filled W.T W.LANES place (sum_of W.T W.LANES width (S.word words.now) (W.lane reference)) g 0 16 (pattern_at W.pattern items.old) (pattern_at W.pattern items.new) }
-    ensures whole { length items.new ≡ 1024 }
+    ensures filled { Filled W.T W.LANES place (sum_of W.T W.LANES width (S.word words.now) (W.lane reference)) g FROM (FROM + 16) (pattern_at W.pattern items.old) (pattern_at W.pattern items.new) }
 {
-    unpack_8::<W, S, FRAMED>(width, words, reference, 0, g, items);
-    unpack_8::<W, S, FRAMED>(width, words, reference, 8, g, items);
+    unpack_8::<W, S, FRAMED>(width, words, reference, FROM, g, items);
+    unpack_8::<W, S, FRAMED>(width, words, reference, FROM + 8, g, items);
 }
 
 /// Writes the items at the 32 rows of the lanes of group `g`, plus the reference.
@@ -121,17 +117,14 @@ fn unpack_32<
     const FRAMED: bool,
     const FIRST: usize,
     const MORE: usize,
->(width: usize, words: &[S::Unit], reference: W::Vector, g: usize, items: &mut [W; FL_CHUNK_SIZE])
-    requires reference { IsReference FRAMED (W.whole reference) (W.lane reference) }
+>(width: usize, words: &[S::Unit], reference: Simd<W, 16>, g: usize, items: &mut [W; FL_CHUNK_SIZE])
+    requires reference { IsReference FRAMED (W.lane reference) }
     requires row { 32 ≤ W.T }
     requires group { IsGroup W.T W.LANES width (S.count (length words.now)) g }
     ensures filled { Filled W.T W.LANES place (sum_of W.T W.LANES width (S.word words.now) (W.lane reference)) g 0 32 (pattern_at W.pattern items.old) (pattern_at W.pattern items.new) }
-    ensures whole { length items.new ≡ 1024 }
 {
-    unpack_8::<W, S, FRAMED>(width, words, reference, 0, g, items);
-    unpack_8::<W, S, FRAMED>(width, words, reference, 8, g, items);
-    unpack_8::<W, S, FRAMED>(width, words, reference, 16, g, items);
-    unpack_8::<W, S, FRAMED>(width, words, reference, 24, g, items);
+    unpack_16::<W, S, FRAMED, FIRST, MORE, 0>(width, words, reference, g, items);
+    unpack_16::<W, S, FRAMED, FIRST, MORE, 16>(width, words, reference, g, items);
 }
 
 /// Writes the items at the 64 rows of the lanes of group `g`, plus the reference.
@@ -141,21 +134,16 @@ fn unpack_64<
     const FRAMED: bool,
     const FIRST: usize,
     const MORE: usize,
->(width: usize, words: &[S::Unit], reference: W::Vector, g: usize, items: &mut [W; FL_CHUNK_SIZE])
-    requires reference { IsReference FRAMED (W.whole reference) (W.lane reference) }
+>(width: usize, words: &[S::Unit], reference: Simd<W, 16>, g: usize, items: &mut [W; FL_CHUNK_SIZE])
+    requires reference { IsReference FRAMED (W.lane reference) }
     requires row { 64 ≤ W.T }
     requires group { IsGroup W.T W.LANES width (S.count (length words.now)) g }
     ensures filled { Filled W.T W.LANES place (sum_of W.T W.LANES width (S.word words.now) (W.lane reference)) g 0 64 (pattern_at W.pattern items.old) (pattern_at W.pattern items.new) }
-    ensures whole { length items.new ≡ 1024 }
 {
-    unpack_8::<W, S, FRAMED>(width, words, reference, 0, g, items);
-    unpack_8::<W, S, FRAMED>(width, words, reference, 8, g, items);
-    unpack_8::<W, S, FRAMED>(width, words, reference, 16, g, items);
-    unpack_8::<W, S, FRAMED>(width, words, reference, 24, g, items);
-    unpack_8::<W, S, FRAMED>(width, words, reference, 32, g, items);
-    unpack_8::<W, S, FRAMED>(width, words, reference, 40, g, items);
-    unpack_8::<W, S, FRAMED>(width, words, reference, 48, g, items);
-    unpack_8::<W, S, FRAMED>(width, words, reference, 56, g, items);
+    unpack_16::<W, S, FRAMED, FIRST, MORE, 0>(width, words, reference, g, items);
+    unpack_16::<W, S, FRAMED, FIRST, MORE, 16>(width, words, reference, g, items);
+    unpack_16::<W, S, FRAMED, FIRST, MORE, 32>(width, words, reference, g, items);
+    unpack_16::<W, S, FRAMED, FIRST, MORE, 48>(width, words, reference, g, items);
 }
 
 /// Writes the items at all rows of the lanes of group `g`, plus the reference.
@@ -167,17 +155,16 @@ fn unpack_group<
     const FRAMED: bool,
     const FIRST: usize,
     const MORE: usize,
->(width: usize, words: &[S::Unit], reference: W::Vector, g: usize, items: &mut [W; FL_CHUNK_SIZE])
-    requires reference { IsReference FRAMED (W.whole reference) (W.lane reference) }
+>(width: usize, words: &[S::Unit], reference: Simd<W, 16>, g: usize, items: &mut [W; FL_CHUNK_SIZE])
+    requires reference { IsReference FRAMED (W.lane reference) }
     requires group { IsGroup W.T W.LANES width (S.count (length words.now)) g }
     ensures filled { Filled W.T W.LANES place (sum_of W.T W.LANES width (S.word words.now) (W.lane reference)) g 0 W.T (pattern_at W.pattern items.old) (pattern_at W.pattern items.new) }
-    ensures whole { length items.new ≡ 1024 }
 {
     let t = bits::<W>();
     if t == 8 {
         unpack_8::<W, S, FRAMED>(width, words, reference, 0, g, items);
     } else if t == 16 {
-        unpack_16::<W, S, FRAMED, FIRST, MORE>(width, words, reference, g, items);
+        unpack_16::<W, S, FRAMED, FIRST, MORE, 0>(width, words, reference, g, items);
     } else if t == 32 {
         unpack_32::<W, S, FRAMED, FIRST, MORE>(width, words, reference, g, items);
     } else {
@@ -187,9 +174,9 @@ fn unpack_group<
 
 /// Sixteen times the reference.
 #[inline(always)]
-fn splat_reference<W: FastLanes, const FRAMED: bool>(reference: W) -> W::Vector
+fn splat_reference<W: FastLanes, const FRAMED: bool>(reference: W) -> Simd<W, 16>
     requires { FRAMED ≡ false → W.pattern reference ≡ 0 }
-    ensures reference { IsReference FRAMED (W.whole result) (W.lane result) }
+    ensures reference { IsReference FRAMED (W.lane result) }
     ensures lanes { (j : ℕ) → j < 16 → W.lane result j ≡ W.pattern reference }
 {
     W::splat(reference)
@@ -234,7 +221,6 @@ fn unpack_groups<
     requires block { S.count (length words.now) ≡ width * W.LANES }
     requires frame { FRAMED ≡ false → W.pattern reference ≡ 0 }
     ensures items { (i : ℕ) → i < 1024 → pattern_at W.pattern items.new i ≡ (unpacked_item W.T W.LANES width (S.word words.now) i + W.pattern reference) % 2 ^ W.T }
-    ensures whole { length items.new ≡ 1024 }
 {
     reference.in_range();
     W::in_memory();
@@ -265,7 +251,6 @@ fn unpack_at<
     requires block { S.count (length words.now) ≡ (FIRST + MORE) * W.LANES }
     requires frame { FRAMED ≡ false → W.pattern reference ≡ 0 }
     ensures items { (i : ℕ) → i < 1024 → pattern_at W.pattern items.new i ≡ (unpacked_item W.T W.LANES (FIRST + MORE) (S.word words.now) i + W.pattern reference) % 2 ^ W.T }
-    ensures whole { length items.new ≡ 1024 }
 {
     unpack_groups::<W, S, FRAMED, FIRST, MORE>(FIRST + MORE, words, reference, items);
 }
@@ -283,7 +268,6 @@ fn unpack_eight<W: FastLanes, S: Storage<W>, const FRAMED: bool, const FIRST: us
     requires block { S.count (length words.now) ≡ width * W.LANES }
     requires frame { FRAMED ≡ false → W.pattern reference ≡ 0 }
     ensures items { (i : ℕ) → i < 1024 → pattern_at W.pattern items.new i ≡ (unpacked_item W.T W.LANES width (S.word words.now) i + W.pattern reference) % 2 ^ W.T }
-    ensures whole { length items.new ≡ 1024 }
 {
     at_eight!(
         width - FIRST,
@@ -305,7 +289,6 @@ fn unpack_below_32<W: FastLanes, S: Storage<W>, const FRAMED: bool>(
     requires block { S.count (length words.now) ≡ width * W.LANES }
     requires frame { FRAMED ≡ false → W.pattern reference ≡ 0 }
     ensures items { (i : ℕ) → i < 1024 → pattern_at W.pattern items.new i ≡ (unpacked_item W.T W.LANES width (S.word words.now) i + W.pattern reference) % 2 ^ W.T }
-    ensures whole { length items.new ≡ 1024 }
 {
     let t = bits::<W>();
     if t == 8 || width < 8 {
@@ -332,7 +315,6 @@ fn unpack_from_32<W: FastLanes, S: Storage<W>, const FRAMED: bool>(
     requires block { S.count (length words.now) ≡ width * W.LANES }
     requires frame { FRAMED ≡ false → W.pattern reference ≡ 0 }
     ensures items { (i : ℕ) → i < 1024 → pattern_at W.pattern items.new i ≡ (unpacked_item W.T W.LANES width (S.word words.now) i + W.pattern reference) % 2 ^ W.T }
-    ensures whole { length items.new ≡ 1024 }
 {
     if width < 40 {
         unpack_eight::<W, S, FRAMED, 32>(width, words, reference, items);
@@ -355,7 +337,6 @@ fn unpack_whole<W: FastLanes, S: Storage<W>, const FRAMED: bool>(
     requires block { S.count (length words.now) ≡ W.T * W.LANES }
     requires frame { FRAMED ≡ false → W.pattern reference ≡ 0 }
     ensures items { (i : ℕ) → i < 1024 → pattern_at W.pattern items.new i ≡ (unpacked_item W.T W.LANES W.T (S.word words.now) i + W.pattern reference) % 2 ^ W.T }
-    ensures whole { length items.new ≡ 1024 }
 {
     unpack_groups::<W, S, FRAMED, 64, 0>(bits::<W>(), words, reference, items);
 }
@@ -381,6 +362,7 @@ pub(crate) fn unpack_block<W: FastLanes, S: Storage<W>, const FRAMED: bool>(
     } else {
         unpack_from_32::<W, S, FRAMED>(width, words, reference, items);
     }
+    whole_block(items);
 }
 
 /// Unpacks a block: writes the item at each position, its bits from `width` on 0.

@@ -6,10 +6,12 @@ ghost use Rattle.std.proofs.Common.{lit≤};
 ghost use Rattle.fastlanes.specs.Layout.{word_at, pattern_at, bit_value, IsWordWidth, bits_8, bits_16, bits_32, bits_64};
 
 use crate::widths::low_bits;
-use std::simd::{u8x16, u16x16, u32x16, u64x16};
+use std::simd::{Simd, u8x16, u16x16, u32x16, u64x16};
 
 /// An unsigned type whose values are the words of a packed block, with vectors of sixteen of them.
 pub trait FastLanes: Copy {
+    ghost use Rattle.std.specs.Prelude.{List};
+
     /// The bits of a word, and the rows of a block.
     const T: usize;
 
@@ -78,86 +80,59 @@ pub trait FastLanes: Copy {
     fn in_range(self)
         ensures { pattern self < 2 ^ T };
 
-    /// A vector of sixteen words.
-    type Vector: Copy;
-
-    /// A vector has its sixteen words.
-    ghost whole: { Self.Vector → Type 0 };
-
-    /// The pattern of a word of a vector.
-    ghost lane: { Self.Vector → ℕ → ℕ };
+    /// The pattern of each of the sixteen words of a vector.
+    ghost lane: { List Self → ℕ → ℕ };
 
     /// The sixteen words from `at` on.
-    fn load(words: &[Self], at: usize) -> Self::Vector
+    fn load(words: &[Self], at: usize) -> Simd<Self, 16>
         requires room { at + 16 ≤ length words.now }
-        ensures whole { whole result }
         ensures lanes { (j : ℕ) → j < 16 → lane result j ≡ pattern_at pattern words.now (at + j) }
         ensures small { (j : ℕ) → j < 16 → lane result j < 2 ^ T };
 
     /// Writes the sixteen words from `at` on.
-    fn store(vector: Self::Vector, words: &mut [Self], at: usize)
-        requires whole { whole vector }
+    fn store(vector: Simd<Self, 16>, words: &mut [Self], at: usize)
         requires room { at + 16 ≤ length words.old }
         ensures lanes { (j : ℕ) → j < 16 → pattern_at pattern words.new (at + j) ≡ lane vector j }
         ensures others { (i : ℕ) → (i < at) ⊎ (at + 16 ≤ i) → pattern_at pattern words.new i ≡ pattern_at pattern words.old i };
 
     /// The sixteen words of a vector.
-    fn to_words(vector: Self::Vector) -> [Self; 16]
-        requires whole { whole vector }
+    fn to_words(vector: Simd<Self, 16>) -> [Self; 16]
         ensures { (j : ℕ) → j < 16 → pattern_at pattern result j ≡ lane vector j };
 
     /// Sixteen times this word.
-    fn splat(word: Self) -> Self::Vector
-        ensures whole { whole result }
+    fn splat(word: Self) -> Simd<Self, 16>
         ensures lanes { (j : ℕ) → j < 16 → lane result j ≡ pattern word };
 
     /// Sixteen words whose low `width` bits are set.
-    fn low_mask(width: usize) -> Self::Vector
+    fn low_mask(width: usize) -> Simd<Self, 16>
         requires some { 0 < width }
         requires width { width ≤ T }
-        ensures whole { whole result }
         ensures lanes { (j : ℕ) → j < 16 → lane result j ≡ 2 ^ width - 1 };
 
     /// Each word shifted to the right by so many bits.
-    fn shift_right(vector: Self::Vector, by: usize) -> Self::Vector
-        requires whole { whole vector }
+    fn shift_right(vector: Simd<Self, 16>, by: usize) -> Simd<Self, 16>
         requires by { by < T }
-        ensures whole { whole result }
         ensures lanes { (j : ℕ) → j < 16 → lane result j ≡ lane vector j / 2 ^ by };
 
     /// Each word shifted to the left by so many bits, the bits above a word lost.
-    fn shift_left(vector: Self::Vector, by: usize) -> Self::Vector
-        requires whole { whole vector }
+    fn shift_left(vector: Simd<Self, 16>, by: usize) -> Simd<Self, 16>
         requires by { by < T }
-        ensures whole { whole result }
         ensures lanes { (j : ℕ) → j < 16 → lane result j ≡ lane vector j * 2 ^ by % 2 ^ T };
 
     /// The bits that both words of a lane have.
-    fn and(vector: Self::Vector, other: Self::Vector) -> Self::Vector
-        requires whole { whole vector }
-        requires other { whole other }
-        ensures whole { whole result }
+    fn and(vector: Simd<Self, 16>, other: Simd<Self, 16>) -> Simd<Self, 16>
         ensures lanes { (j : ℕ) → j < 16 → lane result j ≡ bit_and (lane vector j) (lane other j) };
 
     /// The bits that one of the two words of a lane has.
-    fn or(vector: Self::Vector, other: Self::Vector) -> Self::Vector
-        requires whole { whole vector }
-        requires other { whole other }
-        ensures whole { whole result }
+    fn or(vector: Simd<Self, 16>, other: Simd<Self, 16>) -> Simd<Self, 16>
         ensures lanes { (j : ℕ) → j < 16 → lane result j ≡ bit_or (lane vector j) (lane other j) };
 
     /// The sum of the two words of a lane, modulo 2 to the number of bits.
-    fn add(vector: Self::Vector, other: Self::Vector) -> Self::Vector
-        requires whole { whole vector }
-        requires other { whole other }
-        ensures whole { whole result }
+    fn add(vector: Simd<Self, 16>, other: Simd<Self, 16>) -> Simd<Self, 16>
         ensures lanes { (j : ℕ) → j < 16 → lane result j ≡ (lane vector j + lane other j) % 2 ^ T };
 
     /// The difference of the two words of a lane, modulo 2 to the number of bits.
-    fn subtract(vector: Self::Vector, other: Self::Vector) -> Self::Vector
-        requires whole { whole vector }
-        requires other { whole other }
-        ensures whole { whole result }
+    fn subtract(vector: Simd<Self, 16>, other: Simd<Self, 16>) -> Simd<Self, 16>
         ensures lanes { (j : ℕ) → j < 16 → lane result j ≡ (lane vector j + (2 ^ T - lane other j)) % 2 ^ T };
 
     /// A word takes at most eight bytes, so that arrays of words fit in memory.
@@ -234,10 +209,6 @@ impl FastLanes for u8 {
 
     fn in_memory() {}
 
-    type Vector = u8x16;
-
-    ghost whole = { λ v. length v ≡ 16 };
-
     ghost lane = { λ v j. slice_index v j };
 
     #[inline(always)]
@@ -248,13 +219,19 @@ impl FastLanes for u8 {
 
     #[inline(always)]
     #[tactic(auto, using(crate::proofs::Sixteen::stored, crate::proofs::Sixteen::stored_others))]
-    fn store(vector: u8x16, words: &mut [Self], at: usize) {
+    fn store(vector: u8x16, words: &mut [Self], at: usize)
+        requires room { at + 16 ≤ length words.old }
+        ensures lanes { (j : ℕ) → j < 16 → pattern_at (λ x. x) words.new (at + j) ≡ slice_index vector j }
+        ensures others { (i : ℕ) → (i < at) ⊎ (at + 16 ≤ i) → pattern_at (λ x. x) words.new i ≡ pattern_at (λ x. x) words.old i }
+    {
         vector.copy_to_slice(&mut words[at..]);
     }
 
     #[inline(always)]
     #[tactic(auto, using(crate::proofs::Vectors::pattern_at_number))]
-    fn to_words(vector: u8x16) -> [Self; 16] {
+    fn to_words(vector: u8x16) -> [Self; 16]
+        ensures { (j : ℕ) → j < 16 → pattern_at (λ x. x) result j ≡ slice_index vector j }
+    {
         vector.to_array()
     }
 
@@ -270,32 +247,46 @@ impl FastLanes for u8 {
     }
 
     #[inline(always)]
-    fn shift_right(vector: u8x16, by: usize) -> u8x16 {
+    fn shift_right(vector: u8x16, by: usize) -> u8x16
+        requires by { by < 8 }
+        ensures lanes { (j : ℕ) → j < 16 → slice_index result j ≡ slice_index vector j / 2 ^ by }
+    {
         vector >> u8x16::splat(by as u8)
     }
 
     #[inline(always)]
-    fn shift_left(vector: u8x16, by: usize) -> u8x16 {
+    fn shift_left(vector: u8x16, by: usize) -> u8x16
+        requires by { by < 8 }
+        ensures lanes { (j : ℕ) → j < 16 → slice_index result j ≡ slice_index vector j * 2 ^ by % 2 ^ 8 }
+    {
         vector << u8x16::splat(by as u8)
     }
 
     #[inline(always)]
-    fn and(vector: u8x16, other: u8x16) -> u8x16 {
+    fn and(vector: u8x16, other: u8x16) -> u8x16
+        ensures lanes { (j : ℕ) → j < 16 → slice_index result j ≡ bit_and (slice_index vector j) (slice_index other j) }
+    {
         vector & other
     }
 
     #[inline(always)]
-    fn or(vector: u8x16, other: u8x16) -> u8x16 {
+    fn or(vector: u8x16, other: u8x16) -> u8x16
+        ensures lanes { (j : ℕ) → j < 16 → slice_index result j ≡ bit_or (slice_index vector j) (slice_index other j) }
+    {
         vector | other
     }
 
     #[inline(always)]
-    fn add(vector: u8x16, other: u8x16) -> u8x16 {
+    fn add(vector: u8x16, other: u8x16) -> u8x16
+        ensures lanes { (j : ℕ) → j < 16 → slice_index result j ≡ (slice_index vector j + slice_index other j) % 2 ^ 8 }
+    {
         vector + other
     }
 
     #[inline(always)]
-    fn subtract(vector: u8x16, other: u8x16) -> u8x16 {
+    fn subtract(vector: u8x16, other: u8x16) -> u8x16
+        ensures lanes { (j : ℕ) → j < 16 → slice_index result j ≡ (slice_index vector j + (2 ^ 8 - slice_index other j)) % 2 ^ 8 }
+    {
         vector - other
     }
 
@@ -371,10 +362,6 @@ impl FastLanes for u16 {
 
     fn in_memory() {}
 
-    type Vector = u16x16;
-
-    ghost whole = { λ v. length v ≡ 16 };
-
     ghost lane = { λ v j. slice_index v j };
 
     #[inline(always)]
@@ -385,13 +372,19 @@ impl FastLanes for u16 {
 
     #[inline(always)]
     #[tactic(auto, using(crate::proofs::Sixteen::stored, crate::proofs::Sixteen::stored_others))]
-    fn store(vector: u16x16, words: &mut [Self], at: usize) {
+    fn store(vector: u16x16, words: &mut [Self], at: usize)
+        requires room { at + 16 ≤ length words.old }
+        ensures lanes { (j : ℕ) → j < 16 → pattern_at (λ x. x) words.new (at + j) ≡ slice_index vector j }
+        ensures others { (i : ℕ) → (i < at) ⊎ (at + 16 ≤ i) → pattern_at (λ x. x) words.new i ≡ pattern_at (λ x. x) words.old i }
+    {
         vector.copy_to_slice(&mut words[at..]);
     }
 
     #[inline(always)]
     #[tactic(auto, using(crate::proofs::Vectors::pattern_at_number))]
-    fn to_words(vector: u16x16) -> [Self; 16] {
+    fn to_words(vector: u16x16) -> [Self; 16]
+        ensures { (j : ℕ) → j < 16 → pattern_at (λ x. x) result j ≡ slice_index vector j }
+    {
         vector.to_array()
     }
 
@@ -407,32 +400,46 @@ impl FastLanes for u16 {
     }
 
     #[inline(always)]
-    fn shift_right(vector: u16x16, by: usize) -> u16x16 {
+    fn shift_right(vector: u16x16, by: usize) -> u16x16
+        requires by { by < 16 }
+        ensures lanes { (j : ℕ) → j < 16 → slice_index result j ≡ slice_index vector j / 2 ^ by }
+    {
         vector >> u16x16::splat(by as u16)
     }
 
     #[inline(always)]
-    fn shift_left(vector: u16x16, by: usize) -> u16x16 {
+    fn shift_left(vector: u16x16, by: usize) -> u16x16
+        requires by { by < 16 }
+        ensures lanes { (j : ℕ) → j < 16 → slice_index result j ≡ slice_index vector j * 2 ^ by % 2 ^ 16 }
+    {
         vector << u16x16::splat(by as u16)
     }
 
     #[inline(always)]
-    fn and(vector: u16x16, other: u16x16) -> u16x16 {
+    fn and(vector: u16x16, other: u16x16) -> u16x16
+        ensures lanes { (j : ℕ) → j < 16 → slice_index result j ≡ bit_and (slice_index vector j) (slice_index other j) }
+    {
         vector & other
     }
 
     #[inline(always)]
-    fn or(vector: u16x16, other: u16x16) -> u16x16 {
+    fn or(vector: u16x16, other: u16x16) -> u16x16
+        ensures lanes { (j : ℕ) → j < 16 → slice_index result j ≡ bit_or (slice_index vector j) (slice_index other j) }
+    {
         vector | other
     }
 
     #[inline(always)]
-    fn add(vector: u16x16, other: u16x16) -> u16x16 {
+    fn add(vector: u16x16, other: u16x16) -> u16x16
+        ensures lanes { (j : ℕ) → j < 16 → slice_index result j ≡ (slice_index vector j + slice_index other j) % 2 ^ 16 }
+    {
         vector + other
     }
 
     #[inline(always)]
-    fn subtract(vector: u16x16, other: u16x16) -> u16x16 {
+    fn subtract(vector: u16x16, other: u16x16) -> u16x16
+        ensures lanes { (j : ℕ) → j < 16 → slice_index result j ≡ (slice_index vector j + (2 ^ 16 - slice_index other j)) % 2 ^ 16 }
+    {
         vector - other
     }
 
@@ -461,13 +468,12 @@ impl FastLanes for u32 {
         u32::from_le_bytes([bytes[at], bytes[at + 1], bytes[at + 2], bytes[at + 3]])
     }
 
+    #[tactic(auto, using(crate::proofs::WordBytes::word_of_32_at_halves))]
     fn put_word(self, bytes: &mut [u8], k: usize) {
-        let at = 4 * k;
-        let low = self.to_le_bytes();
-        bytes[at] = low[0];
-        bytes[at + 1] = low[1];
-        bytes[at + 2] = low[2];
-        bytes[at + 3] = low[3];
+        let low = (self % 0x1_0000) as u16;
+        let high = (self / 0x1_0000) as u16;
+        low.put_word(bytes, 2 * k);
+        high.put_word(bytes, 2 * k + 1);
     }
 
     fn zero() -> Self {
@@ -510,10 +516,6 @@ impl FastLanes for u32 {
 
     fn in_memory() {}
 
-    type Vector = u32x16;
-
-    ghost whole = { λ v. length v ≡ 16 };
-
     ghost lane = { λ v j. slice_index v j };
 
     #[inline(always)]
@@ -524,13 +526,19 @@ impl FastLanes for u32 {
 
     #[inline(always)]
     #[tactic(auto, using(crate::proofs::Sixteen::stored, crate::proofs::Sixteen::stored_others))]
-    fn store(vector: u32x16, words: &mut [Self], at: usize) {
+    fn store(vector: u32x16, words: &mut [Self], at: usize)
+        requires room { at + 16 ≤ length words.old }
+        ensures lanes { (j : ℕ) → j < 16 → pattern_at (λ x. x) words.new (at + j) ≡ slice_index vector j }
+        ensures others { (i : ℕ) → (i < at) ⊎ (at + 16 ≤ i) → pattern_at (λ x. x) words.new i ≡ pattern_at (λ x. x) words.old i }
+    {
         vector.copy_to_slice(&mut words[at..]);
     }
 
     #[inline(always)]
     #[tactic(auto, using(crate::proofs::Vectors::pattern_at_number))]
-    fn to_words(vector: u32x16) -> [Self; 16] {
+    fn to_words(vector: u32x16) -> [Self; 16]
+        ensures { (j : ℕ) → j < 16 → pattern_at (λ x. x) result j ≡ slice_index vector j }
+    {
         vector.to_array()
     }
 
@@ -546,32 +554,46 @@ impl FastLanes for u32 {
     }
 
     #[inline(always)]
-    fn shift_right(vector: u32x16, by: usize) -> u32x16 {
+    fn shift_right(vector: u32x16, by: usize) -> u32x16
+        requires by { by < 32 }
+        ensures lanes { (j : ℕ) → j < 16 → slice_index result j ≡ slice_index vector j / 2 ^ by }
+    {
         vector >> u32x16::splat(by as u32)
     }
 
     #[inline(always)]
-    fn shift_left(vector: u32x16, by: usize) -> u32x16 {
+    fn shift_left(vector: u32x16, by: usize) -> u32x16
+        requires by { by < 32 }
+        ensures lanes { (j : ℕ) → j < 16 → slice_index result j ≡ slice_index vector j * 2 ^ by % 2 ^ 32 }
+    {
         vector << u32x16::splat(by as u32)
     }
 
     #[inline(always)]
-    fn and(vector: u32x16, other: u32x16) -> u32x16 {
+    fn and(vector: u32x16, other: u32x16) -> u32x16
+        ensures lanes { (j : ℕ) → j < 16 → slice_index result j ≡ bit_and (slice_index vector j) (slice_index other j) }
+    {
         vector & other
     }
 
     #[inline(always)]
-    fn or(vector: u32x16, other: u32x16) -> u32x16 {
+    fn or(vector: u32x16, other: u32x16) -> u32x16
+        ensures lanes { (j : ℕ) → j < 16 → slice_index result j ≡ bit_or (slice_index vector j) (slice_index other j) }
+    {
         vector | other
     }
 
     #[inline(always)]
-    fn add(vector: u32x16, other: u32x16) -> u32x16 {
+    fn add(vector: u32x16, other: u32x16) -> u32x16
+        ensures lanes { (j : ℕ) → j < 16 → slice_index result j ≡ (slice_index vector j + slice_index other j) % 2 ^ 32 }
+    {
         vector + other
     }
 
     #[inline(always)]
-    fn subtract(vector: u32x16, other: u32x16) -> u32x16 {
+    fn subtract(vector: u32x16, other: u32x16) -> u32x16
+        ensures lanes { (j : ℕ) → j < 16 → slice_index result j ≡ (slice_index vector j + (2 ^ 32 - slice_index other j)) % 2 ^ 32 }
+    {
         vector - other
     }
 
@@ -655,10 +677,6 @@ impl FastLanes for u64 {
 
     fn in_memory() {}
 
-    type Vector = u64x16;
-
-    ghost whole = { λ v. length v ≡ 16 };
-
     ghost lane = { λ v j. slice_index v j };
 
     #[inline(always)]
@@ -669,13 +687,19 @@ impl FastLanes for u64 {
 
     #[inline(always)]
     #[tactic(auto, using(crate::proofs::Sixteen::stored, crate::proofs::Sixteen::stored_others))]
-    fn store(vector: u64x16, words: &mut [Self], at: usize) {
+    fn store(vector: u64x16, words: &mut [Self], at: usize)
+        requires room { at + 16 ≤ length words.old }
+        ensures lanes { (j : ℕ) → j < 16 → pattern_at (λ x. x) words.new (at + j) ≡ slice_index vector j }
+        ensures others { (i : ℕ) → (i < at) ⊎ (at + 16 ≤ i) → pattern_at (λ x. x) words.new i ≡ pattern_at (λ x. x) words.old i }
+    {
         vector.copy_to_slice(&mut words[at..]);
     }
 
     #[inline(always)]
     #[tactic(auto, using(crate::proofs::Vectors::pattern_at_number))]
-    fn to_words(vector: u64x16) -> [Self; 16] {
+    fn to_words(vector: u64x16) -> [Self; 16]
+        ensures { (j : ℕ) → j < 16 → pattern_at (λ x. x) result j ≡ slice_index vector j }
+    {
         vector.to_array()
     }
 
@@ -691,32 +715,46 @@ impl FastLanes for u64 {
     }
 
     #[inline(always)]
-    fn shift_right(vector: u64x16, by: usize) -> u64x16 {
+    fn shift_right(vector: u64x16, by: usize) -> u64x16
+        requires by { by < 64 }
+        ensures lanes { (j : ℕ) → j < 16 → slice_index result j ≡ slice_index vector j / 2 ^ by }
+    {
         vector >> u64x16::splat(by as u64)
     }
 
     #[inline(always)]
-    fn shift_left(vector: u64x16, by: usize) -> u64x16 {
+    fn shift_left(vector: u64x16, by: usize) -> u64x16
+        requires by { by < 64 }
+        ensures lanes { (j : ℕ) → j < 16 → slice_index result j ≡ slice_index vector j * 2 ^ by % 2 ^ 64 }
+    {
         vector << u64x16::splat(by as u64)
     }
 
     #[inline(always)]
-    fn and(vector: u64x16, other: u64x16) -> u64x16 {
+    fn and(vector: u64x16, other: u64x16) -> u64x16
+        ensures lanes { (j : ℕ) → j < 16 → slice_index result j ≡ bit_and (slice_index vector j) (slice_index other j) }
+    {
         vector & other
     }
 
     #[inline(always)]
-    fn or(vector: u64x16, other: u64x16) -> u64x16 {
+    fn or(vector: u64x16, other: u64x16) -> u64x16
+        ensures lanes { (j : ℕ) → j < 16 → slice_index result j ≡ bit_or (slice_index vector j) (slice_index other j) }
+    {
         vector | other
     }
 
     #[inline(always)]
-    fn add(vector: u64x16, other: u64x16) -> u64x16 {
+    fn add(vector: u64x16, other: u64x16) -> u64x16
+        ensures lanes { (j : ℕ) → j < 16 → slice_index result j ≡ (slice_index vector j + slice_index other j) % 2 ^ 64 }
+    {
         vector + other
     }
 
     #[inline(always)]
-    fn subtract(vector: u64x16, other: u64x16) -> u64x16 {
+    fn subtract(vector: u64x16, other: u64x16) -> u64x16
+        ensures lanes { (j : ℕ) → j < 16 → slice_index result j ≡ (slice_index vector j + (2 ^ 64 - slice_index other j)) % 2 ^ 64 }
+    {
         vector - other
     }
 

@@ -1,8 +1,10 @@
+use Rattle.std.proofs.Common.{rules}
+use Rattle.fastlanes.proofs.ComparedBits.{answers_none}
 use Rattle.fastlanes.proofs.Fillings.{widest, has_64_rows}
 use Rattle.fastlanes.proofs.comparing.compare_group.Goals as goal
 
-pub compare_64-requires-clause-row : goal.compare_64-requires-clause-row
-compare_64-requires-clause-row g c = has_64_rows g.W.FastLanes.T g.W.FastLanes.LANES c.bits-t.result g.met.W.FastLanes.shape c.bits-t.ensures c.if-t-eq8.false c.if-t-eq16.false c.if-t-eq32.false
+pub compare_64-requires : goal.compare_64-requires
+compare_64-requires g c = (search rules, (has_64_rows g.W.FastLanes.T g.W.FastLanes.LANES c.bits-t.result g.met.W.FastLanes.shape c.bits-t.ensures c.if-t-eq8.false c.if-t-eq16.false c.if-t-eq32.false, (c.requires.group, (c.requires.callable, answers_none g.W.FastLanes.pattern _ c.args.rhs _ c.args.g _ c.none_held-held.ensures.lanes))))
 
-pub returns-else-t-eq32-clause-held : goal.returns-else-t-eq32-clause-held
-returns-else-t-eq32-clause-held g c = rw (← widest g.W.FastLanes.T g.W.FastLanes.LANES c.bits-t.result g.met.W.FastLanes.shape c.bits-t.ensures c.if-t-eq8.false c.if-t-eq16.false c.if-t-eq32.false) at c.compare_64.ensures.held
+pub returns-else-t-eq32 : goal.returns-else-t-eq32
+returns-else-t-eq32 g c = record { held = rw (← widest g.W.FastLanes.T g.W.FastLanes.LANES c.bits-t.result g.met.W.FastLanes.shape c.bits-t.ensures c.if-t-eq8.false c.if-t-eq16.false c.if-t-eq32.false) at c.compare_64.ensures.held }

@@ -17,11 +17,12 @@ loop-g-preserved g c = record {
         let here = rw lane at (c.put_group.ensures.put (m - 16 * c.loop-g.g) near) in
         rw here (c.compare_group.ensures.held.each r (m - 16 * c.loop-g.g) p near x (e ∙ ap (λ (n : ℕ). item_of g.W.FastLanes.T g.W.FastLanes.LANES c.args.width (pattern_at g.W.FastLanes.pattern c.args.words.now) r n) (sym lane)))
   ];
-  whole = c.put_group.ensures.whole;
 }
 
-pub returns-clause-set : goal.returns-clause-set
+pub returns : goal.returns
 unfolding IsAnswer
-returns-clause-set g c r l p q x e =
-    let eights = whole_eights g.W.FastLanes.T g.W.FastLanes.LANES g.met.W.FastLanes.shape in
-    c.loop-g.invariant.set r l p (omega arith) x e
+returns g c = record {
+  set = λ r l p q x e.
+      let eights = whole_eights g.W.FastLanes.T g.W.FastLanes.LANES g.met.W.FastLanes.shape in
+      c.loop-g.invariant.set r l p (omega arith) x e;
+}

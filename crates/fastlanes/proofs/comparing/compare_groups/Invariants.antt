@@ -1,4 +1,4 @@
-use Rattle.std.proofs.Common.{◌≡◌, ℕ, ◌*◌, ◌<◌, length}
+use Rattle.std.proofs.Common.{◌≡◌, ℕ, ◌*◌, ◌<◌}
 use Rattle.fastlanes.specs.Layout.{pattern_at, word_at}
 use Rattle.fastlanes.specs.Filled.{item_of}
 use Rattle.fastlanes.specs.Compared.{is_set}
@@ -7,5 +7,4 @@ use Rattle.fastlanes.proofs.comparing.compare_groups.Given as goal
 abbrev pub invariant-loop-g : goal.invariant-loop-g
 invariant-loop-g g l = record {
   set : (r m : ℕ) → r < g.W.FastLanes.T → m < 16 * l.g → (x : _) → g.W.FastLanes.pattern x ≡ item_of g.W.FastLanes.T g.W.FastLanes.LANES l.width (pattern_at g.W.FastLanes.pattern l.words) r m → goal.F-post g l.cmp x l.rhs (is_set (word_at g.W.FastLanes.T l.bytes m) r);
-  whole : length l.bytes ≡ 128;
 }

@@ -3,8 +3,10 @@ use Rattle.fastlanes.specs.Filled.{item_of}
 use Rattle.fastlanes.proofs.ComparedBits.{answers_more}
 use Rattle.fastlanes.proofs.comparing.compare_row.Goals as goal
 
-pub returns-clause-held : goal.returns-clause-held
-returns-clause-held g c =
-    answers_more g.W.FastLanes.pattern _ c.args.rhs (item_of g.W.FastLanes.T g.W.FastLanes.LANES c.args.width (pattern_at g.W.FastLanes.pattern c.args.words.now)) c.args.g c.args.r
-    (g.W.FastLanes.lane c.args.held) (g.W.FastLanes.lane c.items_of_row-row.result) (g.W.FastLanes.lane c.compare_lanes.result) (g.W.FastLanes.lane c.or.result)
-    c.requires.held c.items_of_row-row.ensures.items c.compare_lanes.ensures.one c.compare_lanes.ensures.set c.or.ensures.lanes
+pub returns : goal.returns
+returns g c = record {
+  held =
+      answers_more g.W.FastLanes.pattern _ c.args.rhs (item_of g.W.FastLanes.T g.W.FastLanes.LANES c.args.width (pattern_at g.W.FastLanes.pattern c.args.words.now)) c.args.g c.args.r
+      (g.W.FastLanes.lane c.args.held) (g.W.FastLanes.lane c.items_of_row-row.result) (g.W.FastLanes.lane c.compare_lanes.result) (g.W.FastLanes.lane c.or.result)
+      c.requires.held c.items_of_row-row.ensures.items c.compare_lanes.ensures.one c.compare_lanes.ensures.set c.or.ensures.lanes;
+}

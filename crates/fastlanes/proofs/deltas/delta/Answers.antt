@@ -8,7 +8,6 @@ pub loop-g-preserved : goal.loop-g-preserved
 loop-g-preserved g c = record {
   filled = groups_more g.W.FastLanes.T g.W.FastLanes.LANES place (item_delta g.W.FastLanes.T (pattern_at g.W.FastLanes.pattern c.args.bases.now) (pattern_at g.W.FastLanes.pattern c.args.items.now)) c.loop-g.g
       (pattern_at g.W.FastLanes.pattern c.loop-g.deltas) (pattern_at g.W.FastLanes.pattern c.delta_group.new.deltas) (omega arith) c.delta_group.ensures.filled c.loop-g.invariant.filled;
-  whole = c.delta_group.ensures.whole;
 }
 
 pub returns-clause-deltas : goal.returns-clause-deltas

@@ -1,4 +1,4 @@
-use Rattle.std.proofs.Common.{◌≡◌, ℕ, ◌*◌, ◌<◌, length}
+use Rattle.std.proofs.Common.{◌≡◌, ℕ, ◌*◌, ◌<◌}
 use Rattle.fastlanes.specs.Layout.{place, pattern_at}
 use Rattle.fastlanes.specs.Delta.{item_delta}
 use Rattle.fastlanes.proofs.deltas.delta.Given as goal
@@ -6,5 +6,4 @@ use Rattle.fastlanes.proofs.deltas.delta.Given as goal
 abbrev pub invariant-loop-g : goal.invariant-loop-g
 invariant-loop-g g l = record {
   filled : (s m : ℕ) → s < g.W.FastLanes.T → m < 16 * l.g → pattern_at g.W.FastLanes.pattern l.deltas (place s m) ≡ item_delta g.W.FastLanes.T (pattern_at g.W.FastLanes.pattern l.bases) (pattern_at g.W.FastLanes.pattern l.items) s m;
-  whole : length l.deltas ≡ 1024;
 }

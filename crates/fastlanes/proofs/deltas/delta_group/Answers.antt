@@ -7,10 +7,8 @@ use Rattle.fastlanes.proofs.deltas.delta_group.Goals as goal
 
 pub loop-q-init : goal.loop-q-init
 loop-q-init g c = record {
-  vector = c.bases_of-before.ensures.whole;
   before = λ j h. before_begin (pattern_at g.W.FastLanes.pattern c.args.bases.now) (pattern_at g.W.FastLanes.pattern c.args.items.now) (16 * c.args.g + j) _ _ (omega arith) (c.bases_of-before.ensures.lanes j h);
   filled = filled_none g.W.FastLanes.T g.W.FastLanes.LANES place (item_delta g.W.FastLanes.T (pattern_at g.W.FastLanes.pattern c.args.bases.now) (pattern_at g.W.FastLanes.pattern c.args.items.now)) c.args.g 0 _ _ (omega arith);
-  whole = omega arith;
 }
 
 pub loop-q-preserved : goal.loop-q-preserved
@@ -18,14 +16,14 @@ loop-q-preserved g c =
     let eights = whole_eights g.W.FastLanes.T g.W.FastLanes.LANES g.met.W.FastLanes.shape in
     let next : 8 * (c.loop-q.q + 1) ≡ 8 * c.loop-q.q + 8 = omega arith in
     record {
-      vector = c.delta_8-before.ensures.vector;
       before = rw next c.delta_8-before.ensures.before;
       filled = filled_more g.W.FastLanes.T g.W.FastLanes.LANES place (item_delta g.W.FastLanes.T (pattern_at g.W.FastLanes.pattern c.args.bases.now) (pattern_at g.W.FastLanes.pattern c.args.items.now)) c.args.g 0 (8 * c.loop-q.q) (8 * c.loop-q.q) (8 * c.loop-q.q + 8) (8 * (c.loop-q.q + 1)) _ _ _
           c.requires.group (omega arith) (omega arith) (omega arith) refl next c.loop-q.invariant.filled c.delta_8-before.ensures.filled;
-      whole = c.delta_8-before.ensures.whole;
     }
 
-pub returns-clause-filled : goal.returns-clause-filled
-returns-clause-filled g c =
-    let eights = whole_eights g.W.FastLanes.T g.W.FastLanes.LANES g.met.W.FastLanes.shape in
-    filled_all g.W.FastLanes.T g.W.FastLanes.LANES place (item_delta g.W.FastLanes.T (pattern_at g.W.FastLanes.pattern c.args.bases.now) (pattern_at g.W.FastLanes.pattern c.args.items.now)) c.args.g (8 * c.loop-q.q) _ _ (omega arith) c.loop-q.invariant.filled
+pub returns : goal.returns
+returns g c = record {
+  filled =
+      let eights = whole_eights g.W.FastLanes.T g.W.FastLanes.LANES g.met.W.FastLanes.shape in
+      filled_all g.W.FastLanes.T g.W.FastLanes.LANES place (item_delta g.W.FastLanes.T (pattern_at g.W.FastLanes.pattern c.args.bases.now) (pattern_at g.W.FastLanes.pattern c.args.items.now)) c.args.g (8 * c.loop-q.q) _ _ (omega arith) c.loop-q.invariant.filled;
+}

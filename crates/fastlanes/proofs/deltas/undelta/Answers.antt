@@ -8,7 +8,6 @@ pub loop-g-preserved : goal.loop-g-preserved
 loop-g-preserved g c = record {
   filled = groups_more g.W.FastLanes.T g.W.FastLanes.LANES place (summed_item g.W.FastLanes.T (pattern_at g.W.FastLanes.pattern c.args.bases.now) (pattern_at g.W.FastLanes.pattern c.args.deltas.now)) c.loop-g.g
       (pattern_at g.W.FastLanes.pattern c.loop-g.items) (pattern_at g.W.FastLanes.pattern c.undelta_group.new.items) (omega arith) c.undelta_group.ensures.filled c.loop-g.invariant.filled;
-  whole = c.undelta_group.ensures.whole;
 }
 
 pub returns-clause-items : goal.returns-clause-items

@@ -1,4 +1,4 @@
-use Rattle.std.proofs.Common.{◌≡◌, ℕ, ◌*◌, ◌<◌, length}
+use Rattle.std.proofs.Common.{◌≡◌, ℕ, ◌*◌, ◌<◌}
 use Rattle.fastlanes.specs.Layout.{place, pattern_at}
 use Rattle.fastlanes.specs.Delta.{summed_item}
 use Rattle.fastlanes.proofs.deltas.undelta.Given as goal
@@ -6,5 +6,4 @@ use Rattle.fastlanes.proofs.deltas.undelta.Given as goal
 abbrev pub invariant-loop-g : goal.invariant-loop-g
 invariant-loop-g g l = record {
   filled : (s m : ℕ) → s < g.W.FastLanes.T → m < 16 * l.g → pattern_at g.W.FastLanes.pattern l.items (place s m) ≡ summed_item g.W.FastLanes.T (pattern_at g.W.FastLanes.pattern l.bases) (pattern_at g.W.FastLanes.pattern l.deltas) s m;
-  whole : length l.items ≡ 1024;
 }

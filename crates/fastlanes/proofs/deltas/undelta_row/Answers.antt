@@ -1,4 +1,4 @@
-use Rattle.std.proofs.Common.{◌+◌, ◌*◌, arith}
+use Rattle.std.proofs.Common.{◌+◌, ◌*◌, arith, rules}
 use Rattle.fastlanes.specs.Layout.{pattern_at}
 use Rattle.fastlanes.specs.Delta.{summed_item}
 use Rattle.fastlanes.proofs.RowBits.{row_room}
@@ -23,9 +23,9 @@ returns-clause-filled g c =
 pub load-requires : goal.load-requires
 load-requires g c =
     let within = row_room g.W.FastLanes.T g.W.FastLanes.LANES c.args.r (16 * c.args.g) g.met.W.FastLanes.shape c.requires.row c.requires.group in
-    record { room = omega arith }
+    (search rules, omega arith)
 
-pub store-requires-clause-room : goal.store-requires-clause-room
-store-requires-clause-room g c =
+pub store-requires : goal.store-requires
+store-requires g c =
     let within = row_room g.W.FastLanes.T g.W.FastLanes.LANES c.args.r (16 * c.args.g) g.met.W.FastLanes.shape c.requires.row c.requires.group in
-    omega arith
+    (search rules, omega arith)

@@ -3,5 +3,5 @@ use Rattle.fastlanes.specs.Layout.{pattern_at}
 use Rattle.fastlanes.proofs.Packings.{held_none}
 use Rattle.fastlanes.proofs.packing.nothing_begun.Goals as goal
 
-pub returns-clause-begun : goal.returns-clause-begun
-returns-clause-begun g c j h = held_none g.W.FastLanes.T c.args.width (pattern_at g.W.FastLanes.pattern c.args.items.now) (16 * c.args.g + j) (0 * c.args.width) _ (omega arith) (c.splat.ensures.lanes j h ∙ c.zero.ensures)
+pub returns : goal.returns
+returns g c = record { begun = λ j h. held_none g.W.FastLanes.T c.args.width (pattern_at g.W.FastLanes.pattern c.args.items.now) (16 * c.args.g + j) (0 * c.args.width) _ (omega arith) (c.splat.ensures.lanes j h ∙ c.zero.ensures) }

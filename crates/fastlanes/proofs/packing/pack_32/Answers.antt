@@ -5,7 +5,4 @@ use Rattle.fastlanes.proofs.Fillings.{words_more}
 use Rattle.fastlanes.proofs.packing.pack_32.Goals as goal
 
 pub returns-clause-words : goal.returns-clause-words
-returns-clause-words g c = (words_more g.W.FastLanes.T g.W.FastLanes.LANES c.args.width (word_of g.W.FastLanes.T c.args.width (pattern_at g.W.FastLanes.pattern c.args.items.now)) c.args.g 0 24 24 32 _ _ _ g.met.W.FastLanes.shape c.requires.group.inside (omega arith) (omega arith) (omega arith) refl
-    (words_more g.W.FastLanes.T g.W.FastLanes.LANES c.args.width (word_of g.W.FastLanes.T c.args.width (pattern_at g.W.FastLanes.pattern c.args.items.now)) c.args.g 0 16 16 24 _ _ _ g.met.W.FastLanes.shape c.requires.group.inside (omega arith) (omega arith) (omega arith) refl
-    (words_more g.W.FastLanes.T g.W.FastLanes.LANES c.args.width (word_of g.W.FastLanes.T c.args.width (pattern_at g.W.FastLanes.pattern c.args.items.now)) c.args.g 0 8 8 16 _ _ _ g.met.W.FastLanes.shape c.requires.group.inside (omega arith) (omega arith) (omega arith) refl
-    c.pack_8-begun.ensures.words c.pack_8-begun-2.ensures.words) c.pack_8-begun-3.ensures.words) c.pack_8.ensures.words)
+returns-clause-words g c = words_more g.W.FastLanes.T g.W.FastLanes.LANES c.args.width (word_of g.W.FastLanes.T c.args.width (pattern_at g.W.FastLanes.pattern c.args.items.now)) c.args.g 0 16 16 32 _ _ _ g.met.W.FastLanes.shape c.requires.group.inside (omega arith) (omega arith) (omega arith) refl c.pack_16-begun.ensures.words c.pack_16.ensures.words

@@ -1,4 +1,4 @@
-use Rattle.std.proofs.Common.{◌+◌, ◌*◌, arith, ◌∙◌, sym, refl}
+use Rattle.std.proofs.Common.{◌+◌, ◌*◌, arith, rules, ◌∙◌, sym, refl}
 use Rattle.fastlanes.specs.Layout.{pattern_at}
 use Rattle.fastlanes.specs.Filled.{word_of}
 use Rattle.fastlanes.proofs.RowBits.{row_room}
@@ -9,7 +9,7 @@ use Rattle.fastlanes.proofs.packing.pack_row.Goals as goal
 pub load-requires : goal.load-requires
 load-requires g c =
     let within = row_room g.W.FastLanes.T g.W.FastLanes.LANES c.args.r (16 * c.args.g) g.met.W.FastLanes.shape c.requires.row c.requires.group.inside in
-    record { room = omega arith }
+    (search rules, omega arith)
 
 pub returns-then-shift-width-clause-begun : goal.returns-then-shift-width-clause-begun
 returns-then-shift-width-clause-begun g c j h =

@@ -2,5 +2,5 @@
 use Rattle.std.proofs.Common.{rules}
 use Rattle.fastlanes.proofs.unpacking.framed.Goals as goal
 
-pub returns-then-this-ne0-clause-lanes : goal.returns-then-this-ne0-clause-lanes
-returns-then-this-ne0-clause-lanes g c = search rules
+pub returns-then-this-ne0 : goal.returns-then-this-ne0
+returns-then-this-ne0 g c = search rules

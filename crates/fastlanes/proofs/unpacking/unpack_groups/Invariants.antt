@@ -1,4 +1,4 @@
-use Rattle.std.proofs.Common.{◌≡◌, ℕ, ◌*◌, ◌<◌, length}
+use Rattle.std.proofs.Common.{◌≡◌, ℕ, ◌*◌, ◌<◌}
 use Rattle.fastlanes.specs.Layout.{place, pattern_at}
 use Rattle.fastlanes.specs.Filled.{sum_of}
 use Rattle.fastlanes.proofs.unpacking.unpack_groups.Given as goal
@@ -6,5 +6,4 @@ use Rattle.fastlanes.proofs.unpacking.unpack_groups.Given as goal
 abbrev pub invariant-loop-g : goal.invariant-loop-g
 invariant-loop-g g l = record {
   filled : (s m : ℕ) → s < g.W.FastLanes.T → m < 16 * l.g → pattern_at g.W.FastLanes.pattern l.items (place s m) ≡ sum_of g.W.FastLanes.T g.W.FastLanes.LANES l.width (g.S.Storage.word l.words) (g.W.FastLanes.lane l.reference) s m;
-  whole : length l.items ≡ 1024;
 }

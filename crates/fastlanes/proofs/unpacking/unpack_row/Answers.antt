@@ -1,4 +1,4 @@
-use Rattle.std.proofs.Common.{◌+◌, ◌*◌, arith}
+use Rattle.std.proofs.Common.{◌+◌, ◌*◌, arith, rules}
 use Rattle.fastlanes.specs.Layout.{pattern_at}
 use Rattle.fastlanes.specs.Filled.{sum_of}
 use Rattle.fastlanes.proofs.RowBits.{row_room}
@@ -6,13 +6,15 @@ use Rattle.fastlanes.proofs.Fillings.{row_filled, sum_here}
 use Rattle.fastlanes.proofs.Steps.{item_small}
 use Rattle.fastlanes.proofs.unpacking.unpack_row.Goals as goal
 
-pub store-requires-clause-room : goal.store-requires-clause-room
-store-requires-clause-room g c = let within = row_room g.W.FastLanes.T g.W.FastLanes.LANES c.args.r (16 * c.args.g) g.met.W.FastLanes.shape c.requires.row c.requires.group.inside in omega arith
+pub store-requires : goal.store-requires
+store-requires g c = let within = row_room g.W.FastLanes.T g.W.FastLanes.LANES c.args.r (16 * c.args.g) g.met.W.FastLanes.shape c.requires.row c.requires.group.inside in (search rules, omega arith)
 
-pub returns-clause-filled : goal.returns-clause-filled
-returns-clause-filled g c = row_filled g.W.FastLanes.T g.W.FastLanes.LANES (sum_of g.W.FastLanes.T g.W.FastLanes.LANES c.args.width (g.S.Storage.word c.args.words.now) (g.W.FastLanes.lane c.args.reference)) c.args.g c.args.r _ (pattern_at g.W.FastLanes.pattern c.args.items.now) (pattern_at g.W.FastLanes.pattern c.store.new.words) (g.W.FastLanes.lane c.framed-row.result)
-    g.met.W.FastLanes.shape c.requires.row c.requires.group.inside c.pos.ensures c.store.ensures.lanes c.store.ensures.others
-    (λ j h. sum_here g.W.FastLanes.T g.W.FastLanes.LANES c.args.width (g.S.Storage.word c.args.words.now) (g.W.FastLanes.lane c.args.reference) c.args.r c.args.g j _ _ h (c.items_of_row.ensures.items j h) (c.framed-row.ensures.lanes j h))
+pub returns : goal.returns
+returns g c = record {
+  filled = row_filled g.W.FastLanes.T g.W.FastLanes.LANES (sum_of g.W.FastLanes.T g.W.FastLanes.LANES c.args.width (g.S.Storage.word c.args.words.now) (g.W.FastLanes.lane c.args.reference)) c.args.g c.args.r _ (pattern_at g.W.FastLanes.pattern c.args.items.now) (pattern_at g.W.FastLanes.pattern c.store.new.words) (g.W.FastLanes.lane c.framed-row.result)
+      g.met.W.FastLanes.shape c.requires.row c.requires.group.inside c.pos.ensures c.store.ensures.lanes c.store.ensures.others
+      (λ j h. sum_here g.W.FastLanes.T g.W.FastLanes.LANES c.args.width (g.S.Storage.word c.args.words.now) (g.W.FastLanes.lane c.args.reference) c.args.r c.args.g j _ _ h (c.items_of_row.ensures.items j h) (c.framed-row.ensures.lanes j h));
+}
 
-pub framed-row-requires-clause-small : goal.framed-row-requires-clause-small
-framed-row-requires-clause-small g c j h = rw (c.items_of_row.ensures.items j h) (item_small g.W.FastLanes.T g.W.FastLanes.LANES c.args.width (g.S.Storage.word c.args.words.now) c.args.r (16 * c.args.g + j) c.requires.group.fits)
+pub framed-row-requires : goal.framed-row-requires
+framed-row-requires g c = (search rules, (c.requires.reference, λ j h. rw (c.items_of_row.ensures.items j h) (item_small g.W.FastLanes.T g.W.FastLanes.LANES c.args.width (g.S.Storage.word c.args.words.now) c.args.r (16 * c.args.g + j) c.requires.group.fits)))

@@ -1,9 +1,0 @@
-use Rattle.std.proofs.Common.{◌+◌, ◌%◌, ◌^◌}
-use Rattle.fastlanes.proofs.Sixteen.{zipped, zip_whole}
-use Rattle.fastlanes.proofs.words.U32FastLanes.add.Goals as goal
-
-pub returns-clause-whole : goal.returns-clause-whole
-returns-clause-whole c = zip_whole (λ x y. (x + y) % 2 ^ 32) c.args.vector c.args.other c.requires.whole c.requires.other
-
-pub returns-clause-lanes : goal.returns-clause-lanes
-returns-clause-lanes c j h = zipped (λ x y. (x + y) % 2 ^ 32) c.args.vector c.args.other j h c.requires.whole c.requires.other

@@ -1,9 +1,0 @@
-use Rattle.std.proofs.Common.{ℕ, ◌+◌, ◌-◌, ◌%◌, ◌^◌}
-use Rattle.fastlanes.proofs.Sixteen.{zipped, zip_whole}
-use Rattle.fastlanes.proofs.words.U64FastLanes.subtract.Goals as goal
-
-pub returns-clause-whole : goal.returns-clause-whole
-returns-clause-whole c = zip_whole (λ (x y : ℕ). (x + (2 ^ 64 - y)) % 2 ^ 64) c.args.vector c.args.other c.requires.whole c.requires.other
-
-pub returns-clause-lanes : goal.returns-clause-lanes
-returns-clause-lanes c j h = zipped (λ (x y : ℕ). (x + (2 ^ 64 - y)) % 2 ^ 64) c.args.vector c.args.other j h c.requires.whole c.requires.other
