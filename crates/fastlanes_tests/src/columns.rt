@@ -40,16 +40,27 @@ fn packs_to<T: PhysicalPType>(
     }
 }
 
+/// A block of ones at width 1 makes these words, so many of them.
+fn ones_fill<T: PhysicalPType>(rt: &HostRuntime, ones: &[T; 1024], full: T, count: usize) -> bool
+    requires { 1 ≤ bits_of_type T.PTYPE }
+{
+    packs_to(rt, ones, 1, (&[], full, count))
+}
+
 #[test]
-fn ones_fill_the_words_of_each_type(rt: HostRuntime) {
-    assert!(rt; packs_to(&rt, &[1u8; 1024], 1, (&[], u8::MAX, 128)));
-    assert!(rt; packs_to(&rt, &[1u16; 1024], 1, (&[], u16::MAX, 64)));
-    assert!(rt; packs_to(&rt, &[1u32; 1024], 1, (&[], u32::MAX, 32)));
-    assert!(rt; packs_to(&rt, &[1u64; 1024], 1, (&[], u64::MAX, 16)));
-    assert!(rt; packs_to(&rt, &[1i8; 1024], 1, (&[], -1, 128)));
-    assert!(rt; packs_to(&rt, &[1i16; 1024], 1, (&[], -1, 64)));
-    assert!(rt; packs_to(&rt, &[1i32; 1024], 1, (&[], -1, 32)));
-    assert!(rt; packs_to(&rt, &[1i64; 1024], 1, (&[], -1, 16)));
+fn ones_fill_unsigned_words(rt: HostRuntime) {
+    assert!(rt; ones_fill(&rt, &[1u8; 1024], u8::MAX, 128));
+    assert!(rt; ones_fill(&rt, &[1u16; 1024], u16::MAX, 64));
+    assert!(rt; ones_fill(&rt, &[1u32; 1024], u32::MAX, 32));
+    assert!(rt; ones_fill(&rt, &[1u64; 1024], u64::MAX, 16));
+}
+
+#[test]
+fn ones_fill_signed_words(rt: HostRuntime) {
+    assert!(rt; ones_fill(&rt, &[1i8; 1024], -1, 128));
+    assert!(rt; ones_fill(&rt, &[1i16; 1024], -1, 64));
+    assert!(rt; ones_fill(&rt, &[1i32; 1024], -1, 32));
+    assert!(rt; ones_fill(&rt, &[1i64; 1024], -1, 16));
 }
 
 #[test]

@@ -4,7 +4,6 @@ ghost use Rattle.std.specs.Prelude.{◌≡◌, ◌*◌, ◌≤◌, length};
 
 use fastlanes::round_trips::{delta_and_back, runs_and_back, undelta_and_back};
 use fastlanes::*;
-use std::process::Abort;
 
 /// The number that a word stands for.
 pub(crate) fn number<W: FastLanes>(word: W) -> u64 {
@@ -135,41 +134,48 @@ fn unpacks_as_by_bits<W: FastLanes>(width: usize, packed: &[W]) -> bool
     are_same(&unpacked, &by_bits)
 }
 
-/// Packs and unpacks each block at each width, in vectors and bit by bit.
-fn old_and_new_agree<W: FastLanes>(rt: &impl Abort) {
+/// Packs and unpacks a block at each width, in vectors and bit by bit.
+fn agree_at_each_width<W: FastLanes>(items: &[W; FL_CHUNK_SIZE]) -> bool {
     W::in_memory();
-    for block in 0..3usize {
-        let items = block_of::<W>(block);
-        let mut packed = [W::zero(); FL_CHUNK_SIZE];
-        for width in 0..W::T + 1 {
-            let packed = &mut packed[..block_size::<W>(width)];
-            assert!(rt;
-                packs_as_by_bits(width, &items, packed),
-                "{block} at {width}"
-            );
-            assert!(rt; unpacks_as_by_bits(width, packed), "{block} at {width}");
+    let mut packed = [W::zero(); FL_CHUNK_SIZE];
+    for width in 0..W::T + 1 {
+        let packed = &mut packed[..block_size::<W>(width)];
+        if !packs_as_by_bits(width, items, packed) || !unpacks_as_by_bits(width, packed) {
+            return false;
         }
     }
+    true
+}
+
+/// The same for a block of zeros, of ones, and of squares.
+fn old_and_new_agree<W: FastLanes>() -> bool {
+    W::in_memory();
+    for block in 0..3usize {
+        if !agree_at_each_width::<W>(&block_of(block)) {
+            return false;
+        }
+    }
+    true
 }
 
 #[test]
 fn old_and_new_agree_on_bytes(rt: HostRuntime) {
-    old_and_new_agree::<u8>(&rt);
+    assert!(rt; old_and_new_agree::<u8>());
 }
 
 #[test]
 fn old_and_new_agree_on_words_of_16_bits(rt: HostRuntime) {
-    old_and_new_agree::<u16>(&rt);
+    assert!(rt; old_and_new_agree::<u16>());
 }
 
 #[test]
 fn old_and_new_agree_on_words_of_32_bits(rt: HostRuntime) {
-    old_and_new_agree::<u32>(&rt);
+    assert!(rt; old_and_new_agree::<u32>());
 }
 
 #[test]
 fn old_and_new_agree_on_words_of_64_bits(rt: HostRuntime) {
-    old_and_new_agree::<u64>(&rt);
+    assert!(rt; old_and_new_agree::<u64>());
 }
 
 /// The bytes hold these words, the low byte first.
@@ -213,23 +219,28 @@ fn unpacks_words_as_bytes<W: FastLanes>(width: usize, packed: &[W], bytes: &[u8]
 }
 
 /// Packs and unpacks a block at each width, as words and as their bytes.
-fn words_and_bytes_agree<W: FastLanes>(rt: &impl Abort) {
+fn words_and_bytes_agree<W: FastLanes>() -> bool {
     W::in_memory();
     let mut packed = [W::zero(); FL_CHUNK_SIZE];
     let mut bytes = [0u8; 8 * FL_CHUNK_SIZE];
     for width in 0..W::T + 1 {
         let packed = &mut packed[..block_size::<W>(width)];
         let bytes = &mut bytes[..128 * width];
-        assert!(rt; packs_words_as_bytes(width, packed, bytes), "at {width}");
-        assert!(rt; unpacks_words_as_bytes(width, packed, bytes), "at {width}");
+        if !packs_words_as_bytes(width, packed, bytes) {
+            return false;
+        }
+        if !unpacks_words_as_bytes(width, packed, bytes) {
+            return false;
+        }
     }
+    true
 }
 
 /// Columns of wider words are packed into bytes and unpacked by the tests of whole columns.
 #[test]
 fn words_and_bytes_agree_on_narrow_words(rt: HostRuntime) {
-    words_and_bytes_agree::<u8>(&rt);
-    words_and_bytes_agree::<u16>(&rt);
+    assert!(rt; words_and_bytes_agree::<u8>());
+    assert!(rt; words_and_bytes_agree::<u16>());
 }
 
 /// Items `p` modulo 7.
@@ -242,30 +253,42 @@ fn remainders<W: FastLanes>() -> [W; FL_CHUNK_SIZE] {
     items
 }
 
+/// Each word is `p` modulo 7, and 10.
+fn are_remainders_and_10<W: FastLanes>(words: &[W; FL_CHUNK_SIZE]) -> bool {
+    for p in 0..FL_CHUNK_SIZE {
+        if number(words[p]) != (p % 7 + 10) as u64 {
+            return false;
+        }
+    }
+    true
+}
+
 /// The same at width 3, with 10 added.
-fn sums_are_read<W: FastLanes>(rt: &impl Abort, packed: &[W])
+fn sums_are_read<W: FastLanes>(packed: &[W]) -> bool
     requires width { 3 ≤ W.T }
     requires size { length packed.now ≡ 3 * W.LANES }
 {
     W::in_memory();
     let mut summed = [W::zero(); FL_CHUNK_SIZE];
     unfor_pack(3, packed, word(10), &mut summed, &mut Work::new());
-    for p in 0..FL_CHUNK_SIZE {
-        assert_eq!(rt; number(summed[p]), (p % 7 + 10) as u64);
-    }
+    are_remainders_and_10(&summed)
 }
 
 /// The same at three positions.
-fn indices_are_read<W: FastLanes>(rt: &impl Abort, packed: &[W])
+fn indices_are_read<W: FastLanes>(packed: &[W]) -> bool
     requires width { 3 ≤ W.T }
     requires size { length packed.now ≡ 3 * W.LANES }
 {
+    W::in_memory();
     let mut work = Work::new();
     let mut taken = [W::zero(); 3];
     unpack_indices(3, packed, &[1023, 0, 1023], &mut taken, &mut work);
-    let numbers = (number(taken[0]), number(taken[1]), number(taken[2]));
-    assert_eq!(rt; numbers, (1, 0, 1));
-    assert!(rt; work.blocks() == 0 && work.words() >= 3 && work.words() <= 6);
+    number(taken[0]) == 1
+        && number(taken[1]) == 0
+        && number(taken[2]) == 1
+        && work.blocks() == 0
+        && work.words() >= 3
+        && work.words() <= 6
 }
 
 /// Bit `p` is set where `p` modulo 7 is 6.
@@ -280,7 +303,7 @@ fn are_sixes(bits: &[u64; 16]) -> bool {
 }
 
 /// The same beside 6.
-fn items_are_compared<W: FastLanes>(rt: &impl Abort, packed: &[W])
+fn items_are_compared<W: FastLanes>(packed: &[W]) -> bool
     requires width { 3 ≤ W.T }
     requires size { length packed.now ≡ 3 * W.LANES }
 {
@@ -290,85 +313,111 @@ fn items_are_compared<W: FastLanes>(rt: &impl Abort, packed: &[W])
     unpack_cmp(3, packed, &mut lane_bits, same, word(6), &mut work);
     let mut bits = [0u64; 16];
     transpose_bits::<W>(&lane_bits, &mut bits);
-    assert!(rt; are_sixes(&bits) && work.blocks() == 1);
+    are_sixes(&bits) && work.blocks() == 1
 }
 
 /// Items `p` modulo 7 at width 3, through each kernel that reads packed words.
-fn packed_items_are_read<W: FastLanes>(rt: &impl Abort)
+fn packed_items_are_read<W: FastLanes>() -> bool
     requires { 3 ≤ W.T }
 {
     W::in_memory();
     let mut packed = [W::zero(); FL_CHUNK_SIZE];
     let packed = &mut packed[..block_size::<W>(3)];
     pack(3, &remainders(), packed);
-    sums_are_read(rt, packed);
-    indices_are_read(rt, packed);
-    items_are_compared(rt, packed);
+    sums_are_read(packed) && indices_are_read(packed) && items_are_compared(packed)
+}
+
+/// Items 1 and 64 are where a transposition brings them.
+fn are_moved<W: FastLanes>(stored: &[W; FL_CHUNK_SIZE], items: &[W; FL_CHUNK_SIZE]) -> bool {
+    stored[128].same(items[1]) && stored[1].same(items[64])
 }
 
 /// The items through the transposition and back.
-fn places_come_back<W: FastLanes>(rt: &impl Abort, items: &[W; FL_CHUNK_SIZE]) {
+fn places_come_back<W: FastLanes>(items: &[W; FL_CHUNK_SIZE]) -> bool {
     W::in_memory();
     let mut stored = [W::zero(); FL_CHUNK_SIZE];
-    transpose(items, &mut stored);
-    assert!(rt; number(stored[128]) == number(items[1]) && number(stored[1]) == number(items[64]));
     let mut back = [W::zero(); FL_CHUNK_SIZE];
+    transpose(items, &mut stored);
     untranspose(&stored, &mut back);
-    assert!(rt; are_same(&back, items));
+    are_moved(&stored, items) && are_same(&back, items)
 }
 
-/// The items through deltas beside bases that count up, and back; and through sums, and back.
-fn deltas_come_back<W: FastLanes>(rt: &impl Abort, items: &[W; FL_CHUNK_SIZE])
-    requires { 1 ≤ W.T }
-{
+/// Bases that count up.
+fn counted<W: FastLanes>() -> [W; FL_CHUNK_SIZE] {
     W::in_memory();
     let mut bases = [W::zero(); FL_CHUNK_SIZE];
     for l in 0..FL_CHUNK_SIZE {
         bases[l] = word(l as u64);
     }
-    let bases = &bases[..block_size::<W>(1)];
-    let mut other = [W::zero(); FL_CHUNK_SIZE];
+    bases
+}
+
+/// The items through deltas beside bases that count up, and back.
+fn deltas_come_back<W: FastLanes>(items: &[W; FL_CHUNK_SIZE]) -> bool
+    requires { 1 ≤ W.T }
+{
+    W::in_memory();
+    let bases = counted::<W>();
+    let mut deltas = [W::zero(); FL_CHUNK_SIZE];
     let mut back = [W::zero(); FL_CHUNK_SIZE];
-    delta_and_back(items, bases, &mut other, &mut back);
-    assert!(rt; are_same(&back, items));
-    undelta_and_back(items, bases, &mut other, &mut back);
-    assert!(rt; are_same(&back, items));
+    delta_and_back(items, &bases[..block_size::<W>(1)], &mut deltas, &mut back);
+    are_same(&back, items)
+}
+
+/// The items through sums from bases that count up, and back.
+fn sums_come_back<W: FastLanes>(items: &[W; FL_CHUNK_SIZE]) -> bool
+    requires { 1 ≤ W.T }
+{
+    W::in_memory();
+    let bases = counted::<W>();
+    let mut sums = [W::zero(); FL_CHUNK_SIZE];
+    let mut back = [W::zero(); FL_CHUNK_SIZE];
+    undelta_and_back(items, &bases[..block_size::<W>(1)], &mut sums, &mut back);
+    are_same(&back, items)
 }
 
 /// The items through the runs and back.
-fn runs_come_back<W: FastLanes>(rt: &impl Abort, items: &[W; FL_CHUNK_SIZE]) {
+fn runs_come_back<W: FastLanes>(items: &[W; FL_CHUNK_SIZE]) -> bool {
     W::in_memory();
     let mut values = [W::zero(); FL_CHUNK_SIZE];
     let mut indices = [0u16; FL_CHUNK_SIZE];
     let mut back = [W::zero(); FL_CHUNK_SIZE];
     runs_and_back(items, &mut values, &mut indices, &mut back);
-    assert!(rt; are_same(&back, items));
+    are_same(&back, items)
 }
 
-/// Squares from 1 on, of which three stand in a row, through the kernels that undo each other.
-fn blocks_come_back<W: FastLanes>(rt: &impl Abort)
-    requires { 1 ≤ W.T }
-{
+/// Squares from 1 on, of which three stand in a row.
+fn squares<W: FastLanes>() -> [W; FL_CHUNK_SIZE] {
     W::in_memory();
     let mut items = [W::zero(); FL_CHUNK_SIZE];
     for p in 0..FL_CHUNK_SIZE {
         items[p] = word(item_of_block(2, p / 3 + 1));
     }
-    places_come_back(rt, &items);
-    deltas_come_back(rt, &items);
-    runs_come_back(rt, &items);
+    items
+}
+
+/// The squares through the kernels that undo each other.
+fn blocks_come_back<W: FastLanes>() -> bool
+    requires { 1 ≤ W.T }
+{
+    W::in_memory();
+    let items = squares::<W>();
+    places_come_back(&items)
+        && deltas_come_back(&items)
+        && sums_come_back(&items)
+        && runs_come_back(&items)
 }
 
 #[test]
-fn kernels_at_each_type(rt: HostRuntime) {
-    packed_items_are_read::<u8>(&rt);
-    packed_items_are_read::<u16>(&rt);
-    packed_items_are_read::<u32>(&rt);
-    packed_items_are_read::<u64>(&rt);
-    blocks_come_back::<u8>(&rt);
-    blocks_come_back::<u16>(&rt);
-    blocks_come_back::<u32>(&rt);
-    blocks_come_back::<u64>(&rt);
+fn packed_items_at_each_type(rt: HostRuntime) {
+    assert!(rt; packed_items_are_read::<u8>() && packed_items_are_read::<u16>());
+    assert!(rt; packed_items_are_read::<u32>() && packed_items_are_read::<u64>());
+}
+
+#[test]
+fn blocks_at_each_type(rt: HostRuntime) {
+    assert!(rt; blocks_come_back::<u8>() && blocks_come_back::<u16>());
+    assert!(rt; blocks_come_back::<u32>() && blocks_come_back::<u64>());
 }
 
 /// The bases of a block: the first item of each lane.
