@@ -24,6 +24,16 @@ between_front (suc a) (suc b) zero xs ys h k = absurd (omega arith)
 between_front (suc a) (suc b) (suc s) [] ys h k = absurd (omega arith)
 between_front (suc a) (suc b) (suc s) (x ∷ xs) ys h k = let less : suc b - suc a ≡ b - a = omega arith in rw less (between_front a b s xs ys (omega arith) (omega arith))
 
+after_front : {X : Type 0} (s : ℕ) (xs ys : List X) → s ≤ length xs → drop s (take s xs ++ ys) ≡ ys
+after_front zero xs ys h = refl
+after_front (suc s) [] ys h = absurd (omega arith)
+after_front (suc s) (x ∷ xs) ys h = after_front s xs ys (omega arith)
+
+-- the part that was written
+pub part_read : {X : Type 0} (s e : ℕ) (xs new rest : List X) → s ≤ length xs → length new ≡ e - s → take (e - s) (drop s (take s xs ++ (new ++ rest))) ≡ new
+part_read s e xs new rest h long =
+    ap (take (e - s)) (after_front s xs (new ++ rest) h) ∙ (take-append-le (e - s) new rest (omega arith) ∙ take_all (e - s) new (omega arith))
+
 -- a part of a list that was kept and grown
 pub grown_front : {X : Type 0} (a b n : ℕ) (xs ys : List X) → b ≤ length xs → length xs ≤ n → take (b - a) (drop a (take n xs ++ ys)) ≡ take (b - a) (drop a xs)
 grown_front a b n xs ys h k =

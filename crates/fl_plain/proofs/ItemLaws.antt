@@ -1,4 +1,7 @@
 -- The items under a validity: how many, which, and those of a part.
+use denote.Enum.Bare.{sameb}
+use Rattle.fl_types.specs.contracts.dtype.PType.{the_type as the_ptype}
+use Rattle.fl_types.specs.declared.dtype.PType.TheVariants as ptypes
 use Rattle.std.proofs.Common.{◌≡◌, ℕ, zero, suc, ◌+◌, ◌-◌, ◌<◌, ◌≤◌, ℤ, pos, Bool, true, false, List, [], ◌∷◌, ◌++◌, length, map, take, drop, replicate, get_or, Option, Some, None, option_map, IsTrue, cond, refl, ap, ◌∙◌, sym, arith, slice_get, is_some, unwrap_or, Result, Ok, ◌==◌, length-take, length-drop}
 use Rattle.std.specs.List.{list_all}
 use Rattle.std.specs.Result.{IsOk}
@@ -9,7 +12,7 @@ use Rattle.fl_types.specs.Bits.{between}
 use Rattle.fl_types.specs.Refusals.{Answers}
 use Rattle.fl_types.specs.declared.error.FastLanesError.{FastLanesError}
 use Rattle.fl_types.specs.declared.dtype.PType.{PType}
-use Rattle.fl_types.specs.Integers.{fits, pattern_of, read_as}
+use Rattle.fl_types.specs.Integers.{fits, pattern_of, read_as, other_sign, bits_of_type}
 use Rattle.fl_types.proofs.Patterns.{read_pattern}
 use Rattle.std.specs.List.{list_all}
 use Rattle.fl_plain.proofs.ListLaws.{and_first, and_second}
@@ -243,3 +246,75 @@ rereads t (z ∷ zs) fit =
 -- the patterns of an array, read as its own type
 pub reread_same : (p : Plain) (t : PType) → p.ptype ≡ t → IsTrue (list_all (fits p.ptype) p.slots) → p ≡ reread_plain t p
 reread_same p t e fit = sym (rw (← e) (ap (λ zs. record { ptype = p.ptype; slots = zs; validity = p.validity }) (rereads p.ptype p.slots fit)))
+
+-- types of the same width that differ differ in their sign
+pub other_type : (s t : PType) → false ≡ sameb the_ptype s t → bits_of_type t ≡ bits_of_type s → other_sign s ≡ t
+other_type ptypes.U8 ptypes.U8 h e = cc
+other_type ptypes.U8 ptypes.U16 h e = absurd (omega arith)
+other_type ptypes.U8 ptypes.U32 h e = absurd (omega arith)
+other_type ptypes.U8 ptypes.U64 h e = absurd (omega arith)
+other_type ptypes.U8 ptypes.I8 h e = refl
+other_type ptypes.U8 ptypes.I16 h e = absurd (omega arith)
+other_type ptypes.U8 ptypes.I32 h e = absurd (omega arith)
+other_type ptypes.U8 ptypes.I64 h e = absurd (omega arith)
+other_type ptypes.U16 ptypes.U8 h e = absurd (omega arith)
+other_type ptypes.U16 ptypes.U16 h e = cc
+other_type ptypes.U16 ptypes.U32 h e = absurd (omega arith)
+other_type ptypes.U16 ptypes.U64 h e = absurd (omega arith)
+other_type ptypes.U16 ptypes.I8 h e = absurd (omega arith)
+other_type ptypes.U16 ptypes.I16 h e = refl
+other_type ptypes.U16 ptypes.I32 h e = absurd (omega arith)
+other_type ptypes.U16 ptypes.I64 h e = absurd (omega arith)
+other_type ptypes.U32 ptypes.U8 h e = absurd (omega arith)
+other_type ptypes.U32 ptypes.U16 h e = absurd (omega arith)
+other_type ptypes.U32 ptypes.U32 h e = cc
+other_type ptypes.U32 ptypes.U64 h e = absurd (omega arith)
+other_type ptypes.U32 ptypes.I8 h e = absurd (omega arith)
+other_type ptypes.U32 ptypes.I16 h e = absurd (omega arith)
+other_type ptypes.U32 ptypes.I32 h e = refl
+other_type ptypes.U32 ptypes.I64 h e = absurd (omega arith)
+other_type ptypes.U64 ptypes.U8 h e = absurd (omega arith)
+other_type ptypes.U64 ptypes.U16 h e = absurd (omega arith)
+other_type ptypes.U64 ptypes.U32 h e = absurd (omega arith)
+other_type ptypes.U64 ptypes.U64 h e = cc
+other_type ptypes.U64 ptypes.I8 h e = absurd (omega arith)
+other_type ptypes.U64 ptypes.I16 h e = absurd (omega arith)
+other_type ptypes.U64 ptypes.I32 h e = absurd (omega arith)
+other_type ptypes.U64 ptypes.I64 h e = refl
+other_type ptypes.I8 ptypes.U8 h e = refl
+other_type ptypes.I8 ptypes.U16 h e = absurd (omega arith)
+other_type ptypes.I8 ptypes.U32 h e = absurd (omega arith)
+other_type ptypes.I8 ptypes.U64 h e = absurd (omega arith)
+other_type ptypes.I8 ptypes.I8 h e = cc
+other_type ptypes.I8 ptypes.I16 h e = absurd (omega arith)
+other_type ptypes.I8 ptypes.I32 h e = absurd (omega arith)
+other_type ptypes.I8 ptypes.I64 h e = absurd (omega arith)
+other_type ptypes.I16 ptypes.U8 h e = absurd (omega arith)
+other_type ptypes.I16 ptypes.U16 h e = refl
+other_type ptypes.I16 ptypes.U32 h e = absurd (omega arith)
+other_type ptypes.I16 ptypes.U64 h e = absurd (omega arith)
+other_type ptypes.I16 ptypes.I8 h e = absurd (omega arith)
+other_type ptypes.I16 ptypes.I16 h e = cc
+other_type ptypes.I16 ptypes.I32 h e = absurd (omega arith)
+other_type ptypes.I16 ptypes.I64 h e = absurd (omega arith)
+other_type ptypes.I32 ptypes.U8 h e = absurd (omega arith)
+other_type ptypes.I32 ptypes.U16 h e = absurd (omega arith)
+other_type ptypes.I32 ptypes.U32 h e = refl
+other_type ptypes.I32 ptypes.U64 h e = absurd (omega arith)
+other_type ptypes.I32 ptypes.I8 h e = absurd (omega arith)
+other_type ptypes.I32 ptypes.I16 h e = absurd (omega arith)
+other_type ptypes.I32 ptypes.I32 h e = cc
+other_type ptypes.I32 ptypes.I64 h e = absurd (omega arith)
+other_type ptypes.I64 ptypes.U8 h e = absurd (omega arith)
+other_type ptypes.I64 ptypes.U16 h e = absurd (omega arith)
+other_type ptypes.I64 ptypes.U32 h e = absurd (omega arith)
+other_type ptypes.I64 ptypes.U64 h e = refl
+other_type ptypes.I64 ptypes.I8 h e = absurd (omega arith)
+other_type ptypes.I64 ptypes.I16 h e = absurd (omega arith)
+other_type ptypes.I64 ptypes.I32 h e = absurd (omega arith)
+other_type ptypes.I64 ptypes.I64 h e = cc
+
+-- an array of these parts, whose patterns are read as the type of the other sign
+pub reread_other : (p q : Plain) (t u s : PType) (xs ys : List ℤ) (v : Validity) → q ≡ record { ptype = u; slots = ys; validity = v } → u ≡ other_sign s → ys ≡ map (λ z. read_as (other_sign s) (pattern_of s z)) xs → s ≡ p.ptype → xs ≡ p.slots → v ≡ p.validity
+    → other_sign p.ptype ≡ t → reread_plain t p ≡ q
+reread_other p q t u s xs ys v parts type slots same_type same_slots same_validity other = sym (rw (parts, type, slots, same_type, same_slots, same_validity, other) refl)

@@ -4,11 +4,13 @@ use Rattle.std.specs.List.{list_all}
 use Rattle.std.proofs.lemmas.List.{length-map, same_lists, get_or-map, get_or_default}
 use Rattle.std.proofs.lemmas.Bool.Decides.{Decides-int_eq, nat_tests}
 use Rattle.std.specs.Ordering.{int_eq}
-use Rattle.fl_types.specs.Validities.{items_of, covers, masked}
+use Rattle.fl_types.specs.Validities.{items_of, covers, masked, nullability_of}
 use Rattle.fl_types.specs.Refusals.{Answers}
 use Rattle.fl_types.specs.declared.error.FastLanesError.{FastLanesError}
 use Rattle.fl_types.specs.declared.error.FastLanesError.TheVariants.{OutOfMemory}
-use Rattle.fl_plain.specs.Questions.{are_constant, each_next, same_item}
+use Rattle.fl_types.specs.declared.dtype.DType.TheVariants as dtypes
+use Rattle.fl_plain.specs.Columns.{Bools, Plain, column_of_bools, column_of_plain, new_bools}
+use Rattle.fl_plain.specs.Questions.{are_constant, each_next, same_item, tested}
 use Rattle.fl_types.specs.Values.{truth_number}
 use Rattle.fl_types.specs.declared.validity.Validity.{Validity}
 use Rattle.fl_types.specs.declared.validity.Validity.TheVariants as valid
@@ -48,6 +50,15 @@ item_tests test (valid.Array bits) zs = masked_tests test bits zs
 
 pub tested_covers : (test : ℤ → Bool) (v : Validity) (zs : List ℤ) → IsTrue (covers v (length zs)) → covers v (length (map test zs)) ≡ true
 tested_covers test v zs k = rw length-map k
+
+-- the column of the bits that a test of the slots gives
+pub tested_column : (test : ℤ → Bool) (a : Plain) (v w : Validity) (zs : List ℤ) (bits : List Bool) (r : Result Bools FastLanesError) → v ≡ a.validity → IsTrue (covers a.validity (length a.slots)) → zs ≡ a.slots
+    → ◌≡◌ {A = Result Validity FastLanesError} (Ok v) (Ok w) → ◌≡◌ {A = Result (List Bool) FastLanesError} (Ok (map test zs)) (Ok bits) → r ≡ new_bools bits w → Answers column_of_bools r (Ok (tested test (column_of_plain a)))
+tested_column test a v w zs bits r valid covered slots copied answered is =
+    let validity : w ≡ a.validity = cc in
+    let tests : bits ≡ map test a.slots = cc in
+    let all = tested_covers test a.validity a.slots covered in
+    rw (is, validity, tests, all) (ap (λ items. Ok (record { dtype = dtypes.Bool (nullability_of a.validity); items = items })) (sym (item_tests test a.validity a.slots)))
 
 pub ruleset tests = (item_tests, tested_covers, length-map)
 

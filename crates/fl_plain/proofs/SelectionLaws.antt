@@ -1,5 +1,5 @@
 -- The columns that selections make.
-use Rattle.std.proofs.Common.{◌≡◌, ◌&&◌, ℕ, ℤ, zero, suc, ◌+◌, ◌<◌, ◌≤◌, ◌||◌, Bool, true, false, List, [], ◌∷◌, length, map, take, get_or, replicate, Option, Some, None, option_map, is_some, IsTrue, unsigned_abs, pos, negsuc, int_le, sum_by, Ok, Err, if◌then◌else◌, ◌^◌, refl, ap, ◌∙◌, arith, nat_lt}
+use Rattle.std.proofs.Common.{◌≡◌, ◌&&◌, ℕ, ℤ, zero, suc, ◌+◌, ◌<◌, ◌≤◌, ◌||◌, Bool, true, false, List, [], ◌∷◌, length, map, take, get_or, replicate, Option, Some, None, option_map, is_some, IsTrue, unsigned_abs, pos, negsuc, int_le, sum_by, Ok, Err, if◌then◌else◌, ◌^◌, refl, ap, sym, ◌∙◌, arith, nat_lt}
 use Rattle.std.specs.List.{list_all}
 use Rattle.fl_types.specs.Validities.{masked, items_of, nullability_of}
 use Rattle.fl_types.specs.Integers.{fits}
@@ -12,7 +12,8 @@ use Rattle.fl_types.specs.Types.{can_be_null, either_nullable}
 use Rattle.fl_types.specs.declared.dtype.Nullability.{Nullability}
 use Rattle.fl_types.specs.declared.validity.Validity.{Validity}
 use Rattle.fl_types.specs.declared.validity.Validity.TheVariants as valid
-use Rattle.std.proofs.lemmas.Bool.{lt-ltb}
+use Rattle.std.proofs.lemmas.List.Sums.{sum_by_more, sum_by_more_le}
+use Rattle.std.proofs.lemmas.Bool.{le-ltb, lt-ltb}
 use Rattle.fl_types.specs.declared.error.FastLanesError.TheVariants.{IndexOutOfBounds}
 use Rattle.fl_plain.proofs.ListLaws.{and_true, and_first, and_second}
 
@@ -46,6 +47,17 @@ total_is ranges i total full is fits =
     let same : total ≡ sum_by (λ range. range.1) ranges = rw all at is in
     let small : nat_lt total (2 ^ 64) ≡ true = lt-ltb total (2 ^ 64) fits in
     rw (← same, small) refl
+
+-- the total of one more range
+pub total_next : (ranges : List (ℕ × ℕ)) (i total next : ℕ) → i < length ranges → total ≡ sum_by (λ range. range.1) (take i ranges) → next ≡ total + (get_or ranges i (0, 0)).1 → next ≡ sum_by (λ range. range.1) (take (i + 1) ranges)
+total_next ranges i total next inside is sum = sum ∙ (ap (λ n. n + (get_or ranges i (0, 0)).1) is ∙ sym (sum_by_more (λ range. range.1) ranges i (0, 0) inside))
+
+-- a total that no `usize` holds
+pub total_over : (ranges : List (ℕ × ℕ)) (i total : ℕ) (r : Option ℕ) → i < length ranges → total ≡ sum_by (λ range. range.1) (take i ranges) → (total + (get_or ranges i (0, 0)).1 < 2 ^ 64 → ⊥) → r ≡ None → r ≡ total_of ranges
+total_over ranges i total r inside is over none =
+    let least = sum_by_more_le (λ range. range.1) ranges i (0, 0) inside in
+    let large : nat_lt (sum_by (λ range. range.1) ranges) (2 ^ 64) ≡ false = le-ltb (sum_by (λ range. range.1) ranges) (2 ^ 64) (omega (arith, over)) in
+    rw (none, large) refl
 
 -- an answer of a test that is Ok
 if_ok : {A E : Type 0} (b : Bool) (x y : A) (e : E) → (if b then Ok x else Err e) ≡ Ok y → (b ≡ true) × (x ≡ y)

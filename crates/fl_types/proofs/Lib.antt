@@ -3,3 +3,4 @@ pub mod Maps
 pub mod MaskLaws
 pub mod Patterns
 pub mod RefusalLaws
+pub mod Refused

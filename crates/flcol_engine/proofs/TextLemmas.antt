@@ -1,7 +1,8 @@
 -- Lines, digits and items.
-use Rattle.std.proofs.Common.{◌≡◌, ◌≢◌, ℕ, ◌+◌, ◌-◌, ◌*◌, ◌<◌, ◌≤◌, List, [], ◌∷◌, ◌++◌, length, get_or, take, drop, zero, suc, arith, refl, sym, ap, ◌∙◌, Bool, true, false, cond, None, Some, add-one, drop-cons, append_assoc}
+use Rattle.std.proofs.Common.{◌≡◌, ◌≢◌, ℕ, eqb, ◌+◌, ◌-◌, ◌*◌, ◌<◌, ◌≤◌, List, [], ◌∷◌, ◌++◌, length, get_or, take, drop, zero, suc, arith, refl, sym, ap, ◌∙◌, Bool, true, false, cond, None, Some, add-one, drop-cons, append_assoc}
 use Rattle.std.specs.Prelude.{Option, option_map, nat_lt, nat_le, ◌&&◌}
-use Rattle.std.proofs.lemmas.Bool.{eq-eqb, ne_eqb}
+use Rattle.std.proofs.lemmas.Bool.{eq-eqb, eqb-false, ne_eqb, le-leb, lt-ltb}
+use Rattle.std.proofs.lemmas.List.{drop_all}
 use Rattle.std.proofs.lemmas.Bool.Decides.{nat_tests}
 use Rattle.std.specs.Str.{all_ascii_digits}
 use Rattle.std.specs.Char.{is_ascii_digit, digit_value}
@@ -63,6 +64,40 @@ too_large max ds i n h digit large r =
     let value : digit_value here ≡ here - 48 = digit_value_is here range.0 range.1 in
     let least : n * 10 + digit_value here ≤ digits_value_after 10 (n * 10 + digit_value here) rest = grows (n * 10 + digit_value here) rest in
     above max ds (omega (arith, is, value, least))
+
+-- a byte that is no digit
+pub not_digit : (max : ℕ) (ds : List ℕ) (i n : ℕ) → i < length ds → is_ascii_digit (get_or ds i 0) ≡ false → IsReading ds i n → number_up_to max ds ≡ None
+not_digit max ds i n h e r =
+    let rest = all_ascii_digits (drop (i + 1) ds) in
+    let none : all_ascii_digits ds ≡ false = sym r.digits ∙ (ap all_ascii_digits (one_more ds i h) ∙ ap (λ (b : Bool). b && rest) e) in
+    at_tests (nat_lt 0 (length ds)) (all_ascii_digits ds) (nat_le (digits_value 10 ds) max) none
+  where
+    at_tests : (p q r : Bool) → q ≡ false → cond (p && q && r) (Some (digits_value 10 ds)) None ≡ None
+    at_tests true q r e = rw e refl
+    at_tests false q r e = refl
+
+-- one more digit
+pub next_digit : (ds : List ℕ) (i n d : ℕ) → i < length ds → is_ascii_digit (get_or ds i 0) ≡ true → d ≡ get_or ds i 0 - 48 → IsReading ds i n → IsReading ds (i + 1) (n * 10 + d)
+next_digit ds i n d h digit e r =
+    let here = get_or ds i 0 in
+    let rest = drop (i + 1) ds in
+    let range = digit_range here digit in
+    let same : d ≡ digit_value here = e ∙ sym (digit_value_is here range.0 range.1) in
+    let value : digits_value_after 10 (n * 10 + digit_value here) rest ≡ digits_value 10 ds = sym (ap (digits_value_after 10 n) (one_more ds i h)) ∙ r.value in
+    let digits : (is_ascii_digit here && all_ascii_digits rest) ≡ all_ascii_digits ds = sym (ap all_ascii_digits (one_more ds i h)) ∙ r.digits in
+    record {
+      value = ap (λ (m : ℕ). digits_value_after 10 (n * 10 + m) rest) same ∙ value;
+      digits = sym (ap (λ (b : Bool). b && all_ascii_digits rest) digit) ∙ digits;
+    }
+
+-- all digits are read
+pub number_read : (max : ℕ) (ds : List ℕ) (i n : ℕ) → eqb (length ds) 0 ≡ false → length ds ≤ i → n ≤ max → IsReading ds i n → number_up_to max ds ≡ Some n
+number_read max ds i n other end small r =
+    let not_none = eqb-false (length ds) 0 other in
+    let some : 0 < length ds = omega arith in
+    let value : n ≡ digits_value 10 ds = sym (ap (digits_value_after 10 n) (drop_all i ds end)) ∙ r.value in
+    let digits : true ≡ all_ascii_digits ds = sym (ap all_ascii_digits (drop_all i ds end)) ∙ r.digits in
+    rw (lt-ltb 0 (length ds) some, ← digits, ← value, le-leb n max small) refl
 
 -- the items so far, and then those
 abbrev pub with_front : List ℕ → Option (List ℕ) → Option (List ℕ)

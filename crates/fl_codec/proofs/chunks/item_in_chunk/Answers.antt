@@ -10,3 +10,8 @@ returns-else-q-items g c =
     let items = items_of c.args.validity.now (map g.T.Number.value c.args.items.now) in
     let each = length-items_read g.T.Number.value c.args.validity.now c.args.items.now c.requires.covers in
     sym (get_or-chunk items c.args.k c.args.q None c.requires.position ∙ get_or_past items (1024 * c.args.k + c.args.q) None (omega arith))
+
+pub returns-then-q-items : goal.returns-then-q-items
+returns-then-q-items g c =
+    let items = items_of c.args.validity.now (map g.T.Number.value c.args.items.now) in
+    c.item_at.ensures ∙ sym (get_or-chunk items c.args.k c.args.q None c.requires.position)

@@ -1,4 +1,5 @@
-use Rattle.std.proofs.Common.{◌<◌, ◌++◌, ℕ, IsTrue, map, unwrap_or, arith, subst, ap, sym, ◌∙◌}
+use Rattle.std.proofs.Common.{◌<◌, ◌++◌, ℕ, IsTrue, map, unwrap_or, arith, rules, subst, ap, sym, ◌∙◌}
+use Rattle.std.proofs.lemmas.Result.{err_from_is_err_and}
 use Rattle.fastlanes.specs.Layout.{pattern_at}
 use Rattle.fl_types.specs.Integers.{fits, pattern_of, read_as}
 use Rattle.fl_codec.specs.Chunks.{chunk}
@@ -6,7 +7,7 @@ use Rattle.fl_codec.specs.Filling.{Carry, filled, filled_from, last_some}
 use Rattle.fl_codec.specs.Parts.{items_of_plain}
 use Rattle.fl_codec.proofs.DeltaLaws.{bases_of_chunk, deltas_of_chunk, few_lanes}
 use Rattle.fl_codec.proofs.FillingLaws.{carried_more, filled-carry}
-use Rattle.fl_codec.proofs.ReferenceLaws.{same_items}
+use Rattle.fl_codec.proofs.ReferenceLaws.{covered_read, length_of_values, same_items}
 use Rattle.fl_codec.proofs.delta.push_chunk.Goals as goal
 
 pub returns-clause-last : goal.returns-clause-last
@@ -46,3 +47,28 @@ returns-clause-deltas g c =
     g.met.T.Physical.FastLanes.shape g.met.T.PhysicalPType.width_law c.encode_block.ensures.whole
     (λ q h. c.fill_chunk-last.ensures.block q h ∙ ap (pattern_of ptype) (filled_at q h))
     c.encode_block.ensures.deltas (map value c.args.deltas.now.items) c.requires.deltas
+
+pub returns-in_err-push_values-clause-last : goal.returns-in_err-push_values-clause-last
+returns-in_err-push_values-clause-last g c = let failed = err_from_is_err_and c.from_residual.result c.from_residual.ensures.1 in rw failed.1 tt
+
+pub returns-in_err-push_values-clause-bases : goal.returns-in_err-push_values-clause-bases
+returns-in_err-push_values-clause-bases g c = let failed = err_from_is_err_and c.from_residual.result c.from_residual.ensures.1 in rw failed.1 tt
+
+pub returns-in_err-push_values-clause-deltas : goal.returns-in_err-push_values-clause-deltas
+returns-in_err-push_values-clause-deltas g c = let failed = err_from_is_err_and c.from_residual.result c.from_residual.ensures.1 in rw failed.1 tt
+
+pub returns-in_err-push_values-2-clause-last : goal.returns-in_err-push_values-2-clause-last
+returns-in_err-push_values-2-clause-last g c = let failed = err_from_is_err_and c.from_residual-in_err-push_values-2.result c.from_residual-in_err-push_values-2.ensures.1 in rw failed.1 tt
+
+pub returns-in_err-push_values-2-clause-bases : goal.returns-in_err-push_values-2-clause-bases
+returns-in_err-push_values-2-clause-bases g c = let failed = err_from_is_err_and c.from_residual-in_err-push_values-2.result c.from_residual-in_err-push_values-2.ensures.1 in rw failed.1 tt
+
+pub returns-in_err-push_values-2-clause-deltas : goal.returns-in_err-push_values-2-clause-deltas
+returns-in_err-push_values-2-clause-deltas g c = let failed = err_from_is_err_and c.from_residual-in_err-push_values-2.result c.from_residual-in_err-push_values-2.ensures.1 in rw failed.1 tt
+
+pub fill_chunk-last-requires : goal.fill_chunk-last-requires
+fill_chunk-last-requires g c =
+    let p = c.args.array.now in
+    let long = length_of_values g.T.Number.value c.as_slice.result.now p.slots c.as_slice.ensures in
+    let room = c.requires.chunk in
+    (search rules, (covered_read g.T.Number.value p c.validity.result.now c.as_slice.result.now c.validity.ensures.value c.validity.ensures.covers c.as_slice.ensures, omega arith))

@@ -1,9 +1,13 @@
-use Rattle.std.proofs.Common.{◌≡◌, ◌+◌, ◌*◌, ◌/◌, ◌%◌, ◌≤◌, ℕ, pos, get_or, length, map, arith, ap, ◌∙◌}
+use Rattle.std.proofs.Common.{◌≡◌, ◌+◌, ◌*◌, ◌/◌, ◌%◌, ◌≤◌, ℕ, pos, get_or, length, map, arith, rules, ap, ◌∙◌}
 use Rattle.fastlanes.specs.Layout.{pattern_at}
 use Rattle.fastlanes.proofs.Patterns.{pattern_at_take}
 use Rattle.fl_types.specs.Integers.{pattern_of}
 use Rattle.fl_codec.proofs.DeltaSums.{block_of_sums, patterns_of_part}
 use Rattle.fl_codec.proofs.delta.read_block.Goals as goal
+
+-- where the bases of a block end
+row_end : (j lanes named n : ℕ) → named ≡ lanes → (j + 1) * lanes ≤ n → j * named + named ≤ n
+row_end j lanes named n e h = rw e (let whole : (j + 1) * lanes ≡ j * lanes + lanes = grind arith in omega arith)
 
 pub returns-clause-items : goal.returns-clause-items
 returns-clause-items g c q h =
@@ -24,3 +28,36 @@ returns-clause-items g c q h =
     let place_no : (1024 * j + q) % 1024 ≡ q = omega arith in
     rw (block_no, place_no) (block_of_sums ptype T lanes j base delta (pattern_at pattern c.first_row.result.now) (pattern_at pattern c.put_patterns-2.new.block) (pattern_at pattern c.decode_block.new.block) g.met.T.Physical.FastLanes.shape g.met.T.PhysicalPType.width_law
     (λ l p. ap (λ ws. pattern_at pattern ws l) c.first_row.ensures.row ∙ (pattern_at_take pattern c.put_patterns.new.block lanes l p ∙ (bases l (rw named p) ∙ ap (λ n. pattern_of ptype (base (j * n + l))) named))) deltas c.decode_block.ensures.items q h)
+
+pub overflow_mul-j : goal.overflow_mul-j
+overflow_mul-j g c = let room = row_end c.args.j _ _ _ c.LANES-lanes.ensures c.requires.bases in omega arith
+
+pub overflow_mul-j-2 : goal.overflow_mul-j-2
+overflow_mul-j-2 g c = let room = row_end c.args.j _ _ _ c.LANES-lanes.ensures c.requires.bases in omega arith
+
+pub overflow_add-j : goal.overflow_add-j
+overflow_add-j g c = let room = row_end c.args.j _ _ _ c.LANES-lanes.ensures c.requires.bases in omega arith
+
+pub offset_bounds-bases-j : goal.offset_bounds-bases-j
+offset_bounds-bases-j g c = let room = row_end c.args.j _ _ _ c.LANES-lanes.ensures c.requires.bases in omega arith
+
+pub slice_bounds-put_patterns-count : goal.slice_bounds-put_patterns-count
+slice_bounds-put_patterns-count g c = let room = row_end c.args.j _ _ _ c.LANES-lanes.ensures c.requires.bases in omega arith
+
+pub put_patterns-requires : goal.put_patterns-requires
+put_patterns-requires g c = search rules
+
+pub overflow_mul-j-3 : goal.overflow_mul-j-3
+overflow_mul-j-3 g c = search rules
+
+pub overflow_add-j-2 : goal.overflow_add-j-2
+overflow_add-j-2 g c = search rules
+
+pub offset_bounds-deltas-j : goal.offset_bounds-deltas-j
+offset_bounds-deltas-j g c = search rules
+
+pub put_patterns-requires-2 : goal.put_patterns-requires-2
+put_patterns-requires-2 g c = search rules
+
+pub decode_block-requires : goal.decode_block-requires
+decode_block-requires g c = search rules

@@ -3,6 +3,7 @@ use Rattle.fl_types.specs.Bits.{table}
 use Rattle.fl_types.specs.Validities.{items_of}
 use Rattle.fl_codec.specs.Frames.{minus_reference}
 use Rattle.fl_codec.proofs.ReferenceLaws.{length-items_read, length_of_values, length-table, table_push, value_read}
+use Rattle.fl_types.proofs.Refused.{no_value}
 use Rattle.fl_codec.proofs.frame_of_reference.chunked_differences.Goals as goal
 
 pub loop-i-preserved : goal.loop-i-preserved
@@ -32,3 +33,18 @@ returns-clause-long g c =
     let same = length_of_values value c.loop-i.slots.items (table slot c.loop-i.i) c.loop-i.invariant in
     let all = length-table slot c.loop-i.i in
     omega arith
+
+pub loop-i-init : goal.loop-i-init
+loop-i-init g c = ap (map g.T.Number.value) c.in_ok-slots.ensures.items
+
+pub returns-in_err-slots-clause-long : goal.returns-in_err-slots-clause-long
+returns-in_err-slots-clause-long g c = no_value _ _ c.from_residual.result c.from_residual.ensures.1
+
+pub returns-in_err-slots-clause-slots : goal.returns-in_err-slots-clause-slots
+returns-in_err-slots-clause-slots g c = no_value _ _ c.from_residual.result c.from_residual.ensures.1
+
+pub returns-in_err-push-clause-long : goal.returns-in_err-push-clause-long
+returns-in_err-push-clause-long g c = no_value _ _ c.from_residual-in_err-push.result c.from_residual-in_err-push.ensures.1
+
+pub returns-in_err-push-clause-slots : goal.returns-in_err-push-clause-slots
+returns-in_err-push-clause-slots g c = no_value _ _ c.from_residual-in_err-push.result c.from_residual-in_err-push.ensures.1

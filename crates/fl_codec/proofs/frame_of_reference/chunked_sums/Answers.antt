@@ -3,6 +3,7 @@ use Rattle.std.proofs.lemmas.List.{length-map}
 use Rattle.fl_types.specs.Bits.{table}
 use Rattle.fl_types.specs.Integers.{wrap}
 use Rattle.fl_codec.proofs.ReferenceLaws.{length-table, length_of_values, table_push, value_read}
+use Rattle.fl_types.proofs.Refused.{no_value}
 use Rattle.fl_codec.proofs.frame_of_reference.chunked_sums.Goals as goal
 
 pub loop-i-preserved : goal.loop-i-preserved
@@ -35,3 +36,18 @@ returns-clause-long g c =
     let same = length_of_values value c.loop-i.sums.items (table sum_at c.loop-i.i) c.loop-i.invariant in
     let all = length-table sum_at c.loop-i.i in
     omega arith
+
+pub loop-i-init : goal.loop-i-init
+loop-i-init g c = ap (map g.T.Number.value) c.in_ok-sums.ensures.items
+
+pub returns-in_err-sums-clause-long : goal.returns-in_err-sums-clause-long
+returns-in_err-sums-clause-long g c = no_value _ _ c.from_residual.result c.from_residual.ensures.1
+
+pub returns-in_err-sums-clause-sums : goal.returns-in_err-sums-clause-sums
+returns-in_err-sums-clause-sums g c = no_value _ _ c.from_residual.result c.from_residual.ensures.1
+
+pub returns-in_err-push-clause-long : goal.returns-in_err-push-clause-long
+returns-in_err-push-clause-long g c = no_value _ _ c.from_residual-in_err-push.result c.from_residual-in_err-push.ensures.1
+
+pub returns-in_err-push-clause-sums : goal.returns-in_err-push-clause-sums
+returns-in_err-push-clause-sums g c = no_value _ _ c.from_residual-in_err-push.result c.from_residual-in_err-push.ensures.1

@@ -4,6 +4,7 @@ use Rattle.fl_codec.specs.Chunks.{chunks_of}
 use Rattle.fl_codec.specs.Parts.{frame_parts, FrameParts}
 use Rattle.fl_codec.proofs.FrameColumns.{whole_ok}
 use Rattle.fl_codec.proofs.ReferenceLaws.{covered_read, length_of_values, references_of_plain}
+use Rattle.fl_types.proofs.Refused.{no_memory, no_memory_there, only_memory}
 use Rattle.fl_codec.proofs.frame_of_reference.encode_chunks.Goals as goal
 
 pub chunk_references-requires : goal.chunk_references-requires
@@ -25,3 +26,9 @@ returns-in-None g c =
     let value = g.T.Number.value in
     let same = references_of_plain value c.args.array.now c.validity.result.now c.as_slice.result.now (map value c.in_ok-references.references.items) None c.validity.ensures.value c.as_slice.ensures c.in_ok-references.ensures.references (rw c.deref.ensures.value at c.in-None.ensures) in
     subst (λ (m : FrameParts). Answers frame_parts c.less_references.result (Ok m)) same c.less_references.ensures
+
+pub returns-in_err-references : goal.returns-in_err-references
+returns-in_err-references g c = no_memory _ c.from_residual.result _ c.from_residual.ensures.1
+
+pub returns-in_err-less_reference-in-Some : goal.returns-in_err-less_reference-in-Some
+returns-in_err-less_reference-in-Some g c = no_memory_there _ c.from_residual-in_err-less_reference-in-Some.result _ _ c.from_residual-in_err-less_reference-in-Some.ensures.1 (only_memory _ _ c.in_err-less_reference-in-Some.ensures)

@@ -1,6 +1,7 @@
 use Rattle.std.proofs.Common.{length, ap, sym, ◌∙◌}
 use Rattle.fl_codec.specs.Chunks.{chunks_of}
 use Rattle.fl_codec.proofs.ReferenceLaws.{covered_read, length_of_values}
+use Rattle.fl_types.proofs.Refused.{no_memory, no_memory_there, only_memory}
 use Rattle.fl_codec.proofs.frame_of_reference.less_references.Goals as goal
 
 pub chunked_differences-requires-clause-covers : goal.chunked_differences-requires-clause-covers
@@ -13,3 +14,9 @@ pub chunked_differences-requires-clause-references : goal.chunked_differences-re
 chunked_differences-requires-clause-references g c =
     let long = length_of_values g.T.Number.value c.as_slice-items.result.now c.args.array.now.slots c.as_slice-items.ensures in
     ap length c.deref.ensures.value ∙ (c.requires.references ∙ ap chunks_of (sym long))
+
+pub returns-in_err-slots : goal.returns-in_err-slots
+returns-in_err-slots g c = no_memory _ c.from_residual.result _ c.from_residual.ensures.1
+
+pub returns-in_err-child : goal.returns-in_err-child
+returns-in_err-child g c = no_memory_there _ c.from_residual-in_err-child.result _ _ c.from_residual-in_err-child.ensures.1 (only_memory _ _ c.in_err-child.ensures)

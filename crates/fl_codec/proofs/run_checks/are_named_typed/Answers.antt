@@ -51,3 +51,19 @@ item_at-requires g c =
       covers = covered_read g.I.Number.value p c.validity-validity.result.now c.as_slice-items.result.now c.validity-validity.ensures.value c.validity-validity.ensures.covers c.as_slice-items.ensures;
       range = omega arith;
     }
+
+pub overflow_mul-k : goal.overflow_mul-k
+overflow_mul-k g c =
+    let long = length_of_values g.I.Number.value c.as_slice-items.result.now c.args.indices.now.slots c.as_slice-items.ensures in
+    let room = c.requires.chunk in
+    omega arith
+
+pub overflow_add-k : goal.overflow_add-k
+overflow_add-k g c =
+    let long = length_of_values g.I.Number.value c.as_slice-items.result.now c.args.indices.now.slots c.as_slice-items.ensures in
+    let room = c.requires.chunk in
+    let here = c.loop-q-test.true in
+    omega arith
+
+pub loop-q-init : goal.loop-q-init
+loop-q-init g c j h = absurd (omega arith)

@@ -1,8 +1,8 @@
-use Rattle.std.proofs.Common.{◌≡◌, ◌++◌, ◌∷◌, [], length, map, ap, sym, ◌∙◌}
+use Rattle.std.proofs.Common.{◌≡◌, ◌++◌, ◌∷◌, [], length, map, arith, rules, ap, sym, ◌∙◌}
 use Rattle.std.proofs.lemmas.List.{length-map}
 use Rattle.std.proofs.lemmas.Result.{err_from_is_err_and}
 use Rattle.fl_codec.specs.Parts.{items_of_plain}
-use Rattle.fl_codec.specs.Runs.{offsets_to, values_to}
+use Rattle.fl_codec.specs.Runs.{indices_to, offsets_to, values_to}
 use Rattle.fl_codec.proofs.ReferenceLaws.{table_more}
 use Rattle.fl_codec.proofs.runs.push_chunks.Goals as goal
 
@@ -26,3 +26,34 @@ returns-in_err-push_runs-clause-indices g c = let failed = err_from_is_err_and c
 
 pub returns-in_err-push_runs-clause-offsets : goal.returns-in_err-push_runs-clause-offsets
 returns-in_err-push_runs-clause-offsets g c = let failed = err_from_is_err_and c.from_residual-in_err-push_runs.result c.from_residual-in_err-push_runs.ensures.1 in rw failed.1 tt
+
+pub returns-in_err-push-clause-values : goal.returns-in_err-push-clause-values
+returns-in_err-push-clause-values g c = let failed = err_from_is_err_and c.from_residual.result c.from_residual.ensures.1 in rw failed.1 tt
+
+pub returns-in_err-push-clause-indices : goal.returns-in_err-push-clause-indices
+returns-in_err-push-clause-indices g c = let failed = err_from_is_err_and c.from_residual.result c.from_residual.ensures.1 in rw failed.1 tt
+
+pub returns-in_err-push-clause-offsets : goal.returns-in_err-push-clause-offsets
+returns-in_err-push-clause-offsets g c = let failed = err_from_is_err_and c.from_residual.result c.from_residual.ensures.1 in rw failed.1 tt
+
+pub returns-clause-values : goal.returns-clause-values
+returns-clause-values g c = let all : c.loop-k.k ≡ c.args.chunks = omega arith in c.loop-k.invariant.values ∙ ap (values_to (items_of_plain c.args.array.now)) all
+
+pub returns-clause-indices : goal.returns-clause-indices
+returns-clause-indices g c = let all : c.loop-k.k ≡ c.args.chunks = omega arith in c.loop-k.invariant.indices ∙ ap (indices_to (items_of_plain c.args.array.now)) all
+
+pub returns-clause-offsets : goal.returns-clause-offsets
+returns-clause-offsets g c = let all : c.loop-k.k ≡ c.args.chunks = omega arith in c.loop-k.invariant.offsets ∙ ap (offsets_to (items_of_plain c.args.array.now)) all
+
+pub loop-k-init : goal.loop-k-init
+loop-k-init g c = record {
+  values = ap (map g.T.Number.value) c.requires.no_values;
+  indices = c.requires.no_indices;
+  offsets = c.requires.no_offsets;
+}
+
+pub push_runs-requires : goal.push_runs-requires
+push_runs-requires g c =
+    let more = c.loop-k-test.true in
+    let chunks = c.requires.chunks in
+    (search rules, (c.requires.same, (omega arith, (c.loop-k.invariant.values, c.loop-k.invariant.indices))))

@@ -1,4 +1,5 @@
-use Rattle.std.proofs.Common.{◌<◌, ◌++◌, ℕ, IsTrue, map, take, rules, subst, ap, sym, ◌∙◌}
+use Rattle.std.proofs.Common.{◌<◌, ◌++◌, ℕ, IsTrue, map, take, arith, rules, subst, ap, sym, ◌∙◌}
+use Rattle.std.proofs.lemmas.Result.{err_from_is_err_and}
 use Rattle.fastlanes.specs.Layout.{pattern_at}
 use Rattle.fl_types.specs.Integers.{fits, pattern_of, read_as}
 use Rattle.fl_codec.specs.Chunks.{chunk}
@@ -6,7 +7,7 @@ use Rattle.fl_codec.specs.Filling.{Reset, filled, filled_from}
 use Rattle.fl_codec.specs.Parts.{items_of_plain}
 use Rattle.fl_codec.specs.Runs.{values_to}
 use Rattle.fl_codec.proofs.FillingLaws.{filled-reset}
-use Rattle.fl_codec.proofs.ReferenceLaws.{same_items}
+use Rattle.fl_codec.proofs.ReferenceLaws.{covered_read, length_of_values, same_items}
 use Rattle.fl_codec.proofs.RunLaws.{indices_of_chunk, values_more, values_of_chunk}
 use Rattle.fl_codec.proofs.runs.push_runs.Goals as goal
 
@@ -40,3 +41,16 @@ returns-clause-indices g c =
     (λ q h. c.fill_chunk.ensures.block q h ∙ ap (pattern_of ptype) (filled_at q h))
     (λ q h. subst (λ z. IsTrue (fits ptype z)) (filled_at q h) (c.fill_chunk.ensures.fits q h))
     c.rle_encode-count.ensures.indices)
+
+pub returns-in_err-push_values-clause-values : goal.returns-in_err-push_values-clause-values
+returns-in_err-push_values-clause-values g c = let failed = err_from_is_err_and c.from_residual.result c.from_residual.ensures.1 in rw failed.1 tt
+
+pub returns-in_err-push_values-clause-indices : goal.returns-in_err-push_values-clause-indices
+returns-in_err-push_values-clause-indices g c = let failed = err_from_is_err_and c.from_residual.result c.from_residual.ensures.1 in rw failed.1 tt
+
+pub fill_chunk-requires : goal.fill_chunk-requires
+fill_chunk-requires g c =
+    let p = c.args.array.now in
+    let long = length_of_values g.T.Number.value c.as_slice.result.now p.slots c.as_slice.ensures in
+    let room = c.requires.chunk in
+    (search rules, (covered_read g.T.Number.value p c.validity.result.now c.as_slice.result.now c.validity.ensures.value c.validity.ensures.covers c.as_slice.ensures, omega arith))

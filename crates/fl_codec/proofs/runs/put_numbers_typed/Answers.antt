@@ -37,3 +37,22 @@ run_number-requires g c =
       unsigned = subst (λ t. IsTrue (is_unsigned t)) c.requires.same c.requires.unsigned;
       small = subst (λ o. IsTrue (is_run_index 1024 o)) (sym (c.item_at.ensures ∙ ap (λ xs. get_or xs (1024 * c.args.k + c.loop-q.q) None) here)) (c.requires.small c.loop-q.q c.loop-q-test.true);
     }
+
+pub overflow_mul-k : goal.overflow_mul-k
+overflow_mul-k g c =
+    let long = length_of_values g.I.Number.value c.as_slice-items.result.now c.args.indices.now.slots c.as_slice-items.ensures in
+    let room = c.requires.chunk in
+    omega arith
+
+pub overflow_add-k : goal.overflow_add-k
+overflow_add-k g c =
+    let long = length_of_values g.I.Number.value c.as_slice-items.result.now c.args.indices.now.slots c.as_slice-items.ensures in
+    let room = c.requires.chunk in
+    let here = c.loop-q-test.true in
+    omega arith
+
+pub loop-q-init : goal.loop-q-init
+loop-q-init g c = record {
+  done = λ j h. absurd (omega arith);
+  whole = c.told-numbers;
+}

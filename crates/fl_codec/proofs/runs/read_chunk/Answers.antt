@@ -9,7 +9,7 @@ use Rattle.fl_codec.specs.Parts.{items_of_plain}
 use Rattle.fl_codec.specs.RunColumns.{chunk_end, chunk_start, run_count}
 use Rattle.fl_codec.proofs.Congruence.{read_as-pattern_of}
 use Rattle.fl_codec.proofs.DeltaSums.{patterns_of_part}
-use Rattle.fl_codec.proofs.RunDecoding.{index_below}
+use Rattle.fl_codec.proofs.RunDecoding.{index_below, index_more}
 use Rattle.fl_codec.proofs.runs.read_chunk.Goals as goal
 
 pub returns-clause-items : goal.returns-clause-items
@@ -39,3 +39,24 @@ returns-clause-items g c q h =
     ap (read_as ptype) (c.rle_decode.ensures.items q h ∙ (ap (pattern_at pattern (take (end - start) c.put_patterns.new.block)) (c.put_numbers.ensures q h) ∙ (pattern_at_take pattern c.put_patterns.new.block (end - start) n few ∙ word)))
     ∙ (read_as-pattern_of ptype (get_or (map value values) (start + n) (pos 0)) fit
     ∙ (ap (λ m. get_or (map value values) (m + n) (pos 0)) start_is ∙ ap (λ m. get_or (map value values) (chunk_start offsets m + n) (pos 0)) (sym block_no)))
+
+pub start_of_chunk-start-requires-clause-range : goal.start_of_chunk-start-requires-clause-range
+start_of_chunk-start-requires-clause-range g c = c.requires.sound.range
+
+pub start_of_chunk-start-requires-clause-unsigned : goal.start_of_chunk-start-requires-clause-unsigned
+start_of_chunk-start-requires-clause-unsigned g c = c.requires.sound.offset_type
+
+pub end_of_chunk-end-requires-clause-range : goal.end_of_chunk-end-requires-clause-range
+end_of_chunk-end-requires-clause-range g c = c.requires.sound.range
+
+pub end_of_chunk-end-requires-clause-unsigned : goal.end_of_chunk-end-requires-clause-unsigned
+end_of_chunk-end-requires-clause-unsigned g c = c.requires.sound.offset_type
+
+pub put_numbers-requires-clause-unsigned : goal.put_numbers-requires-clause-unsigned
+put_numbers-requires-clause-unsigned g c = c.requires.sound.index_type
+
+pub put_numbers-requires-clause-chunk : goal.put_numbers-requires-clause-chunk
+put_numbers-requires-clause-chunk g c = c.requires.sound.full
+
+pub put_numbers-requires-clause-small : goal.put_numbers-requires-clause-small
+put_numbers-requires-clause-small g c = λ q h. index_more _ 1024 _ c.requires.sound.chunk.few (c.requires.sound.chunk.named q h)

@@ -11,3 +11,17 @@ returns g c =
     let same_len = ap length c.as_slice.ensures in
     let range = c.requires.range in
     rw (← c.as_slice.ensures) (c.number_of.ensures ∙ number_read value array c.args.i c.index-as_slice-i.result (omega arith) c.index-as_slice-i.is)
+
+pub offset_bounds-as_slice-i : goal.offset_bounds-as_slice-i
+offset_bounds-as_slice-i g c =
+    let len = length-map c.as_slice.result.now g.I.Number.value in
+    let same_len = ap length c.as_slice.ensures in
+    let range = c.requires.range in
+    omega arith
+
+pub bounds-as_slice-i : goal.bounds-as_slice-i
+bounds-as_slice-i g c =
+    let len = length-map c.as_slice.result.now g.I.Number.value in
+    let same_len = ap length c.as_slice.ensures in
+    let range = c.requires.range in
+    omega arith

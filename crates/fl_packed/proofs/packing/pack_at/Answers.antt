@@ -1,5 +1,5 @@
 use Rattle.std.proofs.Common.{◌+◌, ◌-◌, ◌*◌, arith, drop, length-drop, length-take}
-use Rattle.fl_packed.proofs.Slices.{between_front}
+use Rattle.fl_packed.proofs.Slices.{between_front, part_read}
 use Rattle.fl_packed.proofs.packing.pack_at.Goals as goal
 
 pub returns-clause-before : goal.returns-clause-before
@@ -15,3 +15,13 @@ pack_block-requires-clause-room g c =
     let rest = length-drop start c.args.bytes.now in
     let taken = length-take (start + 128 * c.args.width - start) (drop start c.args.bytes.now) in
     omega arith
+
+pub returns-clause-packed : goal.returns-clause-packed
+returns-clause-packed g c =
+    let within = c.requires.within in
+    let start = c.args.start in
+    let end = start + 128 * c.args.width in
+    let rest = length-drop start c.args.bytes.now in
+    let taken = length-take (end - start) (drop start c.args.bytes.now) in
+    let kept = c.pack_block.auto.block in
+    rw (part_read start end c.args.bytes.now c.pack_block.new.block _ (omega arith) (omega arith)) c.pack_block.ensures

@@ -3,6 +3,7 @@ use Rattle.std.proofs.lemmas.Bool.{ltb-true}
 use Rattle.std.proofs.lemmas.List.{length-map}
 use Rattle.fl_plain.proofs.ListLaws.{all_at}
 use Rattle.fl_patches.proofs.Picked.{picked_more, picked_all}
+use Rattle.fl_types.proofs.Refused.{no_memory}
 use Rattle.fl_patches.proofs.found.values_at_typed.Goals as goal
 
 pub loop-rank-preserved : goal.loop-rank-preserved
@@ -17,3 +18,12 @@ bounds-slots-rank g c =
     let low = ltb-true (get_or c.args.ranks.now c.loop-rank.rank-index 0) (length slots) (all_at (λ rank. nat_lt rank (length slots)) c.args.ranks.now c.loop-rank.rank-index 0 c.requires.ranked c.loop-rank-test.true) in
     let long = sym (length-map c.as_slice-slots.result.now g.T.Number.value) ∙ ap length c.as_slice-slots.ensures in
     omega arith
+
+pub returns-in_err-picked : goal.returns-in_err-picked
+returns-in_err-picked g c = no_memory _ c.from_residual.result _ c.from_residual.ensures.1
+
+pub returns-in_err-push : goal.returns-in_err-push
+returns-in_err-push g c = no_memory _ c.from_residual-in_err-push.result _ c.from_residual-in_err-push.ensures.1
+
+pub loop-rank-init : goal.loop-rank-init
+loop-rank-init g c = ap (map g.T.Number.value) c.in_ok-picked.ensures.items

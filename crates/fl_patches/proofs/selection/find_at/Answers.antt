@@ -1,5 +1,6 @@
 use Rattle.fl_patches.proofs.Picked.{found_more, found_all}
 use Rattle.fl_patches.proofs.Rising.{read}
+use Rattle.fl_types.proofs.Refused.{no_value, memory_there}
 use Rattle.fl_patches.proofs.selection.find_at.Goals as goal
 
 pub rank_at-requires : goal.rank_at-requires
@@ -10,3 +11,9 @@ loop-place-preserved g c = found_more c.args.offset (read g.I.Number.value c.as_
 
 pub returns : goal.returns
 returns g c = record { found = found_all g.I.Number.value c.as_slice-indices.result.now c.args.indices.now.slots c.args.offset c.args.positions.now c.loop-place.place c.loop-place.found.places.items c.loop-place.found.ranks.items c.as_slice-indices.ensures c.loop-place.invariant c.loop-place-test.false; memory = tt }
+
+pub returns-in_err-push-clause-found : goal.returns-in_err-push-clause-found
+returns-in_err-push-clause-found g c = no_value _ _ c.from_residual.result c.from_residual.ensures.1
+
+pub returns-in_err-push-clause-memory : goal.returns-in_err-push-clause-memory
+returns-in_err-push-clause-memory g c = memory_there c.from_residual.result _ c.from_residual.ensures.1 c.in_err-push.ensures.memory

@@ -5,6 +5,7 @@ use Rattle.fl_types.proofs.MaskLaws.{length-mask_bits}
 use Rattle.fl_patches.specs.PatchMaps.{count_below, ranks_at}
 use Rattle.fl_patches.proofs.Kept.{kept_to, kept_to_end, kept_to_no, kept_to_yes, ranks_more}
 use Rattle.fl_patches.proofs.Rising.{read}
+use Rattle.fl_types.proofs.Refused.{no_value, memory_there}
 use Rattle.fl_patches.proofs.selection.find_kept.Goals as goal
 use Rattle.fl_patches.proofs.selection.find_kept.Goals.{then-get+in_ok-push, else-get}
 
@@ -53,3 +54,12 @@ pub returns-clause-len : goal.returns-clause-len
 returns-clause-len g c =
     let end = kept_to_end c.args.mask.now c.loop-i.i (omega (arith, c.len-i-end.ensures)) in
     c.loop-i.invariant.len ∙ ap length end
+
+pub returns-in_err-push-clause-found : goal.returns-in_err-push-clause-found
+returns-in_err-push-clause-found g c = no_value _ _ c.from_residual.result c.from_residual.ensures.1
+
+pub returns-in_err-push-clause-len : goal.returns-in_err-push-clause-len
+returns-in_err-push-clause-len g c = no_value _ _ c.from_residual.result c.from_residual.ensures.1
+
+pub returns-in_err-push-clause-memory : goal.returns-in_err-push-clause-memory
+returns-in_err-push-clause-memory g c = memory_there c.from_residual.result _ c.from_residual.ensures.1 c.in_err-push.ensures.memory

@@ -5,6 +5,7 @@ use Rattle.fl_plain.specs.Columns.{Plain}
 use Rattle.fl_patches.specs.PatchMaps.{AreOrdered, PatchMap, patches_at}
 use Rattle.fl_patches.proofs.Parts.{sound}
 use Rattle.fl_patches.proofs.Selected.{found_in_order, found_selected}
+use Rattle.fl_types.proofs.Refused.{no_memory_there}
 use Rattle.fl_patches.proofs.selection.select.Goals as goal
 
 pub finish-requires : goal.finish-requires
@@ -24,3 +25,6 @@ returns c =
     let of_values : Plain → Type 0 = λ v. Answers (λ o. o) c.finish.result (Ok (patches_at (length positions) v.ptype (nullability_of v.validity) f.places.items (map (λ rank. get_or v.slots rank (pos 0)) f.ranks.items))) in
     let of_patches : Option PatchMap → Type 0 = λ o. Answers (λ o'. o') c.finish.result (Ok o) in
     subst of_patches (found_selected p positions f.places.items f.ranks.items (length positions) found refl) (subst of_values c.values.ensures c.finish.ensures)
+
+pub returns-in_err-found : goal.returns-in_err-found
+returns-in_err-found c = no_memory_there _ c.from_residual.result _ _ c.from_residual.ensures.1 c.in_err-found.ensures.memory

@@ -2,6 +2,7 @@ use Rattle.std.proofs.Common.{map, option_map, refl, take}
 use Rattle.fl_types.specs.Slots.{integers_of}
 use Rattle.fl_types.specs.Validities.{items_of, masked}
 use Rattle.fl_plain.proofs.GatherLaws.{covers_read, cast_more, cast_all, cast_fails, cast_nulls, items_all}
+use Rattle.fl_types.proofs.Refused.{no_memory_there}
 use Rattle.fl_plain.proofs.casting.cast_typed.Goals as goal
 
 pub loop-i-preserved : goal.loop-i-preserved
@@ -31,3 +32,9 @@ loop-i-init g c = record { even = c.in_ok-cast.ensures.even; fit = refl; items =
 
 pub item_at-requires-clause-range : goal.item_at-requires-clause-range
 item_at-requires-clause-range g c = c.loop-i-test.true
+
+pub returns-in_err-cast : goal.returns-in_err-cast
+returns-in_err-cast g c = no_memory_there _ c.from_residual.result _ _ c.from_residual.ensures.1 c.in_err-cast.ensures.memory
+
+pub returns-in_err-push : goal.returns-in_err-push
+returns-in_err-push g c = no_memory_there _ c.from_residual-in_err-push.result _ _ c.from_residual-in_err-push.ensures.1 c.in_err-push.ensures.memory

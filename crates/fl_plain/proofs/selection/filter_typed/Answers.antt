@@ -2,6 +2,7 @@ use Rattle.std.proofs.Common.{length, map, option_map}
 use Rattle.fl_types.specs.Slots.{integers_of, ptype_of}
 use Rattle.fl_types.specs.Validities.{masked}
 use Rattle.fl_plain.proofs.GatherLaws.{bit_within, covers_read, filtered_yes, filtered_no, filtered_nulls, filtered_all}
+use Rattle.fl_types.proofs.Refused.{no_memory_there}
 use Rattle.fl_plain.proofs.selection.filter_typed.Goals as goal
 use Rattle.fl_plain.proofs.selection.filter_typed.Goals.{then-get+in_ok-push, else-get}
 
@@ -29,3 +30,9 @@ loop-i-init g c = record { even = c.in_ok-kept.ensures.even; items = c.in_ok-kep
 
 pub item_at-requires-clause-range : goal.item_at-requires-clause-range
 item_at-requires-clause-range g c = c.loop-i-test.true
+
+pub returns-in_err-kept : goal.returns-in_err-kept
+returns-in_err-kept g c = no_memory_there _ c.from_residual.result _ _ c.from_residual.ensures.1 c.in_err-kept.ensures.memory
+
+pub returns-in_err-push : goal.returns-in_err-push
+returns-in_err-push g c = no_memory_there _ c.from_residual-in_err-push.result _ _ c.from_residual-in_err-push.ensures.1 c.in_err-push.ensures.memory

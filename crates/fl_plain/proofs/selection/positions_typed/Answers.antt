@@ -1,6 +1,7 @@
-use Rattle.std.proofs.Common.{option_map, rules}
+use Rattle.std.proofs.Common.{option_map, rules, refl}
 use Rattle.fl_types.specs.Slots.{integers_of}
 use Rattle.fl_plain.proofs.GatherLaws.{covers_read, positions_more, positions_fail, positions_end}
+use Rattle.fl_types.proofs.Refused.{no_memory}
 use Rattle.fl_plain.proofs.selection.positions_typed.Goals as goal
 
 pub loop-i-preserved : goal.loop-i-preserved
@@ -23,3 +24,12 @@ item_at-index-requires-clause-range g c = c.loop-i-test.true
 -- said here, where the search finds it too: a body that breaks it is refused at once
 pub position_of-requires : goal.position_of-requires
 position_of-requires g c = search rules
+
+pub returns-in_err-positions : goal.returns-in_err-positions
+returns-in_err-positions g c = no_memory _ c.from_residual.result _ c.from_residual.ensures.1
+
+pub returns-in_err-push : goal.returns-in_err-push
+returns-in_err-push g c = no_memory _ c.from_residual-in_err-push.result _ c.from_residual-in_err-push.ensures.1
+
+pub loop-i-init : goal.loop-i-init
+loop-i-init g c = record { range = refl; items = c.in_ok-positions.ensures.items }

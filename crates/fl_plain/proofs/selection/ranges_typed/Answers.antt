@@ -6,6 +6,7 @@ use Rattle.fl_types.specs.Slots.{integers_of, ptype_of}
 use Rattle.fl_plain.proofs.ListLaws.{all_at, all_ranges}
 use Rattle.fl_plain.proofs.GatherLaws.{covers_read, ranges_more, ranges_all}
 use Rattle.fl_plain.proofs.SelectionLaws.{stands}
+use Rattle.fl_types.proofs.Refused.{no_memory_there}
 use Rattle.fl_plain.proofs.selection.ranges_typed.Goals as goal
 
 pub push_range-requires-clause-range : goal.push_range-requires-clause-range
@@ -34,3 +35,9 @@ push_range-requires-clause-covers g c = covers_read g.T.Number.value c.as_slice-
 
 pub returns : goal.returns
 returns g c = ranges_all c.args.validity.now (integers_of c.args.slots.now) c.args.ranges.now c.loop-range.range-index g.T.NativePType.PTYPE (ptype_of c.args.slots.now) c.nullability.result (masked c.loop-range.taken.bits (map g.T.Number.value c.loop-range.taken.slots.items)) c.finish.result c.finish.ensures c.requires.same c.nullability.ensures c.loop-range.invariant.items c.loop-range-test.false
+
+pub returns-in_err-taken : goal.returns-in_err-taken
+returns-in_err-taken g c = no_memory_there _ c.from_residual.result _ _ c.from_residual.ensures.1 c.in_err-taken.ensures.memory
+
+pub returns-in_err-push_range : goal.returns-in_err-push_range
+returns-in_err-push_range g c = no_memory_there _ c.from_residual-in_err-push_range.result _ _ c.from_residual-in_err-push_range.ensures.1 c.in_err-push_range.ensures.memory

@@ -3,6 +3,7 @@ use Rattle.fl_types.specs.Slots.{integers_of, ptype_of}
 use Rattle.fl_types.specs.Validities.{items_of, masked}
 use Rattle.fl_plain.specs.Selections.{item_at_position, items_at}
 use Rattle.fl_plain.proofs.GatherLaws.{covers_read, mapped_all, nulls_kept, gathered_all, position_below, taken_item_more}
+use Rattle.fl_types.proofs.Refused.{no_memory_there}
 use Rattle.fl_plain.proofs.selection.take_typed.Goals as goal
 
 pub loop-position-preserved : goal.loop-position-preserved
@@ -31,3 +32,9 @@ item_at_position-requires-clause-covers g c = covers_read g.T.Number.value c.as_
 
 pub loop-position-init : goal.loop-position-init
 loop-position-init g c = record { even = c.in_ok-taken.ensures.even; items = c.in_ok-taken.ensures.items }
+
+pub returns-in_err-taken : goal.returns-in_err-taken
+returns-in_err-taken g c = no_memory_there _ c.from_residual.result _ _ c.from_residual.ensures.1 c.in_err-taken.ensures.memory
+
+pub returns-in_err-push : goal.returns-in_err-push
+returns-in_err-push g c = no_memory_there _ c.from_residual-in_err-push.result _ _ c.from_residual-in_err-push.ensures.1 c.in_err-push.ensures.memory

@@ -1,4 +1,5 @@
-use Rattle.std.proofs.Common.{◌≡◌, ◌+◌, ◌-◌, ◌<◌, sum, drop, length, get_or, arith, refl, sym, subst}
+use Rattle.std.proofs.Common.{◌≡◌, ◌+◌, ◌-◌, ◌<◌, ◌≤◌, sum, drop, length, get_or, arith, refl, sym, subst}
+use Rattle.std.proofs.lemmas.List.Sums.{get_or-le-sum_by}
 use Rattle.fl_widths.specs.Costs.{cost_of}
 use Rattle.fl_widths.proofs.LeastCosts.{above_next, best_is, best_none, cost_at, first_least_one, first_least_keeps, first_least_takes, IsFirstLeast}
 use Rattle.fl_widths.proofs.best_width.least_cost.Goals as goal
@@ -45,3 +46,15 @@ returns c =
     let h = c.args.histogram.now in
     let e : c.loop-width.width ≡ length h = omega arith in
     sym (best_is c.args.ptype h c.loop-width.best (let all : IsFirstLeast (cost_of c.args.ptype h) (length h) c.loop-width.best = subst (λ n. IsFirstLeast (cost_of c.args.ptype h) n c.loop-width.best) e c.loop-width.invariant.best in all))
+
+pub overflow_sub-above : goal.overflow_sub-above
+overflow_sub-above c =
+    let part : get_or c.args.histogram.now 0 0 ≤ sum c.args.histogram.now = get_or-le-sum_by (λ x. x) c.args.histogram.now 0 0 (omega arith) in
+    omega (arith, c.total-count.ensures.value)
+
+pub overflow_sub-above-in-loop-width : goal.overflow_sub-above-in-loop-width
+overflow_sub-above-in-loop-width c =
+    let h = c.args.histogram.now in
+    let i = c.loop-width.width in
+    let next : sum (drop i h) ≡ get_or h i 0 + sum (drop (i + 1) h) = above_next h i (get_or h i 0) 0 (omega arith) refl in
+    omega (arith, next, c.loop-width.invariant.above)

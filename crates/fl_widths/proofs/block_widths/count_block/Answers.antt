@@ -1,6 +1,7 @@
-use Rattle.std.proofs.Common.{◌≤◌, ◌+◌, ◌-◌, ◌*◌, get_or, map, arith, refl}
+use Rattle.std.proofs.Common.{◌≡◌, ◌≤◌, ◌+◌, ◌-◌, ◌*◌, length, get_or, map, ap, ◌∙◌, arith, refl}
+use Rattle.fl_types.specs.Integers.{bits_of_type}
 use Rattle.fl_types.specs.Validities.{items_of}
-use Rattle.fl_widths.proofs.Histograms.{counts_fit}
+use Rattle.fl_widths.proofs.Histograms.{counts_fit, length-histogram}
 use Rattle.fl_widths.proofs.LeastTotals.{block_counted}
 use Rattle.fl_widths.proofs.block_widths.count_block.Goals as goal
 
@@ -11,3 +12,13 @@ overflow_add-entries g c =
 
 pub returns : goal.returns
 returns g c = block_counted g.T.NativePType.PTYPE g.T.Number.value c.args.validity.now c.args.items.now c.args.block c.min-size.result _ c.count_items.new.entries c.requires.covers c.requires.begun c.min-size.ensures c.count_items.ensures refl
+
+pub bounds-entries-0 : goal.bounds-entries-0
+bounds-entries-0 g c =
+    let long : length c.count_items.new.entries ≡ bits_of_type g.T.NativePType.PTYPE + 1 = ap length c.count_items.ensures ∙ length-histogram g.T.NativePType.PTYPE _ in
+    omega arith
+
+pub bounds-entries-0-2 : goal.bounds-entries-0-2
+bounds-entries-0-2 g c =
+    let long : length c.count_items.new.entries ≡ bits_of_type g.T.NativePType.PTYPE + 1 = ap length c.count_items.ensures ∙ length-histogram g.T.NativePType.PTYPE _ in
+    omega arith

@@ -4,6 +4,7 @@ use Rattle.fl_types.specs.Validities.{items_of}
 use Rattle.fl_widths.proofs.BitCounts.{type_most}
 use Rattle.fl_widths.proofs.Gathers.{covered_values}
 use Rattle.fl_widths.proofs.LeastTotals.{chosen_after, exceptions_few, exceptions_more, exceptions_none, exceptions_to, widths_more, widths_none}
+use Rattle.fl_types.proofs.Refused.{no_value}
 use Rattle.fl_widths.proofs.block_widths.widths_of.Goals as goal
 
 pub loop-block-init : goal.loop-block-init
@@ -40,3 +41,9 @@ returns g c =
     let items = items_of c.args.validity.now (map g.T.Number.value c.args.items.now) in
     let count : length items ≡ length c.args.items.now = covered_values g.T.Number.value c.args.validity.now c.args.items.now c.requires in
     chosen_after g.T.NativePType.PTYPE items c.loop-block.block c.loop-block.widths.items c.loop-block.total (omega arith) c.loop-block.invariant.best c.loop-block.invariant.counted
+
+pub returns-in_err-widths : goal.returns-in_err-widths
+returns-in_err-widths g c = no_value _ _ c.from_residual.result c.from_residual.ensures.1
+
+pub returns-in_err-push : goal.returns-in_err-push
+returns-in_err-push g c = no_value _ _ c.from_residual-in_err-push.result c.from_residual-in_err-push.ensures.1

@@ -5,6 +5,7 @@ use Rattle.fl_widths.specs.Exceptions.{exceptions_of}
 use Rattle.fl_widths.specs.PatchParts.{counts_before}
 use Rattle.fl_widths.specs.Widths.{width_at}
 use Rattle.fl_widths.proofs.Gathers.{all_found, blocks_none, named_at}
+use Rattle.fl_types.proofs.Refused.{no_value}
 use Rattle.fl_widths.proofs.gathering.find.Goals as goal
 
 pub loop-block-init : goal.loop-block-init
@@ -25,3 +26,21 @@ returns-clause-offsets g c =
     let all = exceptions_of g.T.NativePType.PTYPE (width_at c.args.widths) (items_of c.args.validity.now (map g.T.Number.value c.args.items.now)) in
     let end : c.loop-block.block ≡ chunk_count (length c.args.items.now) = omega arith in
     c.loop-block.invariant.counted ∙ ap (counts_before all) end
+
+pub returns-in_err-found-clause-found : goal.returns-in_err-found-clause-found
+returns-in_err-found-clause-found g c = no_value _ _ c.from_residual.result c.from_residual.ensures.1
+
+pub returns-in_err-found-clause-offsets : goal.returns-in_err-found-clause-offsets
+returns-in_err-found-clause-offsets g c = no_value _ _ c.from_residual.result c.from_residual.ensures.1
+
+pub returns-in_err-offsets-clause-found : goal.returns-in_err-offsets-clause-found
+returns-in_err-offsets-clause-found g c = no_value _ _ c.from_residual-in_err-offsets.result c.from_residual-in_err-offsets.ensures.1
+
+pub returns-in_err-offsets-clause-offsets : goal.returns-in_err-offsets-clause-offsets
+returns-in_err-offsets-clause-offsets g c = no_value _ _ c.from_residual-in_err-offsets.result c.from_residual-in_err-offsets.ensures.1
+
+pub returns-in_err-push_block-clause-found : goal.returns-in_err-push_block-clause-found
+returns-in_err-push_block-clause-found g c = no_value _ _ c.from_residual-in_err-push_block.result c.from_residual-in_err-push_block.ensures.1
+
+pub returns-in_err-push_block-clause-offsets : goal.returns-in_err-push_block-clause-offsets
+returns-in_err-push_block-clause-offsets g c = no_value _ _ c.from_residual-in_err-push_block.result c.from_residual-in_err-push_block.ensures.1

@@ -4,6 +4,7 @@ use Rattle.fl_patches.proofs.Narrowed.{smallest_unsigned}
 use Rattle.fl_widths.specs.Widths.{width_at}
 use Rattle.fl_widths.proofs.Gathers.{covered_slice, named_slice}
 use Rattle.fl_widths.proofs.Patches.{answered_are, found_of, found_patches}
+use Rattle.fl_types.proofs.Refused.{no_value, no_memory}
 use Rattle.fl_widths.proofs.gathering.gather_typed.Goals as goal
 
 pub find-requires-clause-covers : goal.find-requires-clause-covers
@@ -24,3 +25,9 @@ returns-clause-parts g c =
 
 pub returns-clause-map : goal.returns-clause-map
 returns-clause-map g c = answered_are c.args.array.now (smallest_type c.args.holds) (width_at c.args.widths) c.patches_of.result (smallest_unsigned c.args.holds) c.validity.ensures.covers (returns-clause-parts g c)
+
+pub returns-in_err-found-clause-parts : goal.returns-in_err-found-clause-parts
+returns-in_err-found-clause-parts g c = no_memory _ c.from_residual.result _ c.from_residual.ensures.1
+
+pub returns-in_err-found-clause-map : goal.returns-in_err-found-clause-map
+returns-in_err-found-clause-map g c = no_value _ _ c.from_residual.result c.from_residual.ensures.1

@@ -4,6 +4,7 @@ use Rattle.fl_types.specs.Validities.{full_validity, nullability_of}
 use Rattle.fl_plain.specs.Columns.{Plain}
 use Rattle.fl_patches.proofs.Parts.{ok_same}
 use Rattle.fl_widths.proofs.Patches.{below_more, ok_from, parts, parts_are, patches_some_of}
+use Rattle.fl_types.proofs.Refused.{no_memory_there, only_memory}
 use Rattle.fl_widths.proofs.gathering.patches_of.Goals as goal
 
 pub index_array-requires : goal.index_array-requires
@@ -29,3 +30,6 @@ returns g c =
     c.number_array-offsets.ensures c.new.ensures in
     let same = ok_same c.unwrap-patches.result (parts (smallest_type c.args.holds) (length p.slots) p.ptype (nullability_of p.validity) c.args.found.places.items (map g.T.Number.value c.args.found.values.items)) (sym c.unwrap-patches.ensures ∙ made) in
     ap (λ o. Ok o) (patches_some_of (smallest_type c.args.holds) (length p.slots) p.ptype (nullability_of p.validity) c.args.found.places.items (map g.T.Number.value c.args.found.values.items) some ∙ ap (λ q. Some q) same)
+
+pub returns-in_err-indices : goal.returns-in_err-indices
+returns-in_err-indices g c = no_memory_there _ c.from_residual.result _ _ c.from_residual.ensures.1 (only_memory _ _ c.in_err-indices.ensures)

@@ -1,6 +1,7 @@
-use Rattle.std.proofs.Common.{◌≡◌, ◌≤◌, ◌-◌, length, map, get_or, arith, refl, Some}
+use Rattle.std.proofs.Common.{◌≡◌, ◌≤◌, ◌-◌, length, map, get_or, arith, refl, ap, ◌∙◌, ◌+◌, Some}
 use Rattle.std.proofs.lemmas.List.{length-map}
-use Rattle.fl_widths.proofs.Histograms.{counts_fit, counts_next, counts_none, item_present}
+use Rattle.fl_types.specs.Integers.{bits_of_type}
+use Rattle.fl_widths.proofs.Histograms.{counts_fit, counts_next, counts_none, length-histogram, item_present}
 use Rattle.fl_widths.proofs.histogram.count_present.Goals as goal
 
 pub loop-i-init : goal.loop-i-init
@@ -18,3 +19,16 @@ loop-i-preserved g c =
     let long : length items ≡ length (map g.T.Number.value c.args.items.now) = length-map (map g.T.Number.value c.args.items.now) (λ z. Some z) in
     counts_next g.T.NativePType.PTYPE items c.args.start c.loop-i.i c.bits_of-count.result _ c.loop-i.entries (omega arith) (omega arith)
     (item_present g.T.NativePType.PTYPE g.T.Number.value c.args.items.now c.loop-i.i c.bits_of-count.result c.index-items-i.result (omega arith) c.index-items-i.is c.bits_of-count.ensures.count) refl c.loop-i.invariant
+
+pub bounds-entries-count : goal.bounds-entries-count
+bounds-entries-count g c =
+    let long : length c.loop-i.entries ≡ bits_of_type g.T.NativePType.PTYPE + 1 = ap length c.loop-i.invariant ∙ length-histogram g.T.NativePType.PTYPE _ in
+    omega arith
+
+pub bounds-entries-count-in-loop-i : goal.bounds-entries-count-in-loop-i
+bounds-entries-count-in-loop-i g c =
+    let long : length c.loop-i.entries ≡ bits_of_type g.T.NativePType.PTYPE + 1 = ap length c.loop-i.invariant ∙ length-histogram g.T.NativePType.PTYPE _ in
+    omega arith
+
+pub returns : goal.returns
+returns g c = let all : c.loop-i.i ≡ c.args.end = omega arith in rw all at c.loop-i.invariant

@@ -3,6 +3,9 @@ use Rattle.fastlanes.proofs.Patterns.{pattern_filled}
 use Rattle.flcol_engine.proofs.ColumnLemmas.{block_filled}
 use Rattle.flcol_engine.proofs.packing.fill_block.Goals as goal
 
+pub loop-i-init : goal.loop-i-init
+loop-i-init g c = record { whole = search rules; filled = λ k h. absurd (omega arith) }
+
 pub loop-i-preserved : goal.loop-i-preserved
 loop-i-preserved g c = record {
   whole = search rules;

@@ -5,6 +5,13 @@ use Rattle.flcol_engine.specs.Column.{block_count}
 use Rattle.flcol_engine.proofs.ColumnLemmas.{packed_added, size_added}
 use Rattle.flcol_engine.proofs.packing.packed_blocks.Goals as goal
 
+pub loop-j-init : goal.loop-j-init
+loop-j-init g c = record {
+  room = c.requires.room;
+  size = rw c.new-bytes.ensures.items (omega arith);
+  blocks = λ k h. absurd (omega arith);
+}
+
 pub loop-j-preserved : goal.loop-j-preserved
 loop-j-preserved g c =
     let new_size : length c.pack_block.new.bytes ≡ 128 * c.args.width = omega arith in

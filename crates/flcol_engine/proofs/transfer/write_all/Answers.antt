@@ -1,4 +1,5 @@
-use Rattle.std.proofs.Common.{arith, rules}
+use Rattle.std.proofs.Common.{arith, refl, rules}
+use Rattle.std.proofs.KnownBytes.{Appends-nil}
 use Rattle.std.proofs.lemmas.Result.{err_from_is_err_and}
 use Rattle.flcol_engine.proofs.EndLemmas.{piece_added, front_added}
 use Rattle.flcol_engine.proofs.transfer.write_all.Goals as goal
@@ -16,3 +17,6 @@ loop-at-preserved g c = record {
 -- said here, where the search finds it too: a body that breaks it is refused at once
 pub returns-clause-mark : goal.returns-clause-mark
 returns-clause-mark g c = search rules
+
+pub loop-at-init : goal.loop-at-init
+loop-at-init g c = record { added = Appends-nil _; mark = refl; within = omega arith }

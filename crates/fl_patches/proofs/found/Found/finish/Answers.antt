@@ -3,6 +3,7 @@ use Rattle.fl_types.specs.Validities.{full_validity, nullability_of}
 use Rattle.fl_patches.specs.PatchMaps.{PatchMap, refusal_of}
 use Rattle.fl_patches.proofs.Parts.{ok_same}
 use Rattle.fl_patches.proofs.Selected.{picked_accepted, picked_at, picked_is}
+use Rattle.fl_types.proofs.Refused.{no_memory_there, only_memory}
 use Rattle.fl_patches.proofs.found.Found.finish.Goals as goal
 
 pub from_parts-requires : goal.from_parts-requires
@@ -28,3 +29,9 @@ returns c =
     let same = picked_is c.args.len v.ptype (nullability_of v.validity) places (map value ranks) c.in_ok-indices.indices c.in_ok-values.values indices values in
     let at = picked_at c.args.len v.ptype (nullability_of v.validity) places (map value ranks) (omega arith) in
     ap (λ o. Ok o) (at ∙ ap (λ p. Some p) (same ∙ sym c.from_parts.ensures))
+
+pub returns-in_err-values : goal.returns-in_err-values
+returns-in_err-values c = no_memory_there _ c.from_residual.result _ _ c.from_residual.ensures.1 (only_memory _ _ c.in_err-values.ensures)
+
+pub returns-in_err-indices : goal.returns-in_err-indices
+returns-in_err-indices c = no_memory_there _ c.from_residual-in_err-indices.result _ _ c.from_residual-in_err-indices.ensures.1 (only_memory _ _ c.in_err-indices.ensures)

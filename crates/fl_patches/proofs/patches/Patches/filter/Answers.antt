@@ -6,6 +6,7 @@ use Rattle.fl_plain.specs.Columns.{Plain}
 use Rattle.fl_patches.specs.PatchMaps.{AreFound, AreOrdered, ArePatches, PatchMap, filter_patches, kept_positions, numbers, patched_in_filter, patches_at, ranks_at}
 use Rattle.fl_patches.proofs.Parts.{none_before, sound}
 use Rattle.fl_patches.proofs.Selected.{answered, filter_are, found_in_order, found_selected}
+use Rattle.fl_types.proofs.Refused.{no_value, no_memory_there}
 use Rattle.fl_patches.proofs.patches.Patches.filter.Goals as goal
 
 pub find_by_mask-requires-clause-first : goal.find_by_mask-requires-clause-first
@@ -38,3 +39,9 @@ returns-clause-map c =
     let positions = kept_positions c.args.mask.now p.array_len in
     let are : Option PatchMap → Type 0 = λ o. ArePatches o (length positions) (patched_in_filter c.args.mask.now p) in
     answered c.finish.result (Ok (filter_patches c.args.mask.now p)) are (filter_are p positions) (returns-clause-parts c)
+
+pub returns-in_err-found-clause-parts : goal.returns-in_err-found-clause-parts
+returns-in_err-found-clause-parts c = no_memory_there _ c.from_residual.result _ _ c.from_residual.ensures.1 c.in_err-found.ensures.memory
+
+pub returns-in_err-found-clause-map : goal.returns-in_err-found-clause-map
+returns-in_err-found-clause-map c = no_value _ _ c.from_residual.result c.from_residual.ensures.1

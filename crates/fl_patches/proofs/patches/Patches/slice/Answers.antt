@@ -1,9 +1,11 @@
-use Rattle.std.proofs.Common.{◌≡◌, ◌≢◌, ◌+◌, ◌-◌, ◌<◌, ◌^◌, None, get_or, subst, sym, refl, ◌∙◌, arith}
+use Rattle.std.proofs.Common.{◌≡◌, ◌≢◌, ◌+◌, ◌-◌, ◌<◌, ◌^◌, None, Some, Ok, get_or, subst, sym, refl, ◌∙◌, arith}
 use Rattle.std.proofs.lemmas.Bool.{eq-eqb, ne_eqb}
 use Rattle.fl_plain.specs.Columns.{slice_plain}
-use Rattle.fl_patches.specs.PatchMaps.{PatchMap, numbers, patched, patches_before, refusal_of}
+use Rattle.fl_patches.specs.PatchMaps.{ArePatches, PatchMap, numbers, patched, patches_before, refusal_of, slice_patches}
 use Rattle.fl_patches.proofs.Parts.{ok_same, patches_none, patches_some, sound, unrefused_parts}
 use Rattle.fl_patches.proofs.Slices.{before_in_order, before_within, cut, cut_is, first_at, none_cut, patched_cut, sound_cut}
+use Rattle.fl_types.specs.Refusals.{Answers}
+use Rattle.fl_types.proofs.Refused.{no_value, no_memory_there, only_memory}
 use Rattle.fl_patches.proofs.patches.Patches.slice.Goals as goal
 
 pub count_in-first-requires : goal.count_in-first-requires
@@ -115,7 +117,11 @@ returns-clause-parts c =
     let other : patches_before start p ≢ patches_before end p = λ e. c.if-first-last.false (first ∙ (e ∙ sym last)) in
     let indices : c.in_ok-slice_of.field-0 ≡ slice_plain c.count_in-first.result c.count_in-last.result p.indices = ok_same _ _ c.in_ok-slice_of.ensures in
     let values : c.in_ok-slice_of-2.field-0 ≡ slice_plain c.count_in-first.result c.count_in-last.result p.values = ok_same _ _ c.in_ok-slice_of-2.ensures in
-    rw (indices, values, first, last, ← c.self.view_is, ne_eqb _ _ other) refl
+    let same = cut_is p start end c.count_in-first.result c.count_in-last.result (patches_before start p) (patches_before end p) c.in_ok-slice_of.field-0 c.in_ok-slice_of-2.field-0 first last indices values in
+    let result : PatchMap = record { array_len = end - start; offset = p.offset + start; indices = c.in_ok-slice_of.field-0; values = c.in_ok-slice_of-2.field-0; chunk_offsets = None } in
+    let of_result : PatchMap → Type 0 = λ q. Answers (λ o. o) (Ok (Some q)) (Ok (slice_patches start end p)) in
+    let of_self : PatchMap → Type 0 = λ q. Answers (λ o. o) (Ok (Some result)) (Ok (slice_patches start end q)) in
+    subst of_self c.self.view_is (subst of_result (sym same) (rw (ne_eqb _ _ other) refl))
 
 pub returns-clause-map : goal.returns-clause-map
 returns-clause-map c =
@@ -130,4 +136,20 @@ returns-clause-map c =
     let values : c.in_ok-slice_of-2.field-0 ≡ slice_plain c.count_in-first.result c.count_in-last.result p.values = ok_same _ _ c.in_ok-slice_of-2.ensures in
     let s = sound p c.self.invariant in
     let sliced = cut start end (patches_before start p) (patches_before end p) p in
-    rw (indices, values, first, last, ← c.self.view_is) (patches_some sliced (λ i. patched p (start + i)) (sound_cut p start end s c.requires.order other) (λ i h. patched_cut p start end i s c.requires.order h))
+    let same = cut_is p start end c.count_in-first.result c.count_in-last.result (patches_before start p) (patches_before end p) c.in_ok-slice_of.field-0 c.in_ok-slice_of-2.field-0 first last indices values in
+    let result : PatchMap = record { array_len = end - start; offset = p.offset + start; indices = c.in_ok-slice_of.field-0; values = c.in_ok-slice_of-2.field-0; chunk_offsets = None } in
+    let of_result : PatchMap → Type 0 = λ q. ArePatches (Some q) (end - start) (λ i. patched p (start + i)) in
+    let of_self : PatchMap → Type 0 = λ q. ArePatches (Some result) (end - start) (λ i. patched q (start + i)) in
+    subst of_self c.self.view_is (subst of_result (sym same) (patches_some sliced (λ i. patched p (start + i)) (sound_cut p start end s c.requires.order other) (λ i h. patched_cut p start end i s c.requires.order h)))
+
+pub returns-in_err-slice_of-clause-parts : goal.returns-in_err-slice_of-clause-parts
+returns-in_err-slice_of-clause-parts c = no_memory_there _ c.from_residual.result _ _ c.from_residual.ensures.1 (only_memory _ _ c.in_err-slice_of.ensures)
+
+pub returns-in_err-slice_of-clause-map : goal.returns-in_err-slice_of-clause-map
+returns-in_err-slice_of-clause-map c = no_value _ _ c.from_residual.result c.from_residual.ensures.1
+
+pub returns-in_err-slice_of-2-clause-parts : goal.returns-in_err-slice_of-2-clause-parts
+returns-in_err-slice_of-2-clause-parts c = no_memory_there _ c.from_residual-in_err-slice_of-2.result _ _ c.from_residual-in_err-slice_of-2.ensures.1 (only_memory _ _ c.in_err-slice_of-2.ensures)
+
+pub returns-in_err-slice_of-2-clause-map : goal.returns-in_err-slice_of-2-clause-map
+returns-in_err-slice_of-2-clause-map c = no_value _ _ c.from_residual-in_err-slice_of-2.result c.from_residual-in_err-slice_of-2.ensures.1

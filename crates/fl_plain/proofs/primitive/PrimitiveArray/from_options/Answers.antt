@@ -1,6 +1,7 @@
-use Rattle.std.proofs.Common.{◌≡◌, ◌∙◌, ◌+◌, ◌++◌, ◌∷◌, [], map, take, option_map, is_some, unwrap_or, pos, refl, ap, arith}
+use Rattle.std.proofs.Common.{◌≡◌, ◌∙◌, ◌+◌, ◌++◌, ◌∷◌, [], map, take, option_map, is_some, length, unwrap_or, pos, refl, ap, arith}
 use Rattle.std.proofs.lemmas.List.{take_all, map_push, length_push}
 use Rattle.fl_plain.proofs.ItemLaws.{new_options, map_read, is_some-option_map, slot_value}
+use Rattle.fl_types.proofs.Refused.{no_memory, no_memory_there}
 use Rattle.fl_plain.proofs.primitive.PrimitiveArray.from_options.Goals as goal
 
 pub returns : goal.returns
@@ -28,3 +29,15 @@ loop-option-preserved g c =
       bits = rw (c.in_ok-push-2.ensures.ok, more, new_bits, bit, c.loop-option.invariant.bits) refl;
       slots = rw (c.in_ok-push.ensures.items, more, new_slots, pushed, slot, c.loop-option.invariant.slots) refl;
     }
+
+pub loop-option-init : goal.loop-option-init
+loop-option-init g c = record { each = ap (λ bits. length bits) c.new-bits.ensures; bits = c.new-bits.ensures; slots = ap (map g.T.Number.value) c.in_ok-slots.ensures.items }
+
+pub returns-in_err-slots : goal.returns-in_err-slots
+returns-in_err-slots g c = record { plain = no_memory _ c.from_residual.result _ c.from_residual.ensures.1 }
+
+pub returns-in_err-push : goal.returns-in_err-push
+returns-in_err-push g c = record { plain = no_memory _ c.from_residual-in_err-push.result _ c.from_residual-in_err-push.ensures.1 }
+
+pub returns-in_err-push-2 : goal.returns-in_err-push-2
+returns-in_err-push-2 g c = record { plain = no_memory_there _ c.from_residual-in_err-push-2.result _ _ c.from_residual-in_err-push-2.ensures.1 c.in_err-push-2.ensures.memory }

@@ -1,6 +1,8 @@
 use Rattle.std.proofs.Common.{◌≡◌, Ok, ap, sym, rules}
 use Rattle.std.proofs.lemmas.List.{length-map}
-use Rattle.fl_plain.proofs.ItemLaws.{reread_same}
+use Rattle.fl_types.specs.Integers.{other_sign}
+use Rattle.fl_plain.proofs.ItemLaws.{other_type, reread_other, reread_same}
+use Rattle.fl_types.proofs.Refused.{no_memory}
 use Rattle.fl_plain.proofs.primitive.PrimitiveArray.reinterpret_cast.Goals as goal
 
 pub returns-then-eq : goal.returns-then-eq
@@ -10,3 +12,11 @@ returns-then-eq c =
 
 pub from_slots-requires : goal.from_slots-requires
 from_slots-requires c = rw (c.in_ok-reread_slots.ensures.slots, length-map, c.into_parts-slots.ensures.slots, c.into_parts-slots.ensures.validity) c.into_parts-slots.ensures.covers
+
+pub returns-in_err-reread_slots : goal.returns-in_err-reread_slots
+returns-in_err-reread_slots c = no_memory _ c.from_residual.result _ c.from_residual.ensures.1
+
+pub returns : goal.returns
+returns c =
+    let other : other_sign c.args.self.ptype ≡ c.args.ptype = other_type c.args.self.ptype c.args.ptype (rw c.ptype.ensures at c.if-eq.ensures) c.requires in
+    ap (λ p. Ok p) (reread_other c.args.self c.from_slots.result c.args.ptype _ _ _ _ _ c.from_slots.ensures c.in_ok-reread_slots.ensures.typed c.in_ok-reread_slots.ensures.slots c.into_parts-slots.ensures.typed c.into_parts-slots.ensures.slots c.into_parts-slots.ensures.validity other)

@@ -3,6 +3,7 @@ use Rattle.fl_types.specs.Slots.{integers_of, ptype_of}
 use Rattle.fl_types.specs.Validities.{items_of}
 use Rattle.fl_plain.specs.Columns.{Plain}
 use Rattle.fl_plain.proofs.ItemLaws.{within_slots, part_covered, part_of_plain}
+use Rattle.fl_types.proofs.Refused.{no_memory, no_memory_there, only_memory}
 use Rattle.fl_plain.proofs.primitive.PrimitiveArray.slice.Goals as goal
 
 pub slice-requires-clause-range : goal.slice-requires-clause-range
@@ -24,3 +25,15 @@ invariant_of-result c =
 
 pub returns-clause-column : goal.returns-clause-column
 returns-clause-column c = rw (← c.self.view_is) (part_of_plain (ptype_of c.self.inside.slots) (ptype_of c.in_ok-slots.slots) c.self.inside.validity c.in_ok-validity.validity (integers_of c.self.inside.slots) (integers_of c.in_ok-slots.slots) c.args.start c.args.end c.in_ok-slots.ensures.typed c.in_ok-validity.ensures c.in_ok-slots.ensures.slots)
+
+pub returns-in_err-validity-clause-plain : goal.returns-in_err-validity-clause-plain
+returns-in_err-validity-clause-plain c = no_memory_there _ c.from_residual.result _ _ c.from_residual.ensures.1 (only_memory _ _ c.in_err-validity.ensures)
+
+pub returns-in_err-slots-clause-plain : goal.returns-in_err-slots-clause-plain
+returns-in_err-slots-clause-plain c = no_memory _ c.from_residual-in_err-slots.result _ c.from_residual-in_err-slots.ensures.1
+
+pub returns-in_err-validity-clause-column : goal.returns-in_err-validity-clause-column
+returns-in_err-validity-clause-column c = no_memory_there _ c.from_residual.result _ _ c.from_residual.ensures.1 (only_memory _ _ c.in_err-validity.ensures)
+
+pub returns-in_err-slots-clause-column : goal.returns-in_err-slots-clause-column
+returns-in_err-slots-clause-column c = no_memory _ c.from_residual-in_err-slots.result _ c.from_residual-in_err-slots.ensures.1

@@ -5,6 +5,7 @@ use Rattle.fl_types.specs.Integers.{pattern_of}
 use Rattle.fl_types.specs.declared.validity.Validity.TheVariants as valid
 use Rattle.fl_widths.specs.Exceptions.{bit_count}
 use Rattle.fl_widths.proofs.Gathers.{part_few, part_hit, part_null}
+use Rattle.fl_types.proofs.Refused.{no_value}
 use Rattle.fl_widths.proofs.gathering.Found.push_masked.Goals.{then-bits_of-width+then-get+in_ok-push, else-bits_of-width, else-bits_of-width-via-then-bits_of-width+else-get, else-bits_of-width-via-else-bits_of-width}
 use Rattle.fl_widths.proofs.gathering.Found.push_masked.Goals as goal
 
@@ -32,3 +33,6 @@ loop-i-preserved g c = λ before len so.
             part_few t value (valid.Array bits) items c.args.start i c.args.width c.index-items-i.result before c.loop-i.self.places.items (map value c.loop-i.self.values.items) even (omega arith) (omega arith) c.index-items-i.is few had)
       ])
     ]
+
+pub returns-in_err-push : goal.returns-in_err-push
+returns-in_err-push g c = no_value _ _ c.from_residual.result c.from_residual.ensures.1

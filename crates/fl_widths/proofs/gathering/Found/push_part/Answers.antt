@@ -12,3 +12,6 @@ returns-then-bit_count-width g c = λ before len so.
 pub returns-in-AllInvalid : goal.returns-in-AllInvalid
 returns-in-AllInvalid g c = λ before len so.
     rw c.in-AllInvalid.is (gathered_nulls g.T.NativePType.PTYPE c.args.width (map g.T.Number.value c.args.items.now) c.args.start c.args.end c.args.self.now.places.items (map g.T.Number.value c.args.self.now.values.items) before so)
+
+pub returns-in-Array : goal.returns-in-Array
+returns-in-Array g c = rw c.in-Array.is c.push_masked.ensures

@@ -3,6 +3,7 @@ use Rattle.fl_types.specs.Integers.{pattern_of}
 use Rattle.fl_types.specs.declared.validity.Validity.TheVariants as valid
 use Rattle.fl_widths.specs.Exceptions.{bit_count}
 use Rattle.fl_widths.proofs.Gathers.{part_few, part_hit}
+use Rattle.fl_types.proofs.Refused.{no_value}
 use Rattle.fl_widths.proofs.gathering.Found.push_present.Goals.{then-bits_of-width+in_ok-push, else-bits_of-width}
 use Rattle.fl_widths.proofs.gathering.Found.push_present.Goals as goal
 
@@ -22,3 +23,6 @@ loop-i-preserved g c = λ before len so.
           (let few : bit_count (pattern_of t (value c.index-items-i.result)) ≤ c.args.width = omega (arith, c.bits_of.ensures.count, w.if-bits_of-width.false) in
           rw w.self-is (part_few t value valid.NonNullable items c.args.start i c.args.width c.index-items-i.result before c.loop-i.self.places.items (map value c.loop-i.self.values.items) refl (omega arith) (omega arith) c.index-items-i.is few had))
     ]
+
+pub returns-in_err-push : goal.returns-in_err-push
+returns-in_err-push g c = no_value _ _ c.from_residual.result c.from_residual.ensures.1
