@@ -1,7 +1,7 @@
 -- The bits of words that are made of bytes.
 use Rattle.std.proofs.Common.{◌≡◌, ℕ, zero, suc, ◌+◌, ◌-◌, ◌*◌, ◌/◌, ◌%◌, ◌^◌, ◌<◌, ◌∙◌, ap, sym, arith, refl, inl, inr, List, lit<}
 use Rattle.std.specs.Prelude.{slice_index, nat_eq}
-use Rattle.fastlanes.specs.Compared.{is_set, has_bit}
+use Rattle.fastlanes.specs.Compared.{is_bit_set, has_bit}
 use Rattle.std.specs.Int.{bit_at}
 use Rattle.std.proofs.lemmas.Bool.{cases_lt}
 use Rattle.std.proofs.lemmas.Nat.{pow-add, mul-add-lt}
@@ -74,8 +74,8 @@ same_bit T lanes bytes k r shape small h =
     word_bit T lanes bytes k r shape small h ∙ sym (word_bit 64 16 bytes ((k * T + r) / 64) ((k * T + r) % 64) bits_64 small (omega arith) ∙ rw whole refl)
 
 pub bit_kept : (T lanes : ℕ) (bytes words : List ℕ) (k r : ℕ) → IsWordWidth T lanes → ((i : ℕ) → slice_index bytes i < 256) → r < T → k < lanes
-    → ((i : ℕ) → i < 16 → slice_index words i ≡ word_at 64 bytes i) → is_set (word_at T bytes k) r ≡ has_bit words (k * T + r)
-unfolding is_set has_bit
+    → ((i : ℕ) → i < 16 → slice_index words i ≡ word_at 64 bytes i) → is_bit_set (word_at T bytes k) r ≡ has_bit words (k * T + r)
+unfolding is_bit_set has_bit
 bit_kept T lanes bytes words k r shape small h q same =
     let room : (k * T + r) / 64 < 16 = inside T lanes k r shape h q in
     rw (same ((k * T + r) / 64) room) (ap (λ (n : ℕ). nat_eq n 1) (same_bit T lanes bytes k r shape small h))

@@ -75,3 +75,8 @@ value_written item old new k last at here apart done q h =
           let before : q ≢ k + 1 = λ e. other (ap (changes item) e ∙ sym at) in
           apart (changes item q) other ∙ done q (omega arith)
     ]
+
+-- the value that an index names is the item of its position
+pub decoded_run : (item value index decoded : ℕ → ℕ) → ((q : ℕ) → q < 1024 → value (changes item q) ≡ item q) → ((q : ℕ) → q < 1024 → index q ≡ changes item q)
+    → ((q : ℕ) → q < 1024 → decoded q ≡ value (index q)) → (q : ℕ) → q < 1024 → decoded q ≡ item q
+decoded_run item value index decoded values indices read q h = read q h ∙ (ap value (indices q h) ∙ values q h)

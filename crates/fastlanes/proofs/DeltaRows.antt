@@ -4,7 +4,7 @@ use Rattle.std.proofs.Math.Nat.{mod-eq_of_lt, mod-add-mod, add-mod-mod, add-mod_
 use Rattle.std.proofs.lemmas.Nat.{mod_below, pow_pos}
 use Rattle.fastlanes.specs.Layout.{place}
 use Rattle.fastlanes.specs.Delta.{delta_sum, summed_before, summed_item, item_before, item_delta}
-use Rattle.fastlanes.proofs.Fillings.{item_here}
+use Rattle.fastlanes.proofs.RowWrites.{item_here}
 
 -- ---- the sums
 sum_zero : (delta : ℕ → ℕ) (l : ℕ) → delta_sum delta l 0 ≡ 0

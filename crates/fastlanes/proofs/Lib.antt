@@ -16,12 +16,12 @@ pub mod Steps
 pub mod ByteBits
 pub mod ComparedBits
 pub mod Packings
-pub mod Fillings
+pub mod RowWrites
 pub mod Moves
 pub mod Wholes
 pub mod DeltaRows
 pub mod Changes
 pub mod SingleItems
-pub mod Separated
-pub mod Turns
+pub mod Deinterleaved
+pub mod TransposedBits
 pub mod LowBits

@@ -6,7 +6,7 @@ use Rattle.std.proofs.lemmas.Nat.Bits.{same_from_bits_below, bit_at_and, bit_at_
 use Rattle.std.proofs.Math.Nat.{mod-le, zero-mod}
 use Rattle.std.proofs.lemmas.Bool.{cases_lt}
 use Rattle.fastlanes.specs.Layout.{place, packed_bits, stream_bit, IsWordWidth, bits_8, bits_16, bits_32, bits_64}
-use Rattle.fastlanes.specs.Filled.{word_of, held}
+use Rattle.fastlanes.specs.Rows.{packed_word, begun_word}
 use Rattle.fastlanes.proofs.BitSums.{bit_at_from_bits, from_bits_below, packed_bits_none}
 use Rattle.fastlanes.proofs.Blocks.{above_zero, bit_at_low}
 use Rattle.fastlanes.proofs.Shifts.{shifted_low, shifted_high, begun_bit}
@@ -90,8 +90,8 @@ next_row r width = omega arith
 
 -- the words that are begun, where the row ends in the same word
 pub row_stays : (T lanes width : ℕ) (item : ℕ → ℕ) (r l k shift h x f b y : ℕ) → IsWordWidth T lanes → k ≡ r * width / T → shift ≡ r * width % T → shift + width < T
-    → h ≡ held T width item (r * width) l → x ≡ item (place r l) → f ≡ bit_and x (2 ^ width - 1) → b ≡ f * 2 ^ shift % 2 ^ T → y ≡ bit_or h b → y ≡ held T width item ((r + 1) * width) l
-unfolding held
+    → h ≡ begun_word T width item (r * width) l → x ≡ item (place r l) → f ≡ bit_and x (2 ^ width - 1) → b ≡ f * 2 ^ shift % 2 ^ T → y ≡ bit_or h b → y ≡ begun_word T width item ((r + 1) * width) l
+unfolding begun_word
 row_stays T lanes width item r l k shift h x f b y shape k_is shift_is within h_is x_is f_is b_is y_is =
     let there = stays T lanes (r * width) width shape (rw shift_is at within) in
     let whole : r * width / T * T + r * width % T ≡ r * width = div-add-mod' (r * width) T in
@@ -103,8 +103,8 @@ row_stays T lanes width item r l k shift h x f b y shape k_is shift_is within h_
 
 -- the words that are whole
 pub row_fills : (T lanes width : ℕ) (item : ℕ → ℕ) (r l k shift h x f b y : ℕ) → IsWordWidth T lanes → k ≡ r * width / T → shift ≡ r * width % T → T ≤ shift + width
-    → h ≡ held T width item (r * width) l → x ≡ item (place r l) → f ≡ bit_and x (2 ^ width - 1) → b ≡ f * 2 ^ shift % 2 ^ T → y ≡ bit_or h b → y ≡ word_of T width item k l
-unfolding held word_of
+    → h ≡ begun_word T width item (r * width) l → x ≡ item (place r l) → f ≡ bit_and x (2 ^ width - 1) → b ≡ f * 2 ^ shift % 2 ^ T → y ≡ bit_or h b → y ≡ packed_word T width item k l
+unfolding begun_word packed_word
 row_fills T lanes width item r l k shift h x f b y shape k_is shift_is beyond h_is x_is f_is b_is y_is =
     let whole : r * width / T * T + r * width % T ≡ r * width = div-add-mod' (r * width) T in
     let below = mod_below (r * width) T (above_zero T lanes shape).0 in
@@ -119,16 +119,16 @@ row_fills T lanes width item r l k shift h x f b y shape k_is shift_is beyond h_
     (or_lt T _ _ (omega arith) (mod_below _ (2 ^ T) (pow_pos T)))
     (λ t p. both_bit T width item l r (r * width / T) (r * width % T) T t below whole (omega arith) beyond' p))
 
-pub row_ends : (T lanes width : ℕ) (item : ℕ → ℕ) (r l shift y : ℕ) → IsWordWidth T lanes → width ≤ T → shift ≡ r * width % T → shift + width ≡ T → y ≡ 0 → y ≡ held T width item ((r + 1) * width) l
-unfolding held
+pub row_ends : (T lanes width : ℕ) (item : ℕ → ℕ) (r l shift y : ℕ) → IsWordWidth T lanes → width ≤ T → shift ≡ r * width % T → shift + width ≡ T → y ≡ 0 → y ≡ begun_word T width item ((r + 1) * width) l
+unfolding begun_word
 row_ends T lanes width item r l shift y shape w shift_is ends y_is =
     let there = moves T lanes (r * width) width shape w (omega arith) in
     let none : r * width % T + width - T ≡ 0 = omega arith in
     rw (next_row r width, there.1, none, y_is) (sym (packed_bits_none T width item _ l))
 
 pub row_goes_on : (T lanes width : ℕ) (item : ℕ → ℕ) (r l shift x f y : ℕ) → IsWordWidth T lanes → width ≤ T → shift ≡ r * width % T → T ≤ shift + width
-    → x ≡ item (place r l) → f ≡ bit_and x (2 ^ width - 1) → y ≡ f / 2 ^ (T - shift) → y ≡ held T width item ((r + 1) * width) l
-unfolding held
+    → x ≡ item (place r l) → f ≡ bit_and x (2 ^ width - 1) → y ≡ f / 2 ^ (T - shift) → y ≡ begun_word T width item ((r + 1) * width) l
+unfolding begun_word
 row_goes_on T lanes width item r l shift x f y shape w shift_is beyond x_is f_is y_is =
     let there = moves T lanes (r * width) width shape w (rw shift_is at beyond) in
     let whole : r * width / T * T + r * width % T ≡ r * width = div-add-mod' (r * width) T in
@@ -152,6 +152,6 @@ next_word_stays T lanes width r shift shape shift_is within = rw (next_row r wid
 pub next_word_moves : (T lanes width r shift : ℕ) → IsWordWidth T lanes → width ≤ T → shift ≡ r * width % T → T ≤ shift + width → (r + 1) * width / T ≡ r * width / T + 1
 next_word_moves T lanes width r shift shape w shift_is beyond = rw (next_row r width) (moves T lanes (r * width) width shape w (rw shift_is at beyond)).0
 
-pub held_none : (T width : ℕ) (item : ℕ → ℕ) (l s x : ℕ) → s ≡ 0 → x ≡ 0 → x ≡ held T width item s l
-unfolding held
-held_none T width item l s x e f = rw (e, zero-mod T, f) (sym (packed_bits_none T width item _ l))
+pub begun_none : (T width : ℕ) (item : ℕ → ℕ) (l s x : ℕ) → s ≡ 0 → x ≡ 0 → x ≡ begun_word T width item s l
+unfolding begun_word
+begun_none T width item l s x e f = rw (e, zero-mod T, f) (sym (packed_bits_none T width item _ l))

@@ -3,7 +3,7 @@ use Rattle.std.proofs.Common.{◌≡◌, ℕ, zero, suc, ◌+◌, ◌-◌, ◌*�
 use Rattle.std.proofs.lemmas.Nat.{mul-le}
 use Rattle.std.proofs.Math.Dec.{eqb-suc-zero}
 use Rattle.fastlanes.specs.Layout.{row_of, lane_of, unpacked_item, words_of_item, IsWordWidth, bits_8, bits_16, bits_32, bits_64}
-use Rattle.fastlanes.specs.Filled.{item_of}
+use Rattle.fastlanes.specs.Rows.{item_of_row}
 use Rattle.fastlanes.specs.SingleItems.{words_at, words_of_items}
 use Rattle.fastlanes.proofs.BitSums.{unpacked_bits_none}
 use Rattle.fastlanes.proofs.Steps.{item_of_one, item_of_two, last_word}
@@ -13,8 +13,8 @@ word_inside lanes width k l p q =
     let more : (k + 1) * lanes ≤ width * lanes = mul-le (k + 1) lanes width lanes (omega arith) (omega arith) in
     (omega arith, omega arith)
 
-item_at : (T lanes width : ℕ) (word : ℕ → ℕ) (i : ℕ) → item_of T lanes width word (row_of lanes i) (lane_of lanes i) ≡ unpacked_item T lanes width word i
-unfolding item_of unpacked_item
+item_at : (T lanes width : ℕ) (word : ℕ → ℕ) (i : ℕ) → item_of_row T lanes width word (row_of lanes i) (lane_of lanes i) ≡ unpacked_item T lanes width word i
+unfolding item_of_row unpacked_item
 item_at T lanes width word i = refl
 
 pub single_none : (T lanes width : ℕ) (word : ℕ → ℕ) (i x : ℕ) → width ≡ 0 → x ≡ 0 → x ≡ unpacked_item T lanes width word i

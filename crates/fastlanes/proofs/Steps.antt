@@ -5,7 +5,7 @@ use Rattle.std.proofs.lemmas.Nat.{div_below, mul-add-lt, mod_below, mul-le, pow_
 use Rattle.std.proofs.lemmas.Nat.Bits.{bit_at_and, bit_at_or, bit_at_ones, bit_at-lt, bit_at_above}
 use Rattle.std.proofs.lemmas.Bool.{cases_lt, lt-ltb, le-ltb}
 use Rattle.fastlanes.specs.Layout.{row_of, lane_of, packed_bit, unpacked_bits, unpacked_item, from_bits, IsWordWidth, bits_8, bits_16, bits_32, bits_64}
-use Rattle.fastlanes.specs.Filled.{item_of}
+use Rattle.fastlanes.specs.Rows.{item_of_row}
 use Rattle.fastlanes.proofs.BitSums.{from_bits_below, unpacked_bits_none}
 use Rattle.std.proofs.Math.Pow.{pow_mono}
 use Rattle.std.proofs.Math.Nat.{mod-eq_of_lt}
@@ -67,27 +67,27 @@ last_word _ _ at width bits_16 w h = omega arith
 last_word _ _ at width bits_32 w h = omega arith
 last_word _ _ at width bits_64 w h = omega arith
 
-pub item_of_none : (T lanes : ℕ) (word : ℕ → ℕ) (r m : ℕ) → item_of T lanes 0 word r m ≡ 0
-unfolding item_of
+pub item_of_none : (T lanes : ℕ) (word : ℕ → ℕ) (r m : ℕ) → item_of_row T lanes 0 word r m ≡ 0
+unfolding item_of_row
 item_of_none T lanes word r m = unpacked_bits_none T lanes 0 word r m
 
 pub item_of_one : (T lanes width : ℕ) (word : ℕ → ℕ) (r m : ℕ) → IsWordWidth T lanes → width ≤ T → r * width % T + width ≤ T
-    → bit_and (word (r * width / T * lanes + m) / 2 ^ (r * width % T)) (2 ^ width - 1) ≡ item_of T lanes width word r m
-unfolding item_of
+    → bit_and (word (r * width / T * lanes + m) / 2 ^ (r * width % T)) (2 ^ width - 1) ≡ item_of_row T lanes width word r m
+unfolding item_of_row
 item_of_one T lanes width word r m shape w within =
     row_item T lanes width word r m _ shape w (mask_small _ width)
     (λ i h. one_bit T width (r * width % T) (word (r * width / T * lanes + m)) (word ((r * width + (width - 1)) / T * lanes + m)) i within h)
 
 pub item_of_two : (T lanes width : ℕ) (word : ℕ → ℕ) (r m : ℕ) → IsWordWidth T lanes → width ≤ T → T < r * width % T + width → word (r * width / T * lanes + m) < 2 ^ T
-    → bit_and (bit_or (word (r * width / T * lanes + m) / 2 ^ (r * width % T)) (word ((r * width / T + 1) * lanes + m) * 2 ^ (T - r * width % T) % 2 ^ T)) (2 ^ width - 1) ≡ item_of T lanes width word r m
-unfolding item_of
+    → bit_and (bit_or (word (r * width / T * lanes + m) / 2 ^ (r * width % T)) (word ((r * width / T + 1) * lanes + m) * 2 ^ (T - r * width % T) % 2 ^ T)) (2 ^ width - 1) ≡ item_of_row T lanes width word r m
+unfolding item_of_row
 item_of_two T lanes width word r m shape w beyond fits =
     let last = last_word T lanes (r * width) width shape w beyond in
     row_item T lanes width word r m _ shape w (mask_small _ width)
     (λ i h. two_bits T width (r * width % T) (word (r * width / T * lanes + m)) (word ((r * width / T + 1) * lanes + m)) i (mod_below (r * width) T (above_zero T lanes shape).0) w h fits
     ∙ ap (λ (n : ℕ). spread_bit T (r * width % T) (word (r * width / T * lanes + m)) (word (n * lanes + m)) i) (sym last))
 
-pub item_of_zero : (T lanes width : ℕ) (word : ℕ → ℕ) (r m x : ℕ) → width ≡ 0 → x ≡ 0 → x ≡ item_of T lanes width word r m
+pub item_of_zero : (T lanes width : ℕ) (word : ℕ → ℕ) (r m x : ℕ) → width ≡ 0 → x ≡ 0 → x ≡ item_of_row T lanes width word r m
 item_of_zero T lanes width word r m x z e = rw z (e ∙ sym (item_of_none T lanes word r m))
 
 pub one_more : (T lanes width r k shift : ℕ) → IsWordWidth T lanes → r < T → width ≤ T → 0 < width → k ≡ r * width / T → shift ≡ r * width % T → T < shift + width → k + 1 < width
@@ -98,29 +98,29 @@ one_more T lanes width r k shift shape p w some k_is shift_is beyond =
     omega arith
 
 pub item_in_one : (T lanes width : ℕ) (word : ℕ → ℕ) (r g j k shift at x a m y : ℕ) → IsWordWidth T lanes → width ≤ T → k ≡ r * width / T → shift ≡ r * width % T → shift + width ≤ T
-    → at ≡ k * lanes + 16 * g → x ≡ word (at + j) → a ≡ x / 2 ^ shift → m ≡ 2 ^ width - 1 → y ≡ bit_and a m → y ≡ item_of T lanes width word r (16 * g + j)
+    → at ≡ k * lanes + 16 * g → x ≡ word (at + j) → a ≡ x / 2 ^ shift → m ≡ 2 ^ width - 1 → y ≡ bit_and a m → y ≡ item_of_row T lanes width word r (16 * g + j)
 item_in_one T lanes width word r g j k shift at x a m y shape w k_is shift_is within at_is x_is a_is m_is y_is =
     let where_is : at + j ≡ r * width / T * lanes + (16 * g + j) = rw (at_is, k_is) (omega arith) in
     rw (y_is, a_is, m_is, x_is, where_is, shift_is) (item_of_one T lanes width word r (16 * g + j) shape w (rw shift_is at within))
 
 pub item_in_two : (T lanes width : ℕ) (word : ℕ → ℕ) (r g j k shift at at2 x x2 a b e m y : ℕ) → IsWordWidth T lanes → width ≤ T → k ≡ r * width / T → shift ≡ r * width % T → T < shift + width
     → at ≡ k * lanes + 16 * g → at2 ≡ (k + 1) * lanes + 16 * g → x ≡ word (at + j) → x2 ≡ word (at2 + j) → x < 2 ^ T → a ≡ x / 2 ^ shift → b ≡ x2 * 2 ^ (T - shift) % 2 ^ T → e ≡ bit_or a b → m ≡ 2 ^ width - 1 → y ≡ bit_and e m
-    → y ≡ item_of T lanes width word r (16 * g + j)
+    → y ≡ item_of_row T lanes width word r (16 * g + j)
 item_in_two T lanes width word r g j k shift at at2 x x2 a b e m y shape w k_is shift_is beyond at_is at2_is x_is x2_is small a_is b_is e_is m_is y_is =
     let where_is : at + j ≡ r * width / T * lanes + (16 * g + j) = rw (at_is, k_is) (omega arith) in
     let where_two : at2 + j ≡ (r * width / T + 1) * lanes + (16 * g + j) = rw (at2_is, k_is) (omega arith) in
     rw (y_is, e_is, a_is, b_is, m_is, x_is, x2_is, where_is, where_two, shift_is) (item_of_two T lanes width word r (16 * g + j) shape w (rw shift_is at beyond) (rw (x_is, where_is) at small))
 
 -- an item has no more bits than its word
-pub item_small : (T lanes width : ℕ) (word : ℕ → ℕ) (r m : ℕ) → width ≤ T → item_of T lanes width word r m < 2 ^ T
-unfolding item_of unpacked_bits
+pub item_small : (T lanes width : ℕ) (word : ℕ → ℕ) (r m : ℕ) → width ≤ T → item_of_row T lanes width word r m < 2 ^ T
+unfolding item_of_row unpacked_bits
 item_small T lanes width word r m w =
     let below : from_bits (λ b. packed_bit T lanes word m (r * width + b)) width < 2 ^ width = from_bits_below (λ b. packed_bit T lanes word m (r * width + b)) (λ b. packed_bit_small T lanes word m (r * width + b)) width in
     let more : 2 ^ width ≤ 2 ^ T = pow_mono w in
     omega arith
 
-item_named : (T lanes width : ℕ) (word : ℕ → ℕ) (r m : ℕ) → unpacked_bits T lanes width word r m width ≡ item_of T lanes width word r m
-unfolding item_of
+item_named : (T lanes width : ℕ) (word : ℕ → ℕ) (r m : ℕ) → unpacked_bits T lanes width word r m width ≡ item_of_row T lanes width word r m
+unfolding item_of_row
 item_named T lanes width word r m = refl
 
 -- nothing is added to an item
@@ -128,5 +128,5 @@ pub unframed : (T lanes width : ℕ) (word : ℕ → ℕ) (i x : ℕ) → width 
 unfolding unpacked_item
 unframed T lanes width word i x w e =
     let small = item_small T lanes width word (row_of lanes i) (lane_of lanes i) w in
-    let whole : item_of T lanes width word (row_of lanes i) (lane_of lanes i) + 0 ≡ item_of T lanes width word (row_of lanes i) (lane_of lanes i) = omega arith in
+    let whole : item_of_row T lanes width word (row_of lanes i) (lane_of lanes i) + 0 ≡ item_of_row T lanes width word (row_of lanes i) (lane_of lanes i) = omega arith in
     rw (e, item_named T lanes width word (row_of lanes i) (lane_of lanes i), whole) (mod-eq_of_lt small)

@@ -8,8 +8,8 @@ use Rattle.fastlanes.proofs.SingleItems.{single_none}
 use Rattle.fastlanes.proofs.Unique.{items_read}
 
 -- at width 0 an item is 0
-pub none_framed : (T lanes width : ℕ) (word : ℕ → ℕ) (i x : ℕ) → width ≡ 0 → x < 2 ^ T → x ≡ (unpacked_item T lanes width word i + x) % 2 ^ T
-none_framed T lanes width word i x none small =
+pub none_added : (T lanes width : ℕ) (word : ℕ → ℕ) (i x : ℕ) → width ≡ 0 → x < 2 ^ T → x ≡ (unpacked_item T lanes width word i + x) % 2 ^ T
+none_added T lanes width word i x none small =
     let zero_item : 0 ≡ unpacked_item T lanes width word i = single_none T lanes width word i 0 none refl in
     let plain : 0 + x ≡ x = omega arith in
     rw (← zero_item) (rw plain (sym (mod-eq_of_lt small)))

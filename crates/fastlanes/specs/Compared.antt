@@ -1,20 +1,20 @@
--- The answers of comparisons, as bits.
+-- Answers of comparisons, as bits.
 use Rattle.std.specs.Prelude.{◌≡◌, ℕ, ◌+◌, ◌*◌, ◌/◌, ◌%◌, ◌^◌, ◌<◌, List, slice_index, Bool, nat_eq}
 use Rattle.std.specs.Int.{bit_at}
 
 -- whether bit i of a number is set
-unfoldable pub is_set : ℕ → ℕ → Bool
-is_set n i = nat_eq (bit_at n i) 1
+unfoldable pub is_bit_set : ℕ → ℕ → Bool
+is_bit_set n i = nat_eq (bit_at n i) 1
 
 -- whether bit i of these words of 64 bits is set
 unfoldable pub has_bit : List ℕ → ℕ → Bool
-has_bit words i = is_set (slice_index words (i / 64)) (i % 64)
+has_bit words i = is_bit_set (slice_index words (i / 64)) (i % 64)
 
--- this is an answer of the comparison with rhs for each word of this pattern
+-- the closure may answer so for the word of this pattern and rhs
 unfoldable pub IsAnswer : {W : Type 0} → (W → ℕ) → (W → W → Bool → Type 0) → W → ℕ → Bool → Type 0
 IsAnswer {W} pattern post rhs item answer = (x : W) → pattern x ≡ item → post x rhs answer
 
--- bit s of lane j is the answer for the item at row s of lane j of group g, for each row below n, and no bit is set from n on
-pub record Answers {W : Type 0} (pattern : W → ℕ) (post : W → W → Bool → Type 0) (rhs : W) (item : ℕ → ℕ → ℕ) (g n : ℕ) (lane : ℕ → ℕ) : Type 0 where
+-- bit s of word j is the closure's answer for the item at row s of lane j of group g, for each row below n, and no bit from n on is set
+pub record Compares {W : Type 0} (pattern : W → ℕ) (post : W → W → Bool → Type 0) (rhs : W) (item : ℕ → ℕ → ℕ) (g n : ℕ) (lane : ℕ → ℕ) : Type 0 where
   pub small : (j : ℕ) → j < 16 → lane j < 2 ^ n
-  pub each : (s j : ℕ) → s < n → j < 16 → IsAnswer pattern post rhs (item s (16 * g + j)) (is_set (lane j) s)
+  pub each : (s j : ℕ) → s < n → j < 16 → IsAnswer pattern post rhs (item s (16 * g + j)) (is_bit_set (lane j) s)

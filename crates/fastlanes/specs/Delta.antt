@@ -1,11 +1,12 @@
--- Blocks in delta order: the lanes' segments, moved to rows, and their differences.
+-- Delta blocks: the transposition of the lanes' segments to rows, and the differences along rows.
 use Rattle.std.specs.Prelude.{◌≡◌, ℕ, suc, zero, ◌+◌, ◌*◌, ◌/◌, ◌%◌, ◌^◌, ◌<◌, ◌-◌}
 use Rattle.fastlanes.specs.Layout.{order_of, place, segment}
 
--- the item that stands at stored position i, and the stored position of item i, whatever the lanes
+-- the position of the item that the transposition stores at position i, the same for every word type
 unfoldable pub moved_from : ℕ → ℕ
 moved_from i = 64 * (i % 16) + 8 * order_of (i / 16 % 8) + i / 128
 
+-- the position at which the transposition stores item i, the same for every word type
 unfoldable pub moved_to : ℕ → ℕ
 moved_to i = i / 64 + 16 * order_of (i / 8 % 8) + 128 * (i % 8)
 

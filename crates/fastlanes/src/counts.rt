@@ -6,9 +6,9 @@ ghost use Rattle.fastlanes.specs.Counts.{Counts};
 
 use std::marker::Model;
 
-/// The numbers of blocks unpacked whole and of packed words read by themselves.
+/// The number of blocks that kernels unpacked whole, and of packed words that they read outside whole blocks.
 ///
-/// Both start at 0 and stop at `u64::MAX`. Only kernels add to them.
+/// Both start at 0 and stay at `u64::MAX` once they reach it. Only this crate adds to them.
 #[derive(Debug, Drop)]
 pub struct Work {
     blocks: u64,

@@ -4,14 +4,15 @@
 ghost use Rattle.std.specs.Prelude.{◌≡◌, ℕ, ◌+◌, ◌*◌, ◌/◌, ◌%◌, ◌^◌, ◌<◌, ◌≤◌, length};
 ghost use Rattle.fastlanes.specs.Layout.{place, pattern_at};
 ghost use Rattle.fastlanes.specs.Delta.{item_before, item_delta, summed_before, summed_item};
-ghost use Rattle.fastlanes.specs.Filled.{Filled};
+ghost use Rattle.fastlanes.specs.Rows.{WritesRows};
 
-use crate::layout::{FL_CHUNK_SIZE, pos, whole_block};
+use crate::facts::prove_whole_block;
+use crate::layout::{FL_CHUNK_SIZE, pos};
 use crate::widths::{bits, lanes};
 use crate::words::FastLanes;
 use std::simd::Simd;
 
-/// Writes the deltas at row `r` of the lanes of group `g`, and gives the row's items.
+/// Writes the deltas at row `r` of the lanes of group `g`, and returns the row's items.
 #[inline(always)]
 #[tactic(auto, using(crate::proofs::RowBits::row_room))]
 fn delta_row<W: FastLanes>(
@@ -26,7 +27,7 @@ fn delta_row<W: FastLanes>(
     requires group { 16 * g + 16 ≤ W.LANES }
     requires before { (j : ℕ) → j < 16 → W.lane before j ≡ item_before (pattern_at W.pattern bases.now) (pattern_at W.pattern items.now) r (16 * g + j) }
     ensures before { (j : ℕ) → j < 16 → W.lane result j ≡ item_before (pattern_at W.pattern bases.now) (pattern_at W.pattern items.now) (r + 1) (16 * g + j) }
-    ensures filled { Filled W.T W.LANES place (item_delta W.T (pattern_at W.pattern bases.now) (pattern_at W.pattern items.now)) g r (r + 1) (pattern_at W.pattern deltas.old) (pattern_at W.pattern deltas.new) }
+    ensures written { WritesRows W.T W.LANES place (item_delta W.T (pattern_at W.pattern bases.now) (pattern_at W.pattern items.now)) g r (r + 1) (pattern_at W.pattern deltas.old) (pattern_at W.pattern deltas.new) }
 {
     let at = pos(r, 16 * g);
     let row = W::load(items, at);
@@ -34,7 +35,7 @@ fn delta_row<W: FastLanes>(
     row
 }
 
-/// Writes the deltas at the eight rows from `r` on of the lanes of group `g`, and gives the last row's items.
+/// Writes the deltas at the eight rows from `r` on of the lanes of group `g`, and returns the last row's items.
 #[inline(always)]
 fn delta_8<W: FastLanes>(
     items: &[W; FL_CHUNK_SIZE],
@@ -48,7 +49,7 @@ fn delta_8<W: FastLanes>(
     requires group { 16 * g + 16 ≤ W.LANES }
     requires before { (j : ℕ) → j < 16 → W.lane before j ≡ item_before (pattern_at W.pattern bases.now) (pattern_at W.pattern items.now) r (16 * g + j) }
     ensures before { (j : ℕ) → j < 16 → W.lane result j ≡ item_before (pattern_at W.pattern bases.now) (pattern_at W.pattern items.now) (r + 8) (16 * g + j) }
-    ensures filled { Filled W.T W.LANES place (item_delta W.T (pattern_at W.pattern bases.now) (pattern_at W.pattern items.now)) g r (r + 8) (pattern_at W.pattern deltas.old) (pattern_at W.pattern deltas.new) }
+    ensures written { WritesRows W.T W.LANES place (item_delta W.T (pattern_at W.pattern bases.now) (pattern_at W.pattern items.now)) g r (r + 8) (pattern_at W.pattern deltas.old) (pattern_at W.pattern deltas.new) }
 {
     let before = delta_row(items, bases, before, r, g, deltas);
     let before = delta_row(items, bases, before, r + 1, g, deltas);
@@ -73,7 +74,7 @@ fn bases_of<W: FastLanes>(bases: &[W], g: usize) -> Simd<W, 16>
 
 /// Writes the deltas of the lanes of group `g`.
 #[inline(always)]
-#[tactic(auto, using(crate::proofs::Fillings::whole_eights))]
+#[tactic(auto, using(crate::proofs::RowWrites::whole_eights))]
 fn delta_group<W: FastLanes>(
     items: &[W; FL_CHUNK_SIZE],
     bases: &[W],
@@ -82,7 +83,7 @@ fn delta_group<W: FastLanes>(
 )
     requires bases { length bases.now ≡ W.LANES }
     requires group { 16 * g + 16 ≤ W.LANES }
-    ensures filled { Filled W.T W.LANES place (item_delta W.T (pattern_at W.pattern bases.now) (pattern_at W.pattern items.now)) g 0 W.T (pattern_at W.pattern deltas.old) (pattern_at W.pattern deltas.new) }
+    ensures written { WritesRows W.T W.LANES place (item_delta W.T (pattern_at W.pattern bases.now) (pattern_at W.pattern items.now)) g 0 W.T (pattern_at W.pattern deltas.old) (pattern_at W.pattern deltas.new) }
 {
     let mut before = bases_of(bases, g);
     for q in 0..bits::<W>() / 8 {
@@ -90,7 +91,7 @@ fn delta_group<W: FastLanes>(
     }
 }
 
-/// The deltas of a block's items: row 0 minus the bases, each further row minus the one before.
+/// Writes the deltas of a block's items: row 0 minus the bases, each further row minus the one before, modulo 2 to the number of bits.
 pub fn delta<W: FastLanes>(items: &[W; FL_CHUNK_SIZE], bases: &[W], deltas: &mut [W; FL_CHUNK_SIZE])
     requires { length bases.now ≡ W.LANES }
     ensures deltas { (r l : ℕ) → r < W.T → l < W.LANES → pattern_at W.pattern deltas.new (place r l) ≡ item_delta W.T (pattern_at W.pattern bases.now) (pattern_at W.pattern items.now) r l }
@@ -99,10 +100,10 @@ pub fn delta<W: FastLanes>(items: &[W; FL_CHUNK_SIZE], bases: &[W], deltas: &mut
     for g in 0..lanes::<W>() / 16 {
         delta_group(items, bases, g, deltas);
     }
-    whole_block(deltas);
+    prove_whole_block(deltas);
 }
 
-/// Adds the deltas at row `r` of the lanes of group `g` to the sums, writes them and gives them.
+/// Adds the deltas at row `r` of the lanes of group `g` to the sums, writes the sums and returns them.
 #[inline(always)]
 #[tactic(auto, using(crate::proofs::RowBits::row_room))]
 fn undelta_row<W: FastLanes>(
@@ -117,7 +118,7 @@ fn undelta_row<W: FastLanes>(
     requires group { 16 * g + 16 ≤ W.LANES }
     requires sums { (j : ℕ) → j < 16 → W.lane sums j ≡ summed_before W.T (pattern_at W.pattern bases.now) (pattern_at W.pattern deltas.now) r (16 * g + j) }
     ensures sums { (j : ℕ) → j < 16 → W.lane result j ≡ summed_before W.T (pattern_at W.pattern bases.now) (pattern_at W.pattern deltas.now) (r + 1) (16 * g + j) }
-    ensures filled { Filled W.T W.LANES place (summed_item W.T (pattern_at W.pattern bases.now) (pattern_at W.pattern deltas.now)) g r (r + 1) (pattern_at W.pattern items.old) (pattern_at W.pattern items.new) }
+    ensures written { WritesRows W.T W.LANES place (summed_item W.T (pattern_at W.pattern bases.now) (pattern_at W.pattern deltas.now)) g r (r + 1) (pattern_at W.pattern items.old) (pattern_at W.pattern items.new) }
 {
     let at = pos(r, 16 * g);
     let row = W::add(sums, W::load(deltas, at));
@@ -125,7 +126,7 @@ fn undelta_row<W: FastLanes>(
     row
 }
 
-/// Writes the items at the eight rows from `r` on of the lanes of group `g`, and gives the last of them.
+/// Writes the items at the eight rows from `r` on of the lanes of group `g`, and returns the last row's items.
 #[inline(always)]
 fn undelta_8<W: FastLanes>(
     deltas: &[W; FL_CHUNK_SIZE],
@@ -139,7 +140,7 @@ fn undelta_8<W: FastLanes>(
     requires group { 16 * g + 16 ≤ W.LANES }
     requires sums { (j : ℕ) → j < 16 → W.lane sums j ≡ summed_before W.T (pattern_at W.pattern bases.now) (pattern_at W.pattern deltas.now) r (16 * g + j) }
     ensures sums { (j : ℕ) → j < 16 → W.lane result j ≡ summed_before W.T (pattern_at W.pattern bases.now) (pattern_at W.pattern deltas.now) (r + 8) (16 * g + j) }
-    ensures filled { Filled W.T W.LANES place (summed_item W.T (pattern_at W.pattern bases.now) (pattern_at W.pattern deltas.now)) g r (r + 8) (pattern_at W.pattern items.old) (pattern_at W.pattern items.new) }
+    ensures written { WritesRows W.T W.LANES place (summed_item W.T (pattern_at W.pattern bases.now) (pattern_at W.pattern deltas.now)) g r (r + 8) (pattern_at W.pattern items.old) (pattern_at W.pattern items.new) }
 {
     let sums = undelta_row(deltas, bases, sums, r, g, items);
     let sums = undelta_row(deltas, bases, sums, r + 1, g, items);
@@ -153,7 +154,7 @@ fn undelta_8<W: FastLanes>(
 
 /// Writes the items of the lanes of group `g`.
 #[inline(always)]
-#[tactic(auto, using(crate::proofs::Fillings::whole_eights))]
+#[tactic(auto, using(crate::proofs::RowWrites::whole_eights))]
 fn undelta_group<W: FastLanes>(
     deltas: &[W; FL_CHUNK_SIZE],
     bases: &[W],
@@ -162,7 +163,7 @@ fn undelta_group<W: FastLanes>(
 )
     requires bases { length bases.now ≡ W.LANES }
     requires group { 16 * g + 16 ≤ W.LANES }
-    ensures filled { Filled W.T W.LANES place (summed_item W.T (pattern_at W.pattern bases.now) (pattern_at W.pattern deltas.now)) g 0 W.T (pattern_at W.pattern items.old) (pattern_at W.pattern items.new) }
+    ensures written { WritesRows W.T W.LANES place (summed_item W.T (pattern_at W.pattern bases.now) (pattern_at W.pattern deltas.now)) g 0 W.T (pattern_at W.pattern items.old) (pattern_at W.pattern items.new) }
 {
     let mut sums = bases_of(bases, g);
     for q in 0..bits::<W>() / 8 {
@@ -170,7 +171,7 @@ fn undelta_group<W: FastLanes>(
     }
 }
 
-/// The items of a block's deltas: the base and the deltas of each row up to theirs, modulo 2 to the number of bits.
+/// Writes the items of a block's deltas: at each row of a lane, its base plus the deltas of the rows up to this one, modulo 2 to the number of bits.
 pub fn undelta<W: FastLanes>(
     deltas: &[W; FL_CHUNK_SIZE],
     bases: &[W],
@@ -183,5 +184,5 @@ pub fn undelta<W: FastLanes>(
     for g in 0..lanes::<W>() / 16 {
         undelta_group(deltas, bases, g, items);
     }
-    whole_block(items);
+    prove_whole_block(items);
 }

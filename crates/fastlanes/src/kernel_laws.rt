@@ -8,13 +8,13 @@ ghost use Rattle.fastlanes.specs.Runs.{changes};
 
 use crate::words::FastLanes;
 
-/// What is stored determines the items, and the items determine what is stored.
+/// The stored words of a delta block determine its items, and the items determine the stored words.
 pub fn one_transposition<W: FastLanes>()
     ensures items { (item other stored : ℕ → ℕ) → Transposed W.T W.LANES item stored → Transposed W.T W.LANES other stored → (i : ℕ) → i < 1024 → item i ≡ other i }
     ensures stored { (item stored other : ℕ → ℕ) → Transposed W.T W.LANES item stored → Transposed W.T W.LANES item other → (i : ℕ) → i < 1024 → stored i ≡ other i }
 {}
 
-/// Differences sum to the items, and sums differ by the deltas, whatever the bases.
+/// The deltas of items sum to the items, and the items that deltas sum to have these deltas, whatever the bases.
 pub fn sums_and_differences<W: FastLanes>()
     ensures sums { (base item delta : ℕ → ℕ) → ((m : ℕ) → m < W.LANES → base m < 2 ^ W.T)
         → ((s m : ℕ) → s < W.T → m < W.LANES → item (place s m) < 2 ^ W.T)
@@ -26,10 +26,19 @@ pub fn sums_and_differences<W: FastLanes>()
         → (r l : ℕ) → r < W.T → l < W.LANES → item_delta W.T base item r l ≡ delta (place r l) }
 {}
 
-/// Positions of one run hold one item, and runs begin with 0 and grow by at most 1.
+/// Positions of one run hold one item. The first run is run 0, and the next position's run is the same or the next.
 pub fn runs_hold_one_item()
     ensures same { (item : ℕ → ℕ) (q p : ℕ) → q ≤ p → changes item q ≡ changes item p → item q ≡ item p }
     ensures first { (item : ℕ → ℕ) → changes item 0 ≡ 0 }
     ensures steps { (item : ℕ → ℕ) (q : ℕ) → changes item (q + 1) ≤ changes item q + 1 }
     ensures grows { (item : ℕ → ℕ) (q p : ℕ) → q ≤ p → changes item q ≤ changes item p }
+{}
+
+/// Where each value is the item of its run and each index names its position's run, the values that
+/// the indices name are the items.
+pub fn runs_give_items()
+    ensures { (item value index decoded : ℕ → ℕ) → ((q : ℕ) → q < 1024 → value (changes item q) ≡ item q)
+        → ((q : ℕ) → q < 1024 → index q ≡ changes item q)
+        → ((q : ℕ) → q < 1024 → decoded q ≡ value (index q))
+        → (q : ℕ) → q < 1024 → decoded q ≡ item q }
 {}

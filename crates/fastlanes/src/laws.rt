@@ -1,12 +1,12 @@
 //! What holds of every word type and every block: each law is the contract of a small function.
 #![tactic(auto)]
 
-ghost use Rattle.std.specs.Prelude.{◌≡◌, ◌≢◌, ℕ, ◌+◌, ◌*◌, ◌/◌, ◌%◌, ◌^◌, ◌<◌, ◌≤◌, length};
+ghost use Rattle.std.specs.Prelude.{◌≡◌, ◌≢◌, ℕ, ◌+◌, ◌-◌, ◌*◌, ◌/◌, ◌%◌, ◌^◌, ◌<◌, ◌≤◌, length};
 ghost use Rattle.fastlanes.specs.Layout.{place, row_of, lane_of, segment, segment_row, segment_lane, Packed, word_at, unpacked_item};
 
 use crate::words::FastLanes;
 
-/// A word that was put is read again, and the other words stay.
+/// Reading a word that was written returns it, and the other words stay.
 pub fn put_then_read<W: FastLanes>(word: W, bytes: &mut [u8], k: usize) -> W
     requires { (k + 1) * (W.T / 8) ≤ length bytes.old }
     ensures read { result ≡ word }
@@ -17,18 +17,16 @@ pub fn put_then_read<W: FastLanes>(word: W, bytes: &mut [u8], k: usize) -> W
     W::word(bytes, k)
 }
 
-/// The sum and the difference undo each other.
-#[tactic(auto, using(crate::proofs::Wraps::sum_then_difference, crate::proofs::Wraps::difference_then_sum))]
+/// The sum and the difference of two words, which undo each other: a sum of patterns less its second
+/// one, and a difference of patterns plus its second one, is the first one modulo 2 to the number of
+/// bits.
 pub fn sum_and_difference<W: FastLanes>(x: W, y: W) -> (W, W)
-    ensures first { result.0 ≡ x }
-    ensures second { result.1 ≡ x }
+    ensures sum { W.pattern result.0 ≡ (W.pattern x + W.pattern y) % 2 ^ W.T }
+    ensures difference { W.pattern result.1 ≡ (W.pattern x + (2 ^ W.T - W.pattern y)) % 2 ^ W.T }
+    ensures sum_undone { (p q : ℕ) → p < 2 ^ W.T → q < 2 ^ W.T → ((p + q) % 2 ^ W.T + (2 ^ W.T - q)) % 2 ^ W.T ≡ p }
+    ensures difference_undone { (p q : ℕ) → p < 2 ^ W.T → q < 2 ^ W.T → ((p + (2 ^ W.T - q)) % 2 ^ W.T + q) % 2 ^ W.T ≡ p }
 {
-    x.in_range();
-    y.in_range();
-    (
-        x.wrapping_sum(y).wrapping_difference(y),
-        x.wrapping_difference(y).wrapping_sum(y),
-    )
+    (x.wrapping_sum(y), x.wrapping_difference(y))
 }
 
 /// Rows and lanes name the positions of a block, each once.

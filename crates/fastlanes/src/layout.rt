@@ -1,20 +1,12 @@
-//! The places of a block of 1024 items: where the item of a row and a lane stands.
+//! The positions in a block of 1024 items: where the item at a row of a lane stands.
 //!
 //! The order of the rows is that of FastLanes (Afroozeh and Boncz, "The FastLanes Compression
 //! Layout", VLDB 2023).
-ghost use Rattle.std.specs.Prelude.{◌≡◌, ◌<◌, ◌⊎◌, length};
+ghost use Rattle.std.specs.Prelude.{◌≡◌, ◌<◌, ◌⊎◌};
 ghost use Rattle.fastlanes.specs.Layout.{place, row_of, segment};
 
 /// The number of items in a block.
 pub const FL_CHUNK_SIZE: usize = 1024;
-
-/// A block has its 1024 items.
-#[inline(always)]
-pub(crate) fn whole_block<W: Copy>(block: &[W; FL_CHUNK_SIZE])
-    ensures { length block.now ≡ 1024 }
-{
-    let _count = block.len();
-}
 
 /// The order in which the groups of eight rows stand in a block.
 static ORDER: [usize; 8] = [0, 4, 2, 6, 1, 5, 3, 7];

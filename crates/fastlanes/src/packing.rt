@@ -3,7 +3,7 @@
 
 ghost use Rattle.std.specs.Prelude.{◌≡◌, ℕ, ◌+◌, ◌-◌, ◌*◌, ◌/◌, ◌%◌, ◌^◌, ◌<◌, ◌≤◌, length};
 ghost use Rattle.fastlanes.specs.Layout.{place, Packed, pattern_at, word_at};
-ghost use Rattle.fastlanes.specs.Filled.{Filled, IsGroup, word_of, word_place, held};
+ghost use Rattle.fastlanes.specs.Rows.{WritesRows, IsGroup, packed_word, word_index, begun_word};
 
 use crate::layout::{FL_CHUNK_SIZE, pos};
 use crate::storage::{AsBytes, AsWords, Storage};
@@ -11,7 +11,7 @@ use crate::widths::{at_eight, begin, bits, group_at, lanes};
 use crate::words::FastLanes;
 use std::simd::Simd;
 
-/// Puts the items at row `r` of the lanes of group `g` into the words that are being made, writes those that are whole, and gives the words that are begun.
+/// Adds the items at row `r` of the lanes of group `g` to the words in progress, writes those that are complete, and returns the words in progress.
 #[inline(always)]
 fn pack_row<W: FastLanes, S: Storage<W>>(
     width: usize,
@@ -24,9 +24,9 @@ fn pack_row<W: FastLanes, S: Storage<W>>(
     requires some { 0 < width }
     requires row { r < W.T }
     requires group { IsGroup W.T W.LANES width (S.count (length packed.old)) g }
-    requires begun { (j : ℕ) → j < 16 → W.lane begun j ≡ held W.T width (pattern_at W.pattern items.now) (r * width) (16 * g + j) }
-    ensures begun { (j : ℕ) → j < 16 → W.lane result j ≡ held W.T width (pattern_at W.pattern items.now) ((r + 1) * width) (16 * g + j) }
-    ensures words { Filled width W.LANES (word_place W.LANES) (word_of W.T width (pattern_at W.pattern items.now)) g (r * width / W.T) ((r + 1) * width / W.T) (S.word packed.old) (S.word packed.new) }
+    requires begun { (j : ℕ) → j < 16 → W.lane begun j ≡ begun_word W.T width (pattern_at W.pattern items.now) (r * width) (16 * g + j) }
+    ensures begun { (j : ℕ) → j < 16 → W.lane result j ≡ begun_word W.T width (pattern_at W.pattern items.now) ((r + 1) * width) (16 * g + j) }
+    ensures words { WritesRows width W.LANES (word_index W.LANES) (packed_word W.T width (pattern_at W.pattern items.now)) g (r * width / W.T) ((r + 1) * width / W.T) (S.word packed.old) (S.word packed.new) }
 {
     let (k, shift) = begin::<W>(width, r);
     let t = bits::<W>();
@@ -43,7 +43,7 @@ fn pack_row<W: FastLanes, S: Storage<W>>(
     }
 }
 
-/// Puts the items at the four rows from `r` on into the words that are being made.
+/// Adds the items at the four rows from `r` on to the words in progress.
 #[inline(always)]
 fn pack_4<W: FastLanes, S: Storage<W>>(
     width: usize,
@@ -56,9 +56,9 @@ fn pack_4<W: FastLanes, S: Storage<W>>(
     requires some { 0 < width }
     requires row { r + 4 ≤ W.T }
     requires group { IsGroup W.T W.LANES width (S.count (length packed.old)) g }
-    requires begun { (j : ℕ) → j < 16 → W.lane begun j ≡ held W.T width (pattern_at W.pattern items.now) (r * width) (16 * g + j) }
-    ensures begun { (j : ℕ) → j < 16 → W.lane result j ≡ held W.T width (pattern_at W.pattern items.now) ((r + 4) * width) (16 * g + j) }
-    ensures words { Filled width W.LANES (word_place W.LANES) (word_of W.T width (pattern_at W.pattern items.now)) g (r * width / W.T) ((r + 4) * width / W.T) (S.word packed.old) (S.word packed.new) }
+    requires begun { (j : ℕ) → j < 16 → W.lane begun j ≡ begun_word W.T width (pattern_at W.pattern items.now) (r * width) (16 * g + j) }
+    ensures begun { (j : ℕ) → j < 16 → W.lane result j ≡ begun_word W.T width (pattern_at W.pattern items.now) ((r + 4) * width) (16 * g + j) }
+    ensures words { WritesRows width W.LANES (word_index W.LANES) (packed_word W.T width (pattern_at W.pattern items.now)) g (r * width / W.T) ((r + 4) * width / W.T) (S.word packed.old) (S.word packed.new) }
 {
     let begun = pack_row::<W, S>(width, items, r, g, begun, packed);
     let begun = pack_row::<W, S>(width, items, r + 1, g, begun, packed);
@@ -66,7 +66,7 @@ fn pack_4<W: FastLanes, S: Storage<W>>(
     pack_row::<W, S>(width, items, r + 3, g, begun, packed)
 }
 
-/// Puts the items at the eight rows from `r` on into the words that are being made.
+/// Adds the items at the eight rows from `r` on to the words in progress.
 #[inline(always)]
 fn pack_8<W: FastLanes, S: Storage<W>>(
     width: usize,
@@ -79,15 +79,15 @@ fn pack_8<W: FastLanes, S: Storage<W>>(
     requires some { 0 < width }
     requires row { r + 8 ≤ W.T }
     requires group { IsGroup W.T W.LANES width (S.count (length packed.old)) g }
-    requires begun { (j : ℕ) → j < 16 → W.lane begun j ≡ held W.T width (pattern_at W.pattern items.now) (r * width) (16 * g + j) }
-    ensures begun { (j : ℕ) → j < 16 → W.lane result j ≡ held W.T width (pattern_at W.pattern items.now) ((r + 8) * width) (16 * g + j) }
-    ensures words { Filled width W.LANES (word_place W.LANES) (word_of W.T width (pattern_at W.pattern items.now)) g (r * width / W.T) ((r + 8) * width / W.T) (S.word packed.old) (S.word packed.new) }
+    requires begun { (j : ℕ) → j < 16 → W.lane begun j ≡ begun_word W.T width (pattern_at W.pattern items.now) (r * width) (16 * g + j) }
+    ensures begun { (j : ℕ) → j < 16 → W.lane result j ≡ begun_word W.T width (pattern_at W.pattern items.now) ((r + 8) * width) (16 * g + j) }
+    ensures words { WritesRows width W.LANES (word_index W.LANES) (packed_word W.T width (pattern_at W.pattern items.now)) g (r * width / W.T) ((r + 8) * width / W.T) (S.word packed.old) (S.word packed.new) }
 {
     let begun = pack_4::<W, S>(width, items, r, g, begun, packed);
     pack_4::<W, S>(width, items, r + 4, g, begun, packed)
 }
 
-/// Puts the items at the sixteen rows from `FROM` on into the words that are being made.
+/// Adds the items at the sixteen rows from `FROM` on to the words in progress.
 fn pack_16<W: FastLanes, S: Storage<W>, const FIRST: usize, const MORE: usize, const FROM: usize>(
     width: usize,
     items: &[W; FL_CHUNK_SIZE],
@@ -98,15 +98,15 @@ fn pack_16<W: FastLanes, S: Storage<W>, const FIRST: usize, const MORE: usize, c
     requires some { 0 < width }
     requires row { FROM + 16 ≤ W.T }
     requires group { IsGroup W.T W.LANES width (S.count (length packed.old)) g }
-    requires begun { (j : ℕ) → j < 16 → W.lane begun j ≡ held W.T width (pattern_at W.pattern items.now) (FROM * width) (16 * g + j) }
-    ensures begun { (j : ℕ) → j < 16 → W.lane result j ≡ held W.T width (pattern_at W.pattern items.now) ((FROM + 16) * width) (16 * g + j) }
-    ensures words { Filled width W.LANES (word_place W.LANES) (word_of W.T width (pattern_at W.pattern items.now)) g (FROM * width / W.T) ((FROM + 16) * width / W.T) (S.word packed.old) (S.word packed.new) }
+    requires begun { (j : ℕ) → j < 16 → W.lane begun j ≡ begun_word W.T width (pattern_at W.pattern items.now) (FROM * width) (16 * g + j) }
+    ensures begun { (j : ℕ) → j < 16 → W.lane result j ≡ begun_word W.T width (pattern_at W.pattern items.now) ((FROM + 16) * width) (16 * g + j) }
+    ensures words { WritesRows width W.LANES (word_index W.LANES) (packed_word W.T width (pattern_at W.pattern items.now)) g (FROM * width / W.T) ((FROM + 16) * width / W.T) (S.word packed.old) (S.word packed.new) }
 {
     let begun = pack_8::<W, S>(width, items, FROM, g, begun, packed);
     pack_8::<W, S>(width, items, FROM + 8, g, begun, packed)
 }
 
-/// Puts the items at the 32 rows into the words that are being made.
+/// Adds the items at the 32 rows to the words in progress.
 fn pack_32<W: FastLanes, S: Storage<W>, const FIRST: usize, const MORE: usize>(
     width: usize,
     items: &[W; FL_CHUNK_SIZE],
@@ -117,15 +117,15 @@ fn pack_32<W: FastLanes, S: Storage<W>, const FIRST: usize, const MORE: usize>(
     requires some { 0 < width }
     requires row { 32 ≤ W.T }
     requires group { IsGroup W.T W.LANES width (S.count (length packed.old)) g }
-    requires begun { (j : ℕ) → j < 16 → W.lane begun j ≡ held W.T width (pattern_at W.pattern items.now) (0 * width) (16 * g + j) }
-    ensures begun { (j : ℕ) → j < 16 → W.lane result j ≡ held W.T width (pattern_at W.pattern items.now) (32 * width) (16 * g + j) }
-    ensures words { Filled width W.LANES (word_place W.LANES) (word_of W.T width (pattern_at W.pattern items.now)) g (0 * width / W.T) (32 * width / W.T) (S.word packed.old) (S.word packed.new) }
+    requires begun { (j : ℕ) → j < 16 → W.lane begun j ≡ begun_word W.T width (pattern_at W.pattern items.now) (0 * width) (16 * g + j) }
+    ensures begun { (j : ℕ) → j < 16 → W.lane result j ≡ begun_word W.T width (pattern_at W.pattern items.now) (32 * width) (16 * g + j) }
+    ensures words { WritesRows width W.LANES (word_index W.LANES) (packed_word W.T width (pattern_at W.pattern items.now)) g (0 * width / W.T) (32 * width / W.T) (S.word packed.old) (S.word packed.new) }
 {
     let begun = pack_16::<W, S, FIRST, MORE, 0>(width, items, g, begun, packed);
     pack_16::<W, S, FIRST, MORE, 16>(width, items, g, begun, packed)
 }
 
-/// Puts the items at the 64 rows into the words that are being made.
+/// Adds the items at the 64 rows to the words in progress.
 fn pack_64<W: FastLanes, S: Storage<W>, const FIRST: usize, const MORE: usize>(
     width: usize,
     items: &[W; FL_CHUNK_SIZE],
@@ -136,9 +136,9 @@ fn pack_64<W: FastLanes, S: Storage<W>, const FIRST: usize, const MORE: usize>(
     requires some { 0 < width }
     requires row { 64 ≤ W.T }
     requires group { IsGroup W.T W.LANES width (S.count (length packed.old)) g }
-    requires begun { (j : ℕ) → j < 16 → W.lane begun j ≡ held W.T width (pattern_at W.pattern items.now) (0 * width) (16 * g + j) }
-    ensures begun { (j : ℕ) → j < 16 → W.lane result j ≡ held W.T width (pattern_at W.pattern items.now) (64 * width) (16 * g + j) }
-    ensures words { Filled width W.LANES (word_place W.LANES) (word_of W.T width (pattern_at W.pattern items.now)) g (0 * width / W.T) (64 * width / W.T) (S.word packed.old) (S.word packed.new) }
+    requires begun { (j : ℕ) → j < 16 → W.lane begun j ≡ begun_word W.T width (pattern_at W.pattern items.now) (0 * width) (16 * g + j) }
+    ensures begun { (j : ℕ) → j < 16 → W.lane result j ≡ begun_word W.T width (pattern_at W.pattern items.now) (64 * width) (16 * g + j) }
+    ensures words { WritesRows width W.LANES (word_index W.LANES) (packed_word W.T width (pattern_at W.pattern items.now)) g (0 * width / W.T) (64 * width / W.T) (S.word packed.old) (S.word packed.new) }
 {
     let begun = pack_16::<W, S, FIRST, MORE, 0>(width, items, g, begun, packed);
     let begun = pack_16::<W, S, FIRST, MORE, 16>(width, items, g, begun, packed);
@@ -146,17 +146,17 @@ fn pack_64<W: FastLanes, S: Storage<W>, const FIRST: usize, const MORE: usize>(
     pack_16::<W, S, FIRST, MORE, 48>(width, items, g, begun, packed)
 }
 
-/// No bits of any word.
+/// The words in progress before row 0: they have no bits yet.
 #[inline(always)]
 fn nothing_begun<W: FastLanes>(width: usize, items: &[W; FL_CHUNK_SIZE], g: usize) -> Simd<W, 16>
-    ensures begun { (j : ℕ) → j < 16 → W.lane result j ≡ held W.T width (pattern_at W.pattern items.now) (0 * width) (16 * g + j) }
+    ensures begun { (j : ℕ) → j < 16 → W.lane result j ≡ begun_word W.T width (pattern_at W.pattern items.now) (0 * width) (16 * g + j) }
 {
     W::splat(W::zero())
 }
 
 /// Packs the items of the lanes of group `g`.
 #[inline(always)]
-#[tactic(auto, using(crate::proofs::Fillings::has_64_rows))]
+#[tactic(auto, using(crate::proofs::RowWrites::has_64_rows))]
 fn pack_group<W: FastLanes, S: Storage<W>, const FIRST: usize, const MORE: usize>(
     width: usize,
     items: &[W; FL_CHUNK_SIZE],
@@ -165,7 +165,7 @@ fn pack_group<W: FastLanes, S: Storage<W>, const FIRST: usize, const MORE: usize
 )
     requires some { 0 < width }
     requires group { IsGroup W.T W.LANES width (S.count (length packed.old)) g }
-    ensures words { Filled width W.LANES (word_place W.LANES) (word_of W.T width (pattern_at W.pattern items.now)) g 0 width (S.word packed.old) (S.word packed.new) }
+    ensures words { WritesRows width W.LANES (word_index W.LANES) (packed_word W.T width (pattern_at W.pattern items.now)) g 0 width (S.word packed.old) (S.word packed.new) }
 {
     let begun = nothing_begun(width, items, g);
     let t = bits::<W>();
@@ -180,7 +180,7 @@ fn pack_group<W: FastLanes, S: Storage<W>, const FIRST: usize, const MORE: usize
     }
 }
 
-/// Copies the items of a block into as many words.
+/// Packs at the width of a byte, where each item is a word.
 #[inline(always)]
 fn copy_items<W: FastLanes, S: Storage<W>>(items: &[W; FL_CHUNK_SIZE], packed: &mut [S::Unit])
     requires { S.count (length packed.old) ≡ 1024 }
@@ -289,7 +289,7 @@ fn pack_from_32<W: FastLanes, S: Storage<W>>(
     }
 }
 
-/// Packs all bits of the items of a block.
+/// Packs at the width of a whole word.
 #[inline(never)]
 fn pack_whole<W: FastLanes, S: Storage<W>>(items: &[W; FL_CHUNK_SIZE], packed: &mut [S::Unit])
     requires room { S.count (length packed.old) ≡ W.T * W.LANES }

@@ -1,27 +1,19 @@
-//! What was encoded is decoded to itself.
+//! Encoding and then decoding returns the input. The laws behind this, over the definitions alone, stand in `kernel_laws`.
 #![tactic(auto)]
 
-ghost use Rattle.std.specs.Prelude.{◌≡◌, ℕ, ◌+◌, ◌^◌, ◌<◌, length, slice_index};
+ghost use Rattle.std.specs.Prelude.{◌≡◌, ℕ, ◌<◌, length, slice_index};
 ghost use Rattle.fastlanes.specs.Layout.{pattern_at, place};
 ghost use Rattle.fastlanes.specs.Delta.{Transposed, item_delta, summed_item};
 ghost use Rattle.fastlanes.specs.Runs.{changes};
 
 use crate::deltas::{delta, undelta};
+use crate::facts::prove_all_in_range;
 use crate::layout::FL_CHUNK_SIZE;
 use crate::runs::{rle_decode, rle_encode};
 use crate::transposing::{transpose, untranspose};
 use crate::words::FastLanes;
 
-/// The patterns of these words are words' patterns.
-pub fn all_in_range<W: FastLanes>(words: &[W])
-    ensures { (i : ℕ) → i < length words.now → pattern_at W.pattern words.now i < 2 ^ W.T }
-{
-    for i in 0..words.len() {
-        words[i].in_range();
-    }
-}
-
-/// Transposed items are brought back.
+/// `untranspose` undoes `transpose`.
 pub fn transpose_and_back<W: FastLanes>(
     items: &[W; FL_CHUNK_SIZE],
     stored: &mut [W; FL_CHUNK_SIZE],
@@ -34,7 +26,7 @@ pub fn transpose_and_back<W: FastLanes>(
     untranspose(stored, back);
 }
 
-/// Items that were brought back are transposed again.
+/// `transpose` undoes `untranspose`.
 pub fn untranspose_and_back<W: FastLanes>(
     stored: &[W; FL_CHUNK_SIZE],
     items: &mut [W; FL_CHUNK_SIZE],
@@ -47,7 +39,7 @@ pub fn untranspose_and_back<W: FastLanes>(
     transpose(items, back);
 }
 
-/// The deltas of items sum to the items, whatever the bases.
+/// `undelta` undoes `delta`, whatever the bases.
 pub fn delta_and_back<W: FastLanes>(
     items: &[W; FL_CHUNK_SIZE],
     bases: &[W],
@@ -58,13 +50,13 @@ pub fn delta_and_back<W: FastLanes>(
     ensures deltas { (r l : ℕ) → r < W.T → l < W.LANES → pattern_at W.pattern deltas.new (place r l) ≡ item_delta W.T (pattern_at W.pattern bases.now) (pattern_at W.pattern items.now) r l }
     ensures back { back.new ≡ items.now }
 {
-    all_in_range(items);
-    all_in_range(bases);
+    prove_all_in_range(items);
+    prove_all_in_range(bases);
     delta(items, bases, deltas);
     undelta(deltas, bases, back);
 }
 
-/// The sums of deltas differ by the deltas, whatever the bases.
+/// `delta` undoes `undelta`, whatever the bases.
 pub fn undelta_and_back<W: FastLanes>(
     deltas: &[W; FL_CHUNK_SIZE],
     bases: &[W],
@@ -75,13 +67,13 @@ pub fn undelta_and_back<W: FastLanes>(
     ensures items { (r l : ℕ) → r < W.T → l < W.LANES → pattern_at W.pattern items.new (place r l) ≡ summed_item W.T (pattern_at W.pattern bases.now) (pattern_at W.pattern deltas.now) r l }
     ensures back { back.new ≡ deltas.now }
 {
-    all_in_range(deltas);
-    all_in_range(bases);
+    prove_all_in_range(deltas);
+    prove_all_in_range(bases);
     undelta(deltas, bases, items);
     delta(items, bases, back);
 }
 
-/// Run values and indices give the items back.
+/// `rle_decode` undoes `rle_encode`.
 pub fn runs_and_back<W: FastLanes>(
     items: &[W; FL_CHUNK_SIZE],
     values: &mut [W; FL_CHUNK_SIZE],

@@ -10,10 +10,10 @@ use std::simd::Simd;
 pub(crate) trait Storage<W: FastLanes> {
     ghost use Rattle.std.specs.Prelude.{List};
 
-    /// What the words are kept in.
+    /// The element of the slice that the words are kept in.
     type Unit;
 
-    /// How many words so many units hold.
+    /// How many words a slice of this length holds.
     ghost count: { ℕ → ℕ };
 
     /// The pattern of a word.
@@ -69,7 +69,7 @@ impl<W: FastLanes> Storage<W> for AsBytes {
 
     #[inline(always)]
     fn load(units: &[u8], at: usize) -> Simd<W, 16> {
-        W::in_memory();
+        W::prove_in_memory();
         let mut words = [W::zero(); 16];
         read_sixteen(units, at, &mut words);
         W::load(&words, 0)
@@ -81,7 +81,7 @@ impl<W: FastLanes> Storage<W> for AsBytes {
         ensures lanes { (j : ℕ) → j < 16 → word_at W.T units.new (at + j) ≡ W.lane vector j }
         ensures others { (i : ℕ) → (i < at) ⊎ (at + 16 ≤ i) → word_at W.T units.new i ≡ word_at W.T units.old i }
     {
-        W::in_memory();
+        W::prove_in_memory();
         let words = W::to_words(vector);
         for j in 0..16usize {
             words[j].put_word(units, at + j);

@@ -1,4 +1,4 @@
-//! Items of delta blocks, to rows and back.
+//! The transposition of a delta block, and its inverse.
 #![tactic(auto)]
 
 ghost use Rattle.std.specs.Prelude.{◌≡◌, ℕ, ◌+◌, ◌*◌, ◌/◌, ◌%◌, ◌<◌, length};

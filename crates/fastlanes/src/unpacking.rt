@@ -3,10 +3,11 @@
 
 ghost use Rattle.std.specs.Prelude.{◌≡◌, ℕ, ◌+◌, ◌*◌, ◌/◌, ◌%◌, ◌^◌, ◌<◌, ◌≤◌, Bool, true, false, min, length};
 ghost use Rattle.fastlanes.specs.Layout.{place, pattern_at, unpacked_item, word_at};
-ghost use Rattle.fastlanes.specs.Filled.{Filled, IsGroup, IsReference, item_of, sum_of};
+ghost use Rattle.fastlanes.specs.Rows.{WritesRows, IsGroup, IsReference, item_of_row, item_with_reference};
 
 use crate::counts::Work;
-use crate::layout::{FL_CHUNK_SIZE, pos, whole_block};
+use crate::facts::prove_whole_block;
+use crate::layout::{FL_CHUNK_SIZE, pos};
 use crate::storage::{AsBytes, AsWords, Storage};
 use crate::widths::{at_eight, begin, bits, group_at, lanes};
 use crate::words::FastLanes;
@@ -22,7 +23,7 @@ pub(crate) fn items_of_row<W: FastLanes, S: Storage<W>>(
 ) -> Simd<W, 16>
     requires row { r < W.T }
     requires group { IsGroup W.T W.LANES width (S.count (length words.now)) g }
-    ensures items { (j : ℕ) → j < 16 → W.lane result j ≡ item_of W.T W.LANES width (S.word words.now) r (16 * g + j) }
+    ensures items { (j : ℕ) → j < 16 → W.lane result j ≡ item_of_row W.T W.LANES width (S.word words.now) r (16 * g + j) }
 {
     if width == 0 {
         return W::splat(W::zero());
@@ -38,19 +39,26 @@ pub(crate) fn items_of_row<W: FastLanes, S: Storage<W>>(
     }
 }
 
-/// Each lane plus the lane of the reference, which is 0 where the items have no frame.
+/// Each lane of the row plus that of the reference, which is 0 where none is added.
 #[inline(always)]
-fn framed<W: FastLanes, const FRAMED: bool>(row: Simd<W, 16>, reference: Simd<W, 16>) -> Simd<W, 16>
-    requires reference { IsReference FRAMED (W.lane reference) }
+fn add_reference<W: FastLanes, const ADDS_REFERENCE: bool>(
+    row: Simd<W, 16>,
+    reference: Simd<W, 16>,
+) -> Simd<W, 16>
+    requires reference { IsReference ADDS_REFERENCE (W.lane reference) }
     requires small { (j : ℕ) → j < 16 → W.lane row j < 2 ^ W.T }
     ensures lanes { (j : ℕ) → j < 16 → W.lane result j ≡ (W.lane row j + W.lane reference j) % 2 ^ W.T }
 {
-    if FRAMED { W::add(row, reference) } else { row }
+    if ADDS_REFERENCE {
+        W::add(row, reference)
+    } else {
+        row
+    }
 }
 
 /// Writes the items at row `r` of the lanes of group `g`, plus the reference.
 #[inline(always)]
-fn unpack_row<W: FastLanes, S: Storage<W>, const FRAMED: bool>(
+fn unpack_row<W: FastLanes, S: Storage<W>, const ADDS_REFERENCE: bool>(
     width: usize,
     words: &[S::Unit],
     reference: Simd<W, 16>,
@@ -58,18 +66,21 @@ fn unpack_row<W: FastLanes, S: Storage<W>, const FRAMED: bool>(
     g: usize,
     items: &mut [W; FL_CHUNK_SIZE],
 )
-    requires reference { IsReference FRAMED (W.lane reference) }
+    requires reference { IsReference ADDS_REFERENCE (W.lane reference) }
     requires row { r < W.T }
     requires group { IsGroup W.T W.LANES width (S.count (length words.now)) g }
-    ensures filled { Filled W.T W.LANES place (sum_of W.T W.LANES width (S.word words.now) (W.lane reference)) g r (r + 1) (pattern_at W.pattern items.old) (pattern_at W.pattern items.new) }
+    ensures written { WritesRows W.T W.LANES place (item_with_reference W.T W.LANES width (S.word words.now) (W.lane reference)) g r (r + 1) (pattern_at W.pattern items.old) (pattern_at W.pattern items.new) }
 {
-    let row = framed::<W, FRAMED>(items_of_row::<W, S>(width, words, r, g), reference);
+    let row = add_reference::<W, ADDS_REFERENCE>(
+        items_of_row::<W, S>(width, words, r, g),
+        reference,
+    );
     W::store(row, items, pos(r, 16 * g));
 }
 
 /// Writes the items at the eight rows from `r` on of the lanes of group `g`, plus the reference.
 #[inline(always)]
-fn unpack_8<W: FastLanes, S: Storage<W>, const FRAMED: bool>(
+fn unpack_8<W: FastLanes, S: Storage<W>, const ADDS_REFERENCE: bool>(
     width: usize,
     words: &[S::Unit],
     reference: Simd<W, 16>,
@@ -77,112 +88,112 @@ fn unpack_8<W: FastLanes, S: Storage<W>, const FRAMED: bool>(
     g: usize,
     items: &mut [W; FL_CHUNK_SIZE],
 )
-    requires reference { IsReference FRAMED (W.lane reference) }
+    requires reference { IsReference ADDS_REFERENCE (W.lane reference) }
     requires row { r + 8 ≤ W.T }
     requires group { IsGroup W.T W.LANES width (S.count (length words.now)) g }
-    ensures filled { Filled W.T W.LANES place (sum_of W.T W.LANES width (S.word words.now) (W.lane reference)) g r (r + 8) (pattern_at W.pattern items.old) (pattern_at W.pattern items.new) }
+    ensures written { WritesRows W.T W.LANES place (item_with_reference W.T W.LANES width (S.word words.now) (W.lane reference)) g r (r + 8) (pattern_at W.pattern items.old) (pattern_at W.pattern items.new) }
 {
-    unpack_row::<W, S, FRAMED>(width, words, reference, r, g, items);
-    unpack_row::<W, S, FRAMED>(width, words, reference, r + 1, g, items);
-    unpack_row::<W, S, FRAMED>(width, words, reference, r + 2, g, items);
-    unpack_row::<W, S, FRAMED>(width, words, reference, r + 3, g, items);
-    unpack_row::<W, S, FRAMED>(width, words, reference, r + 4, g, items);
-    unpack_row::<W, S, FRAMED>(width, words, reference, r + 5, g, items);
-    unpack_row::<W, S, FRAMED>(width, words, reference, r + 6, g, items);
-    unpack_row::<W, S, FRAMED>(width, words, reference, r + 7, g, items);
+    unpack_row::<W, S, ADDS_REFERENCE>(width, words, reference, r, g, items);
+    unpack_row::<W, S, ADDS_REFERENCE>(width, words, reference, r + 1, g, items);
+    unpack_row::<W, S, ADDS_REFERENCE>(width, words, reference, r + 2, g, items);
+    unpack_row::<W, S, ADDS_REFERENCE>(width, words, reference, r + 3, g, items);
+    unpack_row::<W, S, ADDS_REFERENCE>(width, words, reference, r + 4, g, items);
+    unpack_row::<W, S, ADDS_REFERENCE>(width, words, reference, r + 5, g, items);
+    unpack_row::<W, S, ADDS_REFERENCE>(width, words, reference, r + 6, g, items);
+    unpack_row::<W, S, ADDS_REFERENCE>(width, words, reference, r + 7, g, items);
 }
 
 /// Writes the items at the sixteen rows from `FROM` on of the lanes of group `g`, plus the reference.
 fn unpack_16<
     W: FastLanes,
     S: Storage<W>,
-    const FRAMED: bool,
+    const ADDS_REFERENCE: bool,
     const FIRST: usize,
     const MORE: usize,
     const FROM: usize,
 >(width: usize, words: &[S::Unit], reference: Simd<W, 16>, g: usize, items: &mut [W; FL_CHUNK_SIZE])
-    requires reference { IsReference FRAMED (W.lane reference) }
+    requires reference { IsReference ADDS_REFERENCE (W.lane reference) }
     requires row { FROM + 16 ≤ W.T }
     requires group { IsGroup W.T W.LANES width (S.count (length words.now)) g }
-    ensures filled { Filled W.T W.LANES place (sum_of W.T W.LANES width (S.word words.now) (W.lane reference)) g FROM (FROM + 16) (pattern_at W.pattern items.old) (pattern_at W.pattern items.new) }
+    ensures written { WritesRows W.T W.LANES place (item_with_reference W.T W.LANES width (S.word words.now) (W.lane reference)) g FROM (FROM + 16) (pattern_at W.pattern items.old) (pattern_at W.pattern items.new) }
 {
-    unpack_8::<W, S, FRAMED>(width, words, reference, FROM, g, items);
-    unpack_8::<W, S, FRAMED>(width, words, reference, FROM + 8, g, items);
+    unpack_8::<W, S, ADDS_REFERENCE>(width, words, reference, FROM, g, items);
+    unpack_8::<W, S, ADDS_REFERENCE>(width, words, reference, FROM + 8, g, items);
 }
 
 /// Writes the items at the 32 rows of the lanes of group `g`, plus the reference.
 fn unpack_32<
     W: FastLanes,
     S: Storage<W>,
-    const FRAMED: bool,
+    const ADDS_REFERENCE: bool,
     const FIRST: usize,
     const MORE: usize,
 >(width: usize, words: &[S::Unit], reference: Simd<W, 16>, g: usize, items: &mut [W; FL_CHUNK_SIZE])
-    requires reference { IsReference FRAMED (W.lane reference) }
+    requires reference { IsReference ADDS_REFERENCE (W.lane reference) }
     requires row { 32 ≤ W.T }
     requires group { IsGroup W.T W.LANES width (S.count (length words.now)) g }
-    ensures filled { Filled W.T W.LANES place (sum_of W.T W.LANES width (S.word words.now) (W.lane reference)) g 0 32 (pattern_at W.pattern items.old) (pattern_at W.pattern items.new) }
+    ensures written { WritesRows W.T W.LANES place (item_with_reference W.T W.LANES width (S.word words.now) (W.lane reference)) g 0 32 (pattern_at W.pattern items.old) (pattern_at W.pattern items.new) }
 {
-    unpack_16::<W, S, FRAMED, FIRST, MORE, 0>(width, words, reference, g, items);
-    unpack_16::<W, S, FRAMED, FIRST, MORE, 16>(width, words, reference, g, items);
+    unpack_16::<W, S, ADDS_REFERENCE, FIRST, MORE, 0>(width, words, reference, g, items);
+    unpack_16::<W, S, ADDS_REFERENCE, FIRST, MORE, 16>(width, words, reference, g, items);
 }
 
 /// Writes the items at the 64 rows of the lanes of group `g`, plus the reference.
 fn unpack_64<
     W: FastLanes,
     S: Storage<W>,
-    const FRAMED: bool,
+    const ADDS_REFERENCE: bool,
     const FIRST: usize,
     const MORE: usize,
 >(width: usize, words: &[S::Unit], reference: Simd<W, 16>, g: usize, items: &mut [W; FL_CHUNK_SIZE])
-    requires reference { IsReference FRAMED (W.lane reference) }
+    requires reference { IsReference ADDS_REFERENCE (W.lane reference) }
     requires row { 64 ≤ W.T }
     requires group { IsGroup W.T W.LANES width (S.count (length words.now)) g }
-    ensures filled { Filled W.T W.LANES place (sum_of W.T W.LANES width (S.word words.now) (W.lane reference)) g 0 64 (pattern_at W.pattern items.old) (pattern_at W.pattern items.new) }
+    ensures written { WritesRows W.T W.LANES place (item_with_reference W.T W.LANES width (S.word words.now) (W.lane reference)) g 0 64 (pattern_at W.pattern items.old) (pattern_at W.pattern items.new) }
 {
-    unpack_16::<W, S, FRAMED, FIRST, MORE, 0>(width, words, reference, g, items);
-    unpack_16::<W, S, FRAMED, FIRST, MORE, 16>(width, words, reference, g, items);
-    unpack_16::<W, S, FRAMED, FIRST, MORE, 32>(width, words, reference, g, items);
-    unpack_16::<W, S, FRAMED, FIRST, MORE, 48>(width, words, reference, g, items);
+    unpack_16::<W, S, ADDS_REFERENCE, FIRST, MORE, 0>(width, words, reference, g, items);
+    unpack_16::<W, S, ADDS_REFERENCE, FIRST, MORE, 16>(width, words, reference, g, items);
+    unpack_16::<W, S, ADDS_REFERENCE, FIRST, MORE, 32>(width, words, reference, g, items);
+    unpack_16::<W, S, ADDS_REFERENCE, FIRST, MORE, 48>(width, words, reference, g, items);
 }
 
 /// Writes the items at all rows of the lanes of group `g`, plus the reference.
 #[inline(always)]
-#[tactic(auto, using(crate::proofs::Fillings::has_64_rows))]
+#[tactic(auto, using(crate::proofs::RowWrites::has_64_rows))]
 fn unpack_group<
     W: FastLanes,
     S: Storage<W>,
-    const FRAMED: bool,
+    const ADDS_REFERENCE: bool,
     const FIRST: usize,
     const MORE: usize,
 >(width: usize, words: &[S::Unit], reference: Simd<W, 16>, g: usize, items: &mut [W; FL_CHUNK_SIZE])
-    requires reference { IsReference FRAMED (W.lane reference) }
+    requires reference { IsReference ADDS_REFERENCE (W.lane reference) }
     requires group { IsGroup W.T W.LANES width (S.count (length words.now)) g }
-    ensures filled { Filled W.T W.LANES place (sum_of W.T W.LANES width (S.word words.now) (W.lane reference)) g 0 W.T (pattern_at W.pattern items.old) (pattern_at W.pattern items.new) }
+    ensures written { WritesRows W.T W.LANES place (item_with_reference W.T W.LANES width (S.word words.now) (W.lane reference)) g 0 W.T (pattern_at W.pattern items.old) (pattern_at W.pattern items.new) }
 {
     let t = bits::<W>();
     if t == 8 {
-        unpack_8::<W, S, FRAMED>(width, words, reference, 0, g, items);
+        unpack_8::<W, S, ADDS_REFERENCE>(width, words, reference, 0, g, items);
     } else if t == 16 {
-        unpack_16::<W, S, FRAMED, FIRST, MORE, 0>(width, words, reference, g, items);
+        unpack_16::<W, S, ADDS_REFERENCE, FIRST, MORE, 0>(width, words, reference, g, items);
     } else if t == 32 {
-        unpack_32::<W, S, FRAMED, FIRST, MORE>(width, words, reference, g, items);
+        unpack_32::<W, S, ADDS_REFERENCE, FIRST, MORE>(width, words, reference, g, items);
     } else {
-        unpack_64::<W, S, FRAMED, FIRST, MORE>(width, words, reference, g, items);
+        unpack_64::<W, S, ADDS_REFERENCE, FIRST, MORE>(width, words, reference, g, items);
     }
 }
 
-/// Sixteen times the reference.
+/// A vector with the reference in each lane.
 #[inline(always)]
-fn splat_reference<W: FastLanes, const FRAMED: bool>(reference: W) -> Simd<W, 16>
-    requires { FRAMED ≡ false → W.pattern reference ≡ 0 }
-    ensures reference { IsReference FRAMED (W.lane result) }
+fn splat_reference<W: FastLanes, const ADDS_REFERENCE: bool>(reference: W) -> Simd<W, 16>
+    requires { ADDS_REFERENCE ≡ false → W.pattern reference ≡ 0 }
+    ensures reference { IsReference ADDS_REFERENCE (W.lane result) }
     ensures lanes { (j : ℕ) → j < 16 → W.lane result j ≡ W.pattern reference }
 {
     W::splat(reference)
 }
 
-/// Writes one word at all places of a block.
+/// Writes one word at every position of a block.
 #[inline(always)]
 #[tactic(auto, using(crate::proofs::Patterns::pattern_at_read))]
 fn fill<W: FastLanes>(word: W, items: &mut [W; FL_CHUNK_SIZE])
@@ -194,7 +205,7 @@ fn fill<W: FastLanes>(word: W, items: &mut [W; FL_CHUNK_SIZE])
     }
 }
 
-/// Copies the words of a block that has as many of them as items.
+/// Unpacks at the width of a byte, where each word is an item.
 #[inline(always)]
 fn copy_words<W: FastLanes, S: Storage<W>>(words: &[S::Unit], items: &mut [W; FL_CHUNK_SIZE])
     requires { S.count (length words.now) ≡ 1024 }
@@ -213,28 +224,28 @@ fn copy_words<W: FastLanes, S: Storage<W>>(words: &[S::Unit], items: &mut [W; FL
 fn unpack_groups<
     W: FastLanes,
     S: Storage<W>,
-    const FRAMED: bool,
+    const ADDS_REFERENCE: bool,
     const FIRST: usize,
     const MORE: usize,
 >(width: usize, words: &[S::Unit], reference: W, items: &mut [W; FL_CHUNK_SIZE])
     requires width { width ≤ W.T }
     requires block { S.count (length words.now) ≡ width * W.LANES }
-    requires frame { FRAMED ≡ false → W.pattern reference ≡ 0 }
+    requires reference { ADDS_REFERENCE ≡ false → W.pattern reference ≡ 0 }
     ensures items { (i : ℕ) → i < 1024 → pattern_at W.pattern items.new i ≡ (unpacked_item W.T W.LANES width (S.word words.now) i + W.pattern reference) % 2 ^ W.T }
 {
-    reference.in_range();
-    W::in_memory();
+    reference.prove_in_range();
+    W::prove_in_memory();
     if width == 0 {
         fill(reference, items);
         return;
     }
-    if width == 8 && !FRAMED && bits::<W>() == 8 {
+    if width == 8 && !ADDS_REFERENCE && bits::<W>() == 8 {
         copy_words::<W, S>(words, items);
         return;
     }
-    let reference = splat_reference::<W, FRAMED>(reference);
+    let reference = splat_reference::<W, ADDS_REFERENCE>(reference);
     for g in 0..lanes::<W>() / 16 {
-        unpack_group::<W, S, FRAMED, FIRST, MORE>(width, words, reference, g, items);
+        unpack_group::<W, S, ADDS_REFERENCE, FIRST, MORE>(width, words, reference, g, items);
     }
 }
 
@@ -243,20 +254,20 @@ fn unpack_groups<
 fn unpack_at<
     W: FastLanes,
     S: Storage<W>,
-    const FRAMED: bool,
+    const ADDS_REFERENCE: bool,
     const FIRST: usize,
     const MORE: usize,
 >(words: &[S::Unit], reference: W, items: &mut [W; FL_CHUNK_SIZE])
     requires width { FIRST + MORE ≤ W.T }
     requires block { S.count (length words.now) ≡ (FIRST + MORE) * W.LANES }
-    requires frame { FRAMED ≡ false → W.pattern reference ≡ 0 }
+    requires reference { ADDS_REFERENCE ≡ false → W.pattern reference ≡ 0 }
     ensures items { (i : ℕ) → i < 1024 → pattern_at W.pattern items.new i ≡ (unpacked_item W.T W.LANES (FIRST + MORE) (S.word words.now) i + W.pattern reference) % 2 ^ W.T }
 {
-    unpack_groups::<W, S, FRAMED, FIRST, MORE>(FIRST + MORE, words, reference, items);
+    unpack_groups::<W, S, ADDS_REFERENCE, FIRST, MORE>(FIRST + MORE, words, reference, items);
 }
 
 /// Unpacks at one of the eight widths from `FIRST` on.
-fn unpack_eight<W: FastLanes, S: Storage<W>, const FRAMED: bool, const FIRST: usize>(
+fn unpack_eight<W: FastLanes, S: Storage<W>, const ADDS_REFERENCE: bool, const FIRST: usize>(
     width: usize,
     words: &[S::Unit],
     reference: W,
@@ -266,19 +277,19 @@ fn unpack_eight<W: FastLanes, S: Storage<W>, const FRAMED: bool, const FIRST: us
     requires below { width < FIRST + 8 }
     requires width { width ≤ W.T }
     requires block { S.count (length words.now) ≡ width * W.LANES }
-    requires frame { FRAMED ≡ false → W.pattern reference ≡ 0 }
+    requires reference { ADDS_REFERENCE ≡ false → W.pattern reference ≡ 0 }
     ensures items { (i : ℕ) → i < 1024 → pattern_at W.pattern items.new i ≡ (unpacked_item W.T W.LANES width (S.word words.now) i + W.pattern reference) % 2 ^ W.T }
 {
     at_eight!(
         width - FIRST,
         unpack_at,
-        [W, S, FRAMED, FIRST],
+        [W, S, ADDS_REFERENCE, FIRST],
         (words, reference, items)
     )
 }
 
 /// Unpacks at a width below 32 bits.
-fn unpack_below_32<W: FastLanes, S: Storage<W>, const FRAMED: bool>(
+fn unpack_below_32<W: FastLanes, S: Storage<W>, const ADDS_REFERENCE: bool>(
     width: usize,
     words: &[S::Unit],
     reference: W,
@@ -287,23 +298,23 @@ fn unpack_below_32<W: FastLanes, S: Storage<W>, const FRAMED: bool>(
     requires below { width < 32 }
     requires width { width < W.T }
     requires block { S.count (length words.now) ≡ width * W.LANES }
-    requires frame { FRAMED ≡ false → W.pattern reference ≡ 0 }
+    requires reference { ADDS_REFERENCE ≡ false → W.pattern reference ≡ 0 }
     ensures items { (i : ℕ) → i < 1024 → pattern_at W.pattern items.new i ≡ (unpacked_item W.T W.LANES width (S.word words.now) i + W.pattern reference) % 2 ^ W.T }
 {
     let t = bits::<W>();
     if t == 8 || width < 8 {
-        unpack_eight::<W, S, FRAMED, 0>(width, words, reference, items);
+        unpack_eight::<W, S, ADDS_REFERENCE, 0>(width, words, reference, items);
     } else if t == 16 || width < 16 {
-        unpack_eight::<W, S, FRAMED, 8>(width, words, reference, items);
+        unpack_eight::<W, S, ADDS_REFERENCE, 8>(width, words, reference, items);
     } else if width < 24 {
-        unpack_eight::<W, S, FRAMED, 16>(width, words, reference, items);
+        unpack_eight::<W, S, ADDS_REFERENCE, 16>(width, words, reference, items);
     } else {
-        unpack_eight::<W, S, FRAMED, 24>(width, words, reference, items);
+        unpack_eight::<W, S, ADDS_REFERENCE, 24>(width, words, reference, items);
     }
 }
 
 /// Unpacks at a width of 32 to 63 bits.
-fn unpack_from_32<W: FastLanes, S: Storage<W>, const FRAMED: bool>(
+fn unpack_from_32<W: FastLanes, S: Storage<W>, const ADDS_REFERENCE: bool>(
     width: usize,
     words: &[S::Unit],
     reference: W,
@@ -313,36 +324,36 @@ fn unpack_from_32<W: FastLanes, S: Storage<W>, const FRAMED: bool>(
     requires below { width < 64 }
     requires width { width < W.T }
     requires block { S.count (length words.now) ≡ width * W.LANES }
-    requires frame { FRAMED ≡ false → W.pattern reference ≡ 0 }
+    requires reference { ADDS_REFERENCE ≡ false → W.pattern reference ≡ 0 }
     ensures items { (i : ℕ) → i < 1024 → pattern_at W.pattern items.new i ≡ (unpacked_item W.T W.LANES width (S.word words.now) i + W.pattern reference) % 2 ^ W.T }
 {
     if width < 40 {
-        unpack_eight::<W, S, FRAMED, 32>(width, words, reference, items);
+        unpack_eight::<W, S, ADDS_REFERENCE, 32>(width, words, reference, items);
     } else if width < 48 {
-        unpack_eight::<W, S, FRAMED, 40>(width, words, reference, items);
+        unpack_eight::<W, S, ADDS_REFERENCE, 40>(width, words, reference, items);
     } else if width < 56 {
-        unpack_eight::<W, S, FRAMED, 48>(width, words, reference, items);
+        unpack_eight::<W, S, ADDS_REFERENCE, 48>(width, words, reference, items);
     } else {
-        unpack_eight::<W, S, FRAMED, 56>(width, words, reference, items);
+        unpack_eight::<W, S, ADDS_REFERENCE, 56>(width, words, reference, items);
     }
 }
 
-/// Unpacks where the items have all bits of their words.
+/// Unpacks at the width of a whole word.
 #[inline(never)]
-fn unpack_whole<W: FastLanes, S: Storage<W>, const FRAMED: bool>(
+fn unpack_whole<W: FastLanes, S: Storage<W>, const ADDS_REFERENCE: bool>(
     words: &[S::Unit],
     reference: W,
     items: &mut [W; FL_CHUNK_SIZE],
 )
     requires block { S.count (length words.now) ≡ W.T * W.LANES }
-    requires frame { FRAMED ≡ false → W.pattern reference ≡ 0 }
+    requires reference { ADDS_REFERENCE ≡ false → W.pattern reference ≡ 0 }
     ensures items { (i : ℕ) → i < 1024 → pattern_at W.pattern items.new i ≡ (unpacked_item W.T W.LANES W.T (S.word words.now) i + W.pattern reference) % 2 ^ W.T }
 {
-    unpack_groups::<W, S, FRAMED, 64, 0>(bits::<W>(), words, reference, items);
+    unpack_groups::<W, S, ADDS_REFERENCE, 64, 0>(bits::<W>(), words, reference, items);
 }
 
 /// Writes the items of a block at any width, plus the reference.
-pub(crate) fn unpack_block<W: FastLanes, S: Storage<W>, const FRAMED: bool>(
+pub(crate) fn unpack_block<W: FastLanes, S: Storage<W>, const ADDS_REFERENCE: bool>(
     width: usize,
     words: &[S::Unit],
     reference: W,
@@ -350,19 +361,19 @@ pub(crate) fn unpack_block<W: FastLanes, S: Storage<W>, const FRAMED: bool>(
 )
     requires width { width ≤ W.T }
     requires block { S.count (length words.now) ≡ width * W.LANES }
-    requires frame { FRAMED ≡ false → W.pattern reference ≡ 0 }
+    requires reference { ADDS_REFERENCE ≡ false → W.pattern reference ≡ 0 }
     ensures items { (i : ℕ) → i < 1024 → pattern_at W.pattern items.new i ≡ (unpacked_item W.T W.LANES width (S.word words.now) i + W.pattern reference) % 2 ^ W.T }
     ensures whole { length items.new ≡ 1024 }
 {
     let t = bits::<W>();
     if width == t {
-        unpack_whole::<W, S, FRAMED>(words, reference, items);
+        unpack_whole::<W, S, ADDS_REFERENCE>(words, reference, items);
     } else if t <= 32 || width < 32 {
-        unpack_below_32::<W, S, FRAMED>(width, words, reference, items);
+        unpack_below_32::<W, S, ADDS_REFERENCE>(width, words, reference, items);
     } else {
-        unpack_from_32::<W, S, FRAMED>(width, words, reference, items);
+        unpack_from_32::<W, S, ADDS_REFERENCE>(width, words, reference, items);
     }
-    whole_block(items);
+    prove_whole_block(items);
 }
 
 /// Unpacks a block: writes the item at each position, its bits from `width` on 0.

@@ -1,4 +1,4 @@
-//! Where a row's bits stand, and one kernel for each width.
+//! Where a row's bits stand, and a kernel for each width.
 #![tactic(auto)]
 
 ghost use Rattle.std.specs.Prelude.{◌≡◌, ◌+◌, ◌-◌, ◌*◌, ◌/◌, ◌%◌, ◌^◌, ◌<◌, ◌≤◌};
@@ -21,7 +21,7 @@ pub(crate) fn lanes<W: FastLanes>() -> usize
     W::LANES
 }
 
-/// The word of its stream, and the bit in it, where row `r` begins.
+/// The word of a lane's stream in which row `r` begins, and the bit of this word.
 #[inline(always)]
 #[tactic(auto, using(crate::proofs::Streams::row_times_width, crate::proofs::Steps::begins))]
 pub(crate) fn begin<W: FastLanes>(width: usize, r: usize) -> (usize, usize)
@@ -38,7 +38,7 @@ pub(crate) fn begin<W: FastLanes>(width: usize, r: usize) -> (usize, usize)
     (at / t, at % t)
 }
 
-/// The numbers whose low bits are set, and no others: none of their bits, one, and so on up to 64.
+/// The numbers whose low bits alone are set: no bit, one bit, and so on up to 64.
 static LOW_BITS: [u64; 65] = [
     0x0,
     0x1,
@@ -107,9 +107,9 @@ static LOW_BITS: [u64; 65] = [
     0xffffffffffffffff,
 ];
 
-/// A number whose low `width` bits are set, and no others.
+/// The number whose low `width` bits alone are set.
 ///
-/// A table, as a load takes less than a shift by a variable.
+/// It is a table because a load takes less than a shift by a variable.
 #[inline(always)]
 pub(crate) fn low_bits(width: usize) -> u64
     requires { width ≤ 64 }
@@ -118,7 +118,7 @@ pub(crate) fn low_bits(width: usize) -> u64
     LOW_BITS[width]
 }
 
-/// Where the words of group `g` stand, word `k` of each of its lanes.
+/// The index of word `k` of the first lane of group `g`, which those of its other lanes follow.
 #[inline(always)]
 #[tactic(auto, using(crate::proofs::Steps::group_fits))]
 pub(crate) fn group_at<W: FastLanes>(width: usize, k: usize, g: usize) -> usize
@@ -131,7 +131,7 @@ pub(crate) fn group_at<W: FastLanes>(width: usize, k: usize, g: usize) -> usize
     k * lanes::<W>() + 16 * g
 }
 
-/// Calls a kernel with its width as a constant: the first of eight widths, and what it has more.
+/// Calls a kernel with its width as a constant: the first of eight widths, and how far the width is above it.
 macro_rules! at_eight {
     ($more:expr, $kernel:ident, [$($given:ident),*], $args:tt) => {
         match $more {

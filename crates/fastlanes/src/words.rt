@@ -1,6 +1,5 @@
 //! The words that a block is packed into.
 ghost use Rattle.std.specs.Prelude.{◌≡◌, ◌≢◌, ◌⊎◌, ℕ, ◌+◌, ◌-◌, ◌*◌, ◌/◌, ◌%◌, ◌^◌, ◌<◌, ◌≤◌, length, slice_index, bit_and, bit_or, nat_eq};
-ghost use Rattle.std.specs.Int.{bit_at};
 ghost use Rattle.std.specs.Mem.{type_size};
 ghost use Rattle.std.proofs.Common.{lit≤};
 ghost use Rattle.fastlanes.specs.Layout.{word_at, pattern_at, bit_value, IsWordWidth, bits_8, bits_16, bits_32, bits_64};
@@ -22,7 +21,7 @@ pub trait FastLanes: Copy {
 
     ghost LANES: { ℕ };
 
-    /// The number that a word stands for.
+    /// The pattern of a word: the number that it stands for.
     ghost pattern: { Self → ℕ };
 
     /// Word `k` of these bytes, the low byte first.
@@ -39,11 +38,6 @@ pub trait FastLanes: Copy {
     /// The word 0.
     fn zero() -> Self
         ensures { pattern result ≡ 0 };
-
-    /// Whether bit `b` is set.
-    fn bit(self, b: usize) -> bool
-        requires { b < T }
-        ensures { bit_at (pattern self) b ≡ bit_value result };
 
     /// The same word with bit `b` set if `on`, above its other bits.
     fn with_bit(self, b: usize, on: bool) -> Self
@@ -65,7 +59,7 @@ pub trait FastLanes: Copy {
         requires within { shift + width ≤ T }
         ensures { pattern result ≡ bit_and (pattern self / 2 ^ shift) (2 ^ width - 1) };
 
-    /// The `width` bits from bit `shift` of this word on, which go on in the word `next`.
+    /// The `width` bits from bit `shift` of this word on, continued in the word `next`.
     fn bits_across(self, next: Self, shift: usize, width: usize) -> Self
         requires width { width ≤ T }
         requires shift { shift < T }
@@ -76,11 +70,11 @@ pub trait FastLanes: Copy {
     fn same(self, other: Self) -> bool
         ensures { result ≡ nat_eq (pattern self) (pattern other) };
 
-    /// A word's pattern is one of its bits.
-    fn in_range(self)
+    /// A word's pattern is below 2 to the number of bits. The call does nothing when it runs.
+    fn prove_in_range(self)
         ensures { pattern self < 2 ^ T };
 
-    /// The pattern of each of the sixteen words of a vector.
+    /// The patterns of the sixteen words of a vector.
     ghost lane: { List Self → ℕ → ℕ };
 
     /// The sixteen words from `at` on.
@@ -99,44 +93,44 @@ pub trait FastLanes: Copy {
     fn to_words(vector: Simd<Self, 16>) -> [Self; 16]
         ensures { (j : ℕ) → j < 16 → pattern_at pattern result j ≡ lane vector j };
 
-    /// Sixteen times this word.
+    /// A vector with this word in each lane.
     fn splat(word: Self) -> Simd<Self, 16>
         ensures lanes { (j : ℕ) → j < 16 → lane result j ≡ pattern word };
 
-    /// Sixteen words whose low `width` bits are set.
+    /// Sixteen words whose low `width` bits alone are set.
     fn low_mask(width: usize) -> Simd<Self, 16>
         requires some { 0 < width }
         requires width { width ≤ T }
         ensures lanes { (j : ℕ) → j < 16 → lane result j ≡ 2 ^ width - 1 };
 
-    /// Each word shifted to the right by so many bits.
+    /// Each word shifted to the right by `by` bits.
     fn shift_right(vector: Simd<Self, 16>, by: usize) -> Simd<Self, 16>
         requires by { by < T }
         ensures lanes { (j : ℕ) → j < 16 → lane result j ≡ lane vector j / 2 ^ by };
 
-    /// Each word shifted to the left by so many bits, the bits above a word lost.
+    /// Each word shifted to the left by `by` bits, without the bits above a word.
     fn shift_left(vector: Simd<Self, 16>, by: usize) -> Simd<Self, 16>
         requires by { by < T }
         ensures lanes { (j : ℕ) → j < 16 → lane result j ≡ lane vector j * 2 ^ by % 2 ^ T };
 
-    /// The bits that both words of a lane have.
+    /// The bitwise and of the two words of each lane.
     fn and(vector: Simd<Self, 16>, other: Simd<Self, 16>) -> Simd<Self, 16>
         ensures lanes { (j : ℕ) → j < 16 → lane result j ≡ bit_and (lane vector j) (lane other j) };
 
-    /// The bits that one of the two words of a lane has.
+    /// The bitwise or of the two words of each lane.
     fn or(vector: Simd<Self, 16>, other: Simd<Self, 16>) -> Simd<Self, 16>
         ensures lanes { (j : ℕ) → j < 16 → lane result j ≡ bit_or (lane vector j) (lane other j) };
 
-    /// The sum of the two words of a lane, modulo 2 to the number of bits.
+    /// The sum of the two words of each lane, modulo 2 to the number of bits.
     fn add(vector: Simd<Self, 16>, other: Simd<Self, 16>) -> Simd<Self, 16>
         ensures lanes { (j : ℕ) → j < 16 → lane result j ≡ (lane vector j + lane other j) % 2 ^ T };
 
-    /// The difference of the two words of a lane, modulo 2 to the number of bits.
+    /// The difference of the two words of each lane, modulo 2 to the number of bits.
     fn subtract(vector: Simd<Self, 16>, other: Simd<Self, 16>) -> Simd<Self, 16>
         ensures lanes { (j : ℕ) → j < 16 → lane result j ≡ (lane vector j + (2 ^ T - lane other j)) % 2 ^ T };
 
-    /// A word takes at most eight bytes, so that arrays of words fit in memory.
-    fn in_memory()
+    /// A word takes at most eight bytes, so that arrays of words fit in memory. The call does nothing when it runs.
+    fn prove_in_memory()
         ensures { type_size Self.row ≤ 8 };
 
     /// A word has 8, 16, 32 or 64 bits, and a block 1024 items.
@@ -146,7 +140,7 @@ pub trait FastLanes: Copy {
 
     ghost few_lanes: { LANES ≤ 128 };
 
-    /// Words of one pattern are equal.
+    /// Words with the same pattern are equal.
     ghost one_word: { (x y : Self) → pattern x ≡ pattern y → x ≡ y };
 }
 
@@ -171,10 +165,6 @@ impl FastLanes for u8 {
 
     fn zero() -> Self {
         0
-    }
-
-    fn bit(self, b: usize) -> bool {
-        self >> b & 1 == 1
     }
 
     fn with_bit(self, b: usize, on: bool) -> Self {
@@ -205,9 +195,9 @@ impl FastLanes for u8 {
         self == other
     }
 
-    fn in_range(self) {}
+    fn prove_in_range(self) {}
 
-    fn in_memory() {}
+    fn prove_in_memory() {}
 
     ghost lane = { λ v j. slice_index v j };
 
@@ -326,10 +316,6 @@ impl FastLanes for u16 {
         0
     }
 
-    fn bit(self, b: usize) -> bool {
-        self >> b & 1 == 1
-    }
-
     fn with_bit(self, b: usize, on: bool) -> Self {
         if on { self | 1 << b } else { self }
     }
@@ -358,9 +344,9 @@ impl FastLanes for u16 {
         self == other
     }
 
-    fn in_range(self) {}
+    fn prove_in_range(self) {}
 
-    fn in_memory() {}
+    fn prove_in_memory() {}
 
     ghost lane = { λ v j. slice_index v j };
 
@@ -480,10 +466,6 @@ impl FastLanes for u32 {
         0
     }
 
-    fn bit(self, b: usize) -> bool {
-        self >> b & 1 == 1
-    }
-
     fn with_bit(self, b: usize, on: bool) -> Self {
         if on { self | 1 << b } else { self }
     }
@@ -512,9 +494,9 @@ impl FastLanes for u32 {
         self == other
     }
 
-    fn in_range(self) {}
+    fn prove_in_range(self) {}
 
-    fn in_memory() {}
+    fn prove_in_memory() {}
 
     ghost lane = { λ v j. slice_index v j };
 
@@ -643,10 +625,6 @@ impl FastLanes for u64 {
         0
     }
 
-    fn bit(self, b: usize) -> bool {
-        self >> b & 1 == 1
-    }
-
     fn with_bit(self, b: usize, on: bool) -> Self {
         if on { self | 1 << b } else { self }
     }
@@ -673,9 +651,9 @@ impl FastLanes for u64 {
         self == other
     }
 
-    fn in_range(self) {}
+    fn prove_in_range(self) {}
 
-    fn in_memory() {}
+    fn prove_in_memory() {}
 
     ghost lane = { λ v j. slice_index v j };
 

@@ -3,19 +3,19 @@
 
 ghost use Rattle.std.specs.Prelude.{◌≡◌, ◌*◌, ◌≤◌, length};
 ghost use Rattle.fl_types.specs.Integers.{bits_of_type};
-ghost use Rattle.fl_packed.specs.Columns.{block_count};
-ghost use Rattle.fl_packed.specs.Parts.{Fit, parts_of};
+ghost use Rattle.fl_bitpacking.specs.Columns.{block_count};
+ghost use Rattle.fl_bitpacking.specs.Parts.{Fit, parts_of};
 
 use bytes::Bytes;
 use fastlanes::FL_CHUNK_SIZE;
-use fl_packed::decoding::{PackedColumn, unpack_even};
-use fl_packed::packing::{bitpack_into, bitpack_unchecked};
-use fl_packed::unpack_iter::{BitPacked, BitPackingStrategy, UnpackedChunks};
-use fl_plain::PrimitiveArray;
+use fl_bitpacking::decoding::{PackedColumn, unpack_global};
+use fl_bitpacking::packing::{bitpack_into, bitpack_unchecked};
+use fl_bitpacking::unpack_iter::{BitPacked, BitPackingStrategy, UnpackedChunks};
+use fl_column::{PrimitiveArray, chunk_count};
 use fl_types::{FastLanesError, NativePType, Validity};
 use std::alloc::Global;
 
-/// Packs an array so many times at a width, and writes the bytes of the last time, as far as there is
+/// Packs an array this many times at a width, and writes the bytes of the last time, as far as there is
 /// room.
 fn pack_array(
     alloc: Global,
@@ -36,7 +36,7 @@ fn pack_array(
     Ok(count)
 }
 
-/// Packs a column so many times at a width, and writes the bytes of the last time, as far as there is
+/// Packs a column this many times at a width, and writes the bytes of the last time, as far as there is
 /// room. The answer is how many were written.
 pub(crate) fn pack_column<T: BitPacked>(
     alloc: Global,
@@ -50,10 +50,10 @@ pub(crate) fn pack_column<T: BitPacked>(
     pack_array(alloc, rounds, width, &array, bytes)
 }
 
-/// Packs an array so many times at a width into these bytes. The answer is how many they are, 0 where
+/// Packs an array this many times at a width into these bytes. The answer is how many they are, 0 where
 /// the array takes more or fewer.
 fn pack_array_into(rounds: usize, width: u8, array: &PrimitiveArray, bytes: &mut [u8]) -> usize {
-    let blocks = array.len().div_ceil(FL_CHUNK_SIZE);
+    let blocks = chunk_count(array.len());
     if usize::from(width) > array.ptype().bit_width() {
         return 0;
     }
@@ -67,7 +67,7 @@ fn pack_array_into(rounds: usize, width: u8, array: &PrimitiveArray, bytes: &mut
     bytes.len()
 }
 
-/// Packs a column so many times at a width into these bytes. The answer is how many they are, 0 where
+/// Packs a column this many times at a width into these bytes. The answer is how many they are, 0 where
 /// the column takes more or fewer.
 pub(crate) fn pack_column_into<T: BitPacked>(
     alloc: Global,
@@ -81,7 +81,7 @@ pub(crate) fn pack_column_into<T: BitPacked>(
     Ok(pack_array_into(rounds, width, &array, bytes))
 }
 
-/// Unpacks a column so many times, and writes the items of the last time, as far as there is room.
+/// Unpacks a column this many times, and writes the items of the last time, as far as there is room.
 fn unpack_again<T: BitPacked>(
     alloc: Global,
     rounds: usize,
@@ -96,7 +96,7 @@ fn unpack_again<T: BitPacked>(
 {
     let mut count = 0;
     for _ in 0..rounds {
-        let array = unpack_even(alloc, column, width)?;
+        let array = unpack_global(alloc, column, width)?;
         let unpacked = array.as_slice::<T>();
         count = unpacked.len().min(items.len());
         items[..count].copy_from_slice(&unpacked[..count]);
@@ -104,7 +104,7 @@ fn unpack_again<T: BitPacked>(
     Ok(count)
 }
 
-/// Unpacks a column of so many items so many times, and writes the items of the last time, as far as
+/// Unpacks a column of this many items this many times, and writes the items of the last time, as far as
 /// there is room. The answer is how many were written.
 pub(crate) fn unpack_column<'a, T: BitPacked>(
     alloc: Global,
@@ -116,7 +116,7 @@ pub(crate) fn unpack_column<'a, T: BitPacked>(
     items: &mut [T],
 ) -> Result<usize, FastLanesError> {
     let width = usize::from(width);
-    let blocks = len.div_ceil(FL_CHUNK_SIZE);
+    let blocks = chunk_count(len);
     if width > T::PTYPE.bit_width() || !validity.covers(len) {
         return Ok(0);
     }
@@ -135,13 +135,13 @@ pub(crate) fn unpack_column<'a, T: BitPacked>(
 }
 
 /// Decodes a column into these items. The answer is how many there are, 0 where the bytes are not
-/// those of so many items.
+/// those of this many items.
 pub(crate) fn decode_column<T: BitPacked>(width: u8, packed: &[u8], items: &mut [T]) -> usize {
     let width = usize::from(width);
     if width > T::PTYPE.bit_width() {
         return 0;
     }
-    T::fits_in_memory();
+    T::prove_fits_in_memory();
     let mut scratch = [T::zero(); FL_CHUNK_SIZE];
     let len = items.len();
     let Ok(mut chunks) = UnpackedChunks::try_new_with_strategy(

@@ -2,12 +2,12 @@
 //! kernels on words of every type: each program that does has a function for each width.
 
 ghost use Rattle.std.specs.Prelude.{◌≤◌};
-ghost use Rattle.fl_types.specs.Integers.{bits_of_type};
+ghost use Rattle.fl_column.specs.Integers.{bits_of_type};
 
 use crate::kernels::hold;
 use fastlanes::{FL_CHUNK_SIZE, pack_bytes};
-use fl_packed::word_packing::bitpack_primitive;
-use fl_plain::PhysicalPType;
+use fl_bitpacking::word_packing::bitpack_primitive;
+use fl_column::PhysicalPType;
 use std::process::Abort;
 
 /// The words are these first ones, and then another one, as many as there should be.
@@ -40,7 +40,7 @@ fn packs_to<T: PhysicalPType>(
     }
 }
 
-/// A block of ones at width 1 makes these words, so many of them.
+/// A block of ones at width 1 makes these words, this many of them.
 fn ones_fill<T: PhysicalPType>(rt: &HostRuntime, ones: &[T; 1024], full: T, count: usize) -> bool
     requires { 1 ≤ bits_of_type T.PTYPE }
 {

@@ -1,4 +1,4 @@
-//! Packed blocks worked out by hand from the layout.
+//! Packed blocks worked out from the layout.
 
 ghost use Rattle.std.specs.Prelude.{◌≡◌, ◌+◌, ◌*◌, ◌/◌, ◌≤◌, length};
 
@@ -108,7 +108,7 @@ fn item_of(p: usize) -> u64 {
 
 /// A block of items that use all their bits.
 fn wide_items<W: FastLanes>() -> [W; FL_CHUNK_SIZE] {
-    W::in_memory();
+    W::prove_in_memory();
     let mut items = [W::zero(); FL_CHUNK_SIZE];
     for p in 0..FL_CHUNK_SIZE {
         items[p] = word(item_of(p));
@@ -146,7 +146,7 @@ fn items_are_read<W: FastLanes>(width: usize, mask: u64, words: &mut [W], bytes:
     requires words { length words.old ≡ width * W.LANES }
     requires bytes { length bytes.old ≡ 128 * width }
 {
-    W::in_memory();
+    W::prove_in_memory();
     packed_bytes(width, &wide_items(), words, bytes);
     let mut unpacked = [W::zero(); FL_CHUNK_SIZE];
     unpack(width, words, &mut unpacked, &mut Work::new());
@@ -203,6 +203,6 @@ fn words_are_put_at_each_type(rt: HostRuntime) {
 
 #[test]
 fn sums_and_differences(rt: HostRuntime) {
-    assert!(rt; laws::sum_and_difference(200u8, 100) == (200, 200));
-    assert!(rt; laws::sum_and_difference(1u64, 2) == (1, 1));
+    assert!(rt; laws::sum_and_difference(200u8, 100) == (44, 100));
+    assert!(rt; laws::sum_and_difference(1u64, 2) == (3, u64::MAX));
 }

@@ -1,1 +1,11 @@
-mod ValidityLaws
+pub mod Sizes
+pub mod ValidityLaws
+pub mod BitPackedLaws
+pub mod BlockedLaws
+pub mod FoRLaws
+pub mod FoRSound
+pub mod DeltaLaws
+pub mod AcceptedRLE
+pub mod EncodedRLE
+pub mod RLELaws
+pub mod Refused

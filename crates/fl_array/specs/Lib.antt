@@ -1,5 +1,11 @@
 pub mod Trees
 pub mod Codes
+pub mod BitPackedArrays
+pub mod FoRArrays
+pub mod DeltaArrays
+pub mod RLEArrays
+pub mod ArrayCodes
 pub mod Shown
 pub mod Kinds
 pub mod Reads
+pub mod Views

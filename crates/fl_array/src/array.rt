@@ -1,18 +1,26 @@
-//! Arrays of one of the closed kinds.
+//! Arrays of one of a closed set of kinds.
 
 ghost use Rattle.std.specs.Prelude.{◌≡◌, ◌≤◌, ◌<◌, length, Ok, IfErr, IfOk, IfSome, IsTrue};
 ghost use Rattle.std.specs.Option.{option_copied};
 ghost use Rattle.fl_types.specs.declared.error.FastLanesError.TheVariants.{OutOfMemory};
 ghost use Rattle.fl_types.specs.Refusals.{Answers};
-ghost use Rattle.fl_types.specs.Values.{cell_of};
-ghost use Rattle.fl_plain.specs.Columns.{column_of_bools, column_of_copies, column_of_plain};
-ghost use Rattle.fl_plain.specs.Operations.{slice_of};
-ghost use Rattle.fl_plain.specs.Questions.{cell_at};
+ghost use Rattle.fl_types.specs.Values.{scalar_parts};
+ghost use Rattle.fl_column.specs.Columns.{column_of_bools, column_of_constant, column_of_primitive};
+ghost use Rattle.fl_column.specs.Operations.{slice_of};
+ghost use Rattle.fl_column.specs.Questions.{scalar_in};
 ghost use Rattle.fl_array.specs.Trees.{Tree, column};
 ghost use Rattle.fl_array.specs.Trees as tree;
+ghost use Rattle.fl_array.specs.BitPackedArrays.{bitpacked_in, tree_of_bitpacked};
+ghost use Rattle.fl_array.specs.DeltaArrays.{delta_in, tree_of_delta};
+ghost use Rattle.fl_array.specs.FoRArrays.{for_in, tree_of_for};
+ghost use Rattle.fl_array.specs.RLEArrays.{rle_in, tree_of_rle};
 ghost use Rattle.fl_array.specs.Kinds.{has_delta, kind, plain_kind, slice_kind};
 ghost use Rattle.fl_array.specs.Reads.{IsValidityOf, bools_in, constant_in, integer_column, primitive_in};
 
+use crate::bitpacking::{BitPackedArray, BitWidthsView};
+use crate::delta::DeltaArray;
+use crate::for_::{FoRArray, FoRReferences};
+use crate::rle::RLEArray;
 use crate::validities::{bool_validity, constant_validity, primitive_validity};
 use fl_column::{
     BoolArray, ConstantArray, DType, FastLanesError, PrimitiveArray, Scalar, Validity,
@@ -21,36 +29,50 @@ use std::alloc::Global;
 use std::marker::Model;
 use std::ops::Range;
 
-/// An array of one of the closed kinds. Contracts see the tree of its kinds and parts, and the
+/// An array of one of a closed set of kinds. Contracts see the tree of its kinds and parts, and the
 /// column that it stands for as `column`.
+#[cycle(array)]
 pub struct ArrayRef {
     node: Node,
 }
 
 // Written out, so that letting one go is one call in each function that owns one.
 impl Drop for ArrayRef {
+    #[cycle(array)]
     fn drop(self) {
         let ArrayRef { node: _ } = self;
     }
 }
 
+#[cycle(array)]
 #[derive(Drop)]
 enum Node {
     Primitive(PrimitiveArray),
     Constant(ConstantArray),
     Bool(BoolArray),
+    BitPacked(BitPackedArray),
+    FoR(FoRArray),
+    Delta(DeltaArray),
+    RLE(RLEArray),
 }
 
 impl Model for ArrayRef {
-    ghost use Rattle.fl_array.specs.Shown.{tree_of};
-    ghost use Rattle.fl_array.specs.Trees.{Tree};
+    ghost use Rattle.std.specs.Prelude.{◌*◌};
+    ghost use Rattle.std.proofs.Common.{arith};
+    ghost use Rattle.fl_array.specs.Trees.{Tree, height};
     ghost use Rattle.fl_array.specs.Codes.{coded_tree};
 
     ghost Value = { Tree };
 
     ghost coded = { coded_tree };
 
+    ghost use Rattle.fl_array.specs.Shown.{tree_of};
+
     ghost view = { λ a. tree_of a.node };
+
+    ghost size = { λ t. 2 * height t };
+
+    ghost size_decreases = { λ a h. Prim.grind arith };
 }
 
 /// An array of some kind, which an `ArrayRef` can hold.
@@ -58,7 +80,7 @@ pub trait IntoArray {
     /// The tree of the array.
     ghost tree: { Self → Tree };
 
-    /// The array as one of the closed kinds. It takes no memory.
+    /// The array as an `ArrayRef`. It takes no memory.
     fn into_array(self) -> ArrayRef
         ensures { result ≡ tree self };
 }
@@ -83,6 +105,46 @@ impl IntoArray for ConstantArray {
     }
 }
 
+impl IntoArray for BitPackedArray {
+    ghost tree = { λ a. tree_of_bitpacked a };
+
+    fn into_array(self) -> ArrayRef {
+        ArrayRef {
+            node: Node::BitPacked(self),
+        }
+    }
+}
+
+impl IntoArray for FoRArray {
+    ghost tree = { λ a. tree_of_for a };
+
+    fn into_array(self) -> ArrayRef {
+        ArrayRef {
+            node: Node::FoR(self),
+        }
+    }
+}
+
+impl IntoArray for DeltaArray {
+    ghost tree = { λ a. tree_of_delta a };
+
+    fn into_array(self) -> ArrayRef {
+        ArrayRef {
+            node: Node::Delta(self),
+        }
+    }
+}
+
+impl IntoArray for RLEArray {
+    ghost tree = { λ a. tree_of_rle a };
+
+    fn into_array(self) -> ArrayRef {
+        ArrayRef {
+            node: Node::RLE(self),
+        }
+    }
+}
+
 impl IntoArray for BoolArray {
     ghost tree = { λ b. tree.Bool b };
 
@@ -102,6 +164,10 @@ impl ArrayRef {
             Node::Primitive(array) => array.len(),
             Node::Constant(array) => array.len(),
             Node::Bool(array) => array.len(),
+            Node::BitPacked(array) => array.len(),
+            Node::FoR(array) => array.len_from(array.encoded().len()),
+            Node::Delta(array) => array.len(),
+            Node::RLE(array) => array.len(),
         }
     }
 
@@ -113,13 +179,17 @@ impl ArrayRef {
             Node::Primitive(array) => array.dtype(),
             Node::Constant(array) => array.dtype(),
             Node::Bool(array) => array.dtype(),
+            Node::BitPacked(array) => array.dtype(),
+            Node::FoR(array) => array.dtype_from(array.encoded().dtype()),
+            Node::Delta(array) => array.dtype_from(array.bases().dtype()),
+            Node::RLE(array) => array.dtype_from(array.values().dtype(), array.indices().dtype()),
         }
     }
 
-    /// The plain array of integers, if this is one.
+    /// The primitive array, if this is one.
     pub fn as_primitive(&self) -> Option<&PrimitiveArray>
         ensures parts { option_copied result ≡ primitive_in self.now }
-        ensures column { IfSome result (λ p. column self.now ≡ column_of_plain p.now) }
+        ensures column { IfSome result (λ p. column self.now ≡ column_of_primitive p.now) }
     {
         match &self.node {
             Node::Primitive(array) => Some(array),
@@ -127,10 +197,10 @@ impl ArrayRef {
         }
     }
 
-    /// The array of copies, if this is one.
+    /// The constant array, if this is one.
     pub fn as_constant(&self) -> Option<&ConstantArray>
         ensures parts { option_copied result ≡ constant_in self.now }
-        ensures column { IfSome result (λ c. column self.now ≡ column_of_copies c.now) }
+        ensures column { IfSome result (λ c. column self.now ≡ column_of_constant c.now) }
     {
         match &self.node {
             Node::Constant(array) => Some(array),
@@ -138,7 +208,51 @@ impl ArrayRef {
         }
     }
 
-    /// The array of truth values, if this is one.
+    /// The bit-packed array, if this is one.
+    pub fn as_bitpacked(&self) -> Option<&BitPackedArray>
+        ensures parts { option_copied result ≡ bitpacked_in self.now }
+        ensures tree { IfSome result (λ a. tree_of_bitpacked a.now ≡ self.now) }
+    {
+        match &self.node {
+            Node::BitPacked(array) => Some(array),
+            _ => None,
+        }
+    }
+
+    /// The FoR array, if this is one.
+    pub fn as_for(&self) -> Option<&FoRArray>
+        ensures parts { option_copied result ≡ for_in self.now }
+        ensures tree { IfSome result (λ a. tree_of_for a.now ≡ self.now) }
+    {
+        match &self.node {
+            Node::FoR(array) => Some(array),
+            _ => None,
+        }
+    }
+
+    /// The delta array, if this is one.
+    pub fn as_delta(&self) -> Option<&DeltaArray>
+        ensures parts { option_copied result ≡ delta_in self.now }
+        ensures tree { IfSome result (λ a. tree_of_delta a.now ≡ self.now) }
+    {
+        match &self.node {
+            Node::Delta(array) => Some(array),
+            _ => None,
+        }
+    }
+
+    /// The run-length encoded array, if this is one.
+    pub fn as_rle(&self) -> Option<&RLEArray>
+        ensures parts { option_copied result ≡ rle_in self.now }
+        ensures tree { IfSome result (λ a. tree_of_rle a.now ≡ self.now) }
+    {
+        match &self.node {
+            Node::RLE(array) => Some(array),
+            _ => None,
+        }
+    }
+
+    /// The boolean array, if this is one.
     pub fn as_bool(&self) -> Option<&BoolArray>
         ensures parts { option_copied result ≡ bools_in self.now }
         ensures column { IfSome result (λ b. column self.now ≡ column_of_bools b.now) }
@@ -158,10 +272,20 @@ impl ArrayRef {
             Node::Primitive(array) => primitive_validity(array, alloc),
             Node::Constant(array) => Ok(constant_validity(array)),
             Node::Bool(array) => bool_validity(array, alloc),
+            Node::BitPacked(array) => array.column_validity(alloc),
+            Node::FoR(array) => {
+                let validity = array.encoded().validity(alloc)?;
+                Ok(array.column_validity(validity))
+            }
+            Node::Delta(array) => array.column_validity(alloc),
+            Node::RLE(array) => {
+                let validity = array.indices().validity(alloc)?;
+                array.column_validity(alloc, validity, array.indices().len())
+            }
         }
     }
 
-    /// The same column in a plain array: of truth values where this one is, else of integers.
+    /// The same column in a boolean array where it is of booleans, else in a primitive array.
     pub fn decode(&self, alloc: Global) -> Result<ArrayRef, FastLanesError>
         ensures column { Answers column result (Ok (column self.now)) }
         ensures kind { IfOk result (λ a. kind a ≡ plain_kind (kind self.now)) }
@@ -170,20 +294,70 @@ impl ArrayRef {
             Node::Primitive(array) => Ok(array.try_clone(alloc)?.into_array()),
             Node::Constant(array) => Ok(array.decode(alloc)?.into_array()),
             Node::Bool(array) => Ok(array.try_clone(alloc)?.into_array()),
+            Node::BitPacked(array) => {
+                array.prove_integers();
+                Ok(self.to_primitive(alloc)?.into_array())
+            }
+            Node::FoR(array) => {
+                array.prove_integers();
+                Ok(self.to_primitive(alloc)?.into_array())
+            }
+            Node::Delta(array) => {
+                array.prove_integers();
+                Ok(self.to_primitive(alloc)?.into_array())
+            }
+            Node::RLE(array) => {
+                array.prove_integers();
+                Ok(self.to_primitive(alloc)?.into_array())
+            }
         }
     }
 
-    /// The same column in a plain array of integers.
+    /// The same column in a primitive array.
     ///
     /// # Errors
-    /// `NotInteger` where the array is of truth values.
+    /// `NotInteger` where the column is of booleans.
     pub fn to_primitive(&self, alloc: Global) -> Result<PrimitiveArray, FastLanesError>
-        ensures { Answers column_of_plain result (integer_column (column self.now)) }
+        ensures { Answers column_of_primitive result (integer_column (column self.now)) }
     {
         match &self.node {
             Node::Primitive(array) => array.try_clone(alloc),
             Node::Constant(array) => array.decode(alloc),
             Node::Bool(_) => Err(FastLanesError::NotInteger),
+            Node::BitPacked(array) => match array.bit_widths() {
+                BitWidthsView::Global(width) => array.decode_global(alloc, width),
+                BitWidthsView::Blocked(boundaries) => {
+                    array.prove_boundaries_are_integers(boundaries);
+                    let plain = boundaries.to_primitive(alloc)?;
+                    array.decode_blocked(alloc, boundaries, &plain)
+                }
+            },
+            Node::FoR(array) => {
+                let plain = array.encoded().to_primitive(alloc)?;
+                match array.references() {
+                    FoRReferences::Global(reference) => array.decode_global(
+                        alloc, &plain, reference,
+                    ),
+                    FoRReferences::Blocked(references) => {
+                        array.prove_references_are_integers(references);
+                        let references_plain = references.to_primitive(alloc)?;
+                        array.decode_chunked(alloc, &plain, references, &references_plain)
+                    }
+                }
+            }
+            Node::Delta(array) => {
+                array.prove_integers();
+                let bases = array.bases().to_primitive(alloc)?;
+                let deltas = array.deltas().to_primitive(alloc)?;
+                array.decompress(alloc, &bases, &deltas)
+            }
+            Node::RLE(array) => {
+                array.prove_integers();
+                let values = array.values().to_primitive(alloc)?;
+                let indices = array.indices().to_primitive(alloc)?;
+                let offsets = array.offsets().to_primitive(alloc)?;
+                array.decompress(alloc, &values, &indices, &offsets)
+            }
         }
     }
 
@@ -195,24 +369,74 @@ impl ArrayRef {
             Node::Primitive(array) => Ok(array.try_clone(alloc)?.into_array()),
             Node::Constant(array) => Ok(array.try_clone().into_array()),
             Node::Bool(array) => Ok(array.try_clone(alloc)?.into_array()),
+            Node::BitPacked(array) => match array.bit_widths() {
+                BitWidthsView::Global(width) => Ok(array.clone_global(alloc, width)?.into_array()),
+                BitWidthsView::Blocked(boundaries) => {
+                    let boundaries = boundaries.try_clone(alloc)?;
+                    Ok(array.clone_blocked(alloc, boundaries)?.into_array())
+                }
+            },
+            Node::FoR(array) => {
+                let encoded = array.encoded().try_clone(alloc)?;
+                match array.references() {
+                    FoRReferences::Global(reference) => {
+                        Ok(array.with_encoded(alloc, encoded, *reference)?.into_array())
+                    }
+                    FoRReferences::Blocked(references) => {
+                        let references = references.try_clone(alloc)?;
+                        Ok(
+                            array
+                                .clone_chunked(alloc, encoded, references)?
+                                .into_array(),
+                        )
+                    }
+                }
+            }
+            Node::Delta(array) => {
+                let bases = array.bases().try_clone(alloc)?;
+                let deltas = array.deltas().try_clone(alloc)?;
+                Ok(array.clone_with(alloc, bases, deltas)?.into_array())
+            }
+            Node::RLE(array) => {
+                let values = array.values().try_clone(alloc)?;
+                let indices = array.indices().try_clone(alloc)?;
+                let offsets = array.offsets().try_clone(alloc)?;
+                Ok(
+                    array
+                        .clone_with(alloc, values, indices, offsets)?
+                        .into_array(),
+                )
+            }
         }
     }
 
-    /// The item at an index, with the column's type. Only differences have to be summed for it, so
-    /// it takes no memory where no array of differences stands in this one.
-    pub fn scalar_at(&self, _alloc: Global, i: usize) -> Result<Scalar, FastLanesError>
+    /// The item at an index, with the column's type. Only deltas have to be decoded for it, so it takes no
+    /// memory where the array neither is nor holds a delta array.
+    #[cycle(reading)]
+    pub fn scalar_at(&self, alloc: Global, i: usize) -> Result<Scalar, FastLanesError>
         requires { i < length (column self.now).items }
-        ensures item { Answers cell_of result (Ok (cell_at (column self.now) i)) }
+        ensures item { Answers scalar_parts result (Ok (scalar_in (column self.now) i)) }
         ensures memory { IfErr result (λ e. IsTrue (has_delta (kind self.now))) }
     {
         match &self.node {
             Node::Primitive(array) => Ok(array.scalar_at(i)),
             Node::Constant(array) => Ok(array.scalar_at(i)),
             Node::Bool(array) => Ok(array.scalar_at(i)),
+            Node::BitPacked(array) => {
+                array.prove_smaller();
+                array.scalar_at(alloc, i)
+            }
+            Node::FoR(array) => {
+                array.prove_smaller();
+                array.scalar_at(alloc, i)
+            }
+            Node::Delta(array) => array.scalar_at(alloc, i),
+            Node::RLE(array) => array.scalar_at(alloc, i),
         }
     }
 
     /// The items of a range, in an array of the same kind.
+    #[cycle(reading)]
     pub fn slice(&self, alloc: Global, range: Range<usize>) -> Result<ArrayRef, FastLanesError>
         requires order { range.start ≤ range.end }
         requires range { range.end ≤ length (column self.now).items }
@@ -223,6 +447,16 @@ impl ArrayRef {
             Node::Primitive(array) => Ok(array.slice(alloc, range.start, range.end)?.into_array()),
             Node::Constant(array) => Ok(array.slice(range.start, range.end).into_array()),
             Node::Bool(array) => Ok(array.slice(alloc, range.start, range.end)?.into_array()),
+            Node::BitPacked(array) => {
+                array.prove_smaller();
+                Ok(array.slice(alloc, range.start, range.end)?.into_array())
+            }
+            Node::FoR(array) => {
+                array.prove_smaller();
+                Ok(array.slice(alloc, range.start, range.end)?.into_array())
+            }
+            Node::Delta(array) => Ok(array.slice(alloc, range.start, range.end)?.into_array()),
+            Node::RLE(array) => Ok(array.slice(alloc, range.start, range.end)?.into_array()),
         }
     }
 }

@@ -1,8 +1,13 @@
-//! Arrays of nullable integers and of truth values, of one of several kinds.
+//! Arrays of nullable integers and of booleans, plain or in one of the encodings.
 #![tactic(auto)]
 
 pub mod array;
+pub mod bitpacking;
+pub mod delta;
+pub mod for_;
 pub mod laws;
+mod numbers;
+pub mod rle;
 mod validities;
 
 pub use crate::array::{ArrayRef, IntoArray};

@@ -16,10 +16,10 @@ use Rattle.fastlanes.specs.Delta.{Transposed, item_before, item_delta}
 use Rattle.fastlanes.proofs.Bijection.{position_placed, segment_read}
 use Rattle.fl_codec.specs.Deltas.{base_of, bases_to, delta_of, deltas_to, encoded_delta}
 use Rattle.fl_codec.specs.Chunks.{chunks_of}
-use Rattle.fl_codec.specs.Parts.{compress_deltas, items_of_plain, solid}
-use Rattle.fl_plain.specs.Columns.{Plain}
+use Rattle.fl_codec.specs.Parts.{compress_deltas, items_of_primitive, non_nullable}
+use Rattle.fl_column.specs.Columns.{PrimitiveParts}
 use Rattle.fl_codec.proofs.Congruence.{read_as-difference, read_as-pattern_of, read_as-zero}
-use Rattle.fl_codec.proofs.FillingLaws.{table_append}
+use Rattle.fl_codec.proofs.ForwardFillLaws.{table_append}
 
 -- the first row's places are the lanes
 pub place_first : (l : ℕ) → place 0 l ≡ l
@@ -126,8 +126,8 @@ deltas_of_chunk pattern ptype T lanes k item block words shape bits long here de
     ap (λ xs. xs ++ map (λ w. read_as ptype (pattern w)) words) is ∙ (ap (λ ys. table entry (1024 * k) ++ ys) chunk_words ∙ (table_append entry (1024 * k) 1024 ∙ ap (table entry) more))
 
 -- the bases and the deltas of all of a plain array's blocks
-pub compressed : (p : Plain) (ptype : PType) (k : ℕ) (bases deltas : List ℤ) (x y : Plain) → p.ptype ≡ ptype → k ≡ chunks_of (length (items_of_plain p)) → bases ≡ bases_to ptype (items_of_plain p) k → deltas ≡ deltas_to ptype (items_of_plain p) k
-    → x ≡ solid ptype bases → y ≡ solid ptype deltas → compress_deltas p ≡ (x, y)
+pub compressed : (p : PrimitiveParts) (ptype : PType) (k : ℕ) (bases deltas : List ℤ) (x y : PrimitiveParts) → p.ptype ≡ ptype → k ≡ chunks_of (length (items_of_primitive p)) → bases ≡ bases_to ptype (items_of_primitive p) k → deltas ≡ deltas_to ptype (items_of_primitive p) k
+    → x ≡ non_nullable ptype bases → y ≡ non_nullable ptype deltas → compress_deltas p ≡ (x, y)
 compressed p ptype k bases deltas x y same all bases_are deltas_are x_is y_is = rw (x_is, y_is, bases_are, deltas_are, all, same) refl
 
 pub few_lanes : (T lanes : ℕ) → IsWordWidth T lanes → lanes ≤ 1024

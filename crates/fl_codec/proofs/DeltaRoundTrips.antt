@@ -17,16 +17,16 @@ use Rattle.fl_types.specs.declared.validity.Validity.{Validity}
 use Rattle.fl_types.specs.Bits.{between}
 use Rattle.fl_types.specs.Integers.{bits_of_type, fits, lanes_of_type, wrap}
 use Rattle.fl_types.specs.Validities.{covers, is_valid_at, items_of, nullability_of}
-use Rattle.fl_plain.specs.Columns.{Plain, column_of_plain, option_all}
-use Rattle.fl_plain.proofs.ItemLaws.{get_or-items_of, length-items_of}
-use Rattle.fl_plain.proofs.ListLaws.{all_at, all_first, all_from, all_rest, and_first, and_second}
+use Rattle.fl_column.specs.Columns.{PrimitiveParts, column_of_primitive, option_all}
+use Rattle.fl_column.proofs.ItemLaws.{get_or-items_of, length-items_of}
+use Rattle.fl_column.proofs.ListLaws.{all_at, all_first, all_from, all_rest, and_first, and_second}
 use Rattle.fl_codec.specs.Chunks.{chunk, chunks_of}
 use Rattle.fl_codec.specs.Deltas.{base_of, block_integer, delta_bases, delta_column, delta_deltas, delta_integer, delta_of, lane_sum}
-use Rattle.fl_codec.specs.Filling.{Carry, FillMode, Reset, carried_to, either, fill_start, filled, filled_from, last_some}
+use Rattle.fl_codec.specs.ForwardFill.{Carry, FillMode, Reset, carried_to, either, fill_start, fill_forward, filled_from, last_some}
 use Rattle.fl_codec.specs.Parts.{compress_deltas}
 use Rattle.fl_codec.proofs.DeltaLaws.{some_rows}
-use Rattle.fl_codec.proofs.FillingLaws.{filled-carry, filled-reset, filled_next, get_or-chunk}
-use Rattle.fl_codec.proofs.FrameRoundTrips.{fitting, wrap-wrap_left, wrap-wrap_right}
+use Rattle.fl_codec.proofs.ForwardFillLaws.{fill_forward-carry, fill_forward-reset, filled_next, get_or-chunk}
+use Rattle.fl_codec.proofs.FoRRoundTrips.{fitting, wrap-wrap_left, wrap-wrap_right}
 use Rattle.fl_codec.proofs.ReferenceLaws.{get_or-table}
 
 -- ---- filled lists
@@ -34,9 +34,9 @@ use Rattle.fl_codec.proofs.ReferenceLaws.{get_or-table}
 valid_from : (before : ℤ) (items : List (Option ℤ)) (k q : ℕ) (z : ℤ) → q < 1024 → get_or items (1024 * k + q) None ≡ Some z → filled_from before (chunk k items) q ≡ z
 valid_from before items k q z h e = filled_next before (chunk k items) q ∙ ap (λ x. unwrap_or x (unwrap_or (last_some (take q (chunk k items))) before)) (get_or-chunk items k q None h ∙ e)
 
-pub filled-valid : (mode : FillMode) (items : List (Option ℤ)) (k q : ℕ) (z : ℤ) → q < 1024 → get_or items (1024 * k + q) None ≡ Some z → filled mode items (1024 * k + q) ≡ z
-filled-valid Carry items k q z h e = filled-carry items k q h ∙ valid_from (carried_to items k) items k q z h e
-filled-valid Reset items k q z h e = filled-reset items k q h ∙ valid_from (pos 0) items k q z h e
+pub fill_forward-valid : (mode : FillMode) (items : List (Option ℤ)) (k q : ℕ) (z : ℤ) → q < 1024 → get_or items (1024 * k + q) None ≡ Some z → fill_forward mode items (1024 * k + q) ≡ z
+fill_forward-valid Carry items k q z h e = fill_forward-carry items k q h ∙ valid_from (carried_to items k) items k q z h e
+fill_forward-valid Reset items k q z h e = fill_forward-reset items k q h ∙ valid_from (pos 0) items k q z h e
 
 zero_fits : (ptype : PType) → fits ptype (pos 0) ≡ true
 zero_fits U8 = refl
@@ -73,7 +73,7 @@ unwrapped_passes : (p : ℤ → Bool) (x : Option ℤ) (z : ℤ) → option_all 
 unwrapped_passes p None z e f = f
 unwrapped_passes p (Some x) z e f = e
 
-pub filled_fits : (ptype : PType) (mode : FillMode) (items : List (Option ℤ)) (i : ℕ) → list_all (option_all (fits ptype)) items ≡ true → fits ptype (filled mode items i) ≡ true
+pub filled_fits : (ptype : PType) (mode : FillMode) (items : List (Option ℤ)) (i : ℕ) → list_all (option_all (fits ptype)) items ≡ true → fits ptype (fill_forward mode items i) ≡ true
 filled_fits ptype mode items i fit =
     let start = fill_start mode i in
     unwrapped_passes (fits ptype) (last_some (between start (i + 1) items)) (pos 0)
@@ -148,10 +148,10 @@ few_entries n m k h = let more : n * (k + 1) ≤ n * m = mul-le-mul_left n (omeg
 
 -- the integer at a position of the encoded blocks is the filled item there
 pub integer_back : (ptype : PType) (items : List (Option ℤ)) (j q : ℕ) → list_all (option_all (fits ptype)) items ≡ true → j < chunks_of (length items) → q < 1024
-    → delta_integer ptype (delta_bases ptype items) (delta_deltas ptype items) (1024 * j + q) ≡ filled Carry items (1024 * j + q)
+    → delta_integer ptype (delta_bases ptype items) (delta_deltas ptype items) (1024 * j + q) ≡ fill_forward Carry items (1024 * j + q)
 unfolding block_integer
 integer_back ptype items j q fit within h =
-    let item : ℕ → ℤ = filled Carry items in
+    let item : ℕ → ℤ = fill_forward Carry items in
     let T = bits_of_type ptype in
     let lanes = lanes_of_type ptype in
     let chunks = chunks_of (length items) in
@@ -178,8 +178,8 @@ chosen : (here : Bool) (x y : ℤ) → (here ≡ true → x ≡ y) → cond here
 chosen true x y e = ap (λ z. Some z) (e refl)
 chosen false x y e = refl
 
-pub delta_back : (p : Plain) → IsTrue (covers p.validity (length p.slots)) → list_all (fits p.ptype) p.slots ≡ true
-    → delta_column p.ptype (compress_deltas p).0.slots (compress_deltas p).1.slots p.validity 0 (length p.slots) ≡ column_of_plain p
+pub delta_back : (p : PrimitiveParts) → IsTrue (covers p.validity (length p.slots)) → list_all (fits p.ptype) p.slots ≡ true
+    → delta_column p.ptype (compress_deltas p).0.slots (compress_deltas p).1.slots p.validity 0 (length p.slots) ≡ column_of_primitive p
 delta_back p covered fit =
     let items = items_of p.validity p.slots in
     let each = length-items_of p.validity p.slots covered in
@@ -197,4 +197,4 @@ delta_back p covered fit =
     item ∙ chosen (is_valid_at p.validity i) (get_or p.slots i (pos 0)) (delta_integer p.ptype bases deltas (0 + i))
     (λ valid.
     let present : get_or items (1024 * (i / 1024) + i % 1024) None ≡ Some (get_or p.slots i (pos 0)) = ap (λ n. get_or items n None) there ∙ (item ∙ (rw valid refl)) in
-    sym (filled-valid Carry items (i / 1024) (i % 1024) (get_or p.slots i (pos 0)) small present) ∙ (sym (integer_back p.ptype items (i / 1024) (i % 1024) all within small) ∙ ap (delta_integer p.ptype bases deltas) (sym here))))))
+    sym (fill_forward-valid Carry items (i / 1024) (i % 1024) (get_or p.slots i (pos 0)) small present) ∙ (sym (integer_back p.ptype items (i / 1024) (i % 1024) all within small) ∙ ap (delta_integer p.ptype bases deltas) (sym here))))))

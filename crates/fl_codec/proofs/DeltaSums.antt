@@ -14,9 +14,9 @@ use Rattle.fl_types.proofs.RefusalLaws.{Answers_view}
 use Rattle.fl_types.specs.declared.validity.Validity.{Validity}
 use Rattle.fl_types.specs.Bits.{table}
 use Rattle.fl_types.specs.Validities.{covers}
-use Rattle.fl_plain.specs.Columns.{Plain, column_of_plain}
+use Rattle.fl_column.specs.Columns.{PrimitiveParts, column_of_primitive}
 use Rattle.fl_codec.specs.Deltas.{block_integer, delta_column, delta_integer, lane_sum}
-use Rattle.fl_codec.proofs.FrameColumns.{items_of-table}
+use Rattle.fl_codec.proofs.FoRColumnLaws.{items_of-table}
 use Rattle.fl_codec.proofs.Congruence.{IsPattern, IsPattern-add, IsPattern-mod, pattern_is, read_as-IsPattern, itself}
 use Rattle.fl_codec.proofs.DeltaLaws.{lanes_is}
 
@@ -65,8 +65,8 @@ patterns_of_part value ptype word xs m n size e room each i h =
     each i inside ∙ ap (pattern_of ptype) part
 
 -- the column of the blocks
-pub column_of_blocks : (ptype : PType) (bases deltas values : List ℤ) (v : Validity) (offset len : ℕ) (result : Result Plain FastLanesError) → IsTrue (covers v len) → values ≡ table (λ i. delta_integer ptype bases deltas (offset + i)) len
-    → Answers (λ a. a) result (Ok (record { ptype = ptype; slots = values; validity = v })) → Answers column_of_plain result (Ok (delta_column ptype bases deltas v offset len))
+pub column_of_blocks : (ptype : PType) (bases deltas values : List ℤ) (v : Validity) (offset len : ℕ) (result : Result PrimitiveParts FastLanesError) → IsTrue (covers v len) → values ≡ table (λ i. delta_integer ptype bases deltas (offset + i)) len
+    → Answers (λ a. a) result (Ok (record { ptype = ptype; slots = values; validity = v })) → Answers column_of_primitive result (Ok (delta_column ptype bases deltas v offset len))
 column_of_blocks ptype bases deltas values v offset len result covered is made =
-    Answers_view column_of_plain result (record { ptype = ptype; slots = values; validity = v }) (delta_column ptype bases deltas v offset len)
+    Answers_view column_of_primitive result (record { ptype = ptype; slots = values; validity = v }) (delta_column ptype bases deltas v offset len)
     (rw (is, items_of-table (λ i. delta_integer ptype bases deltas (offset + i)) v len covered) refl) made

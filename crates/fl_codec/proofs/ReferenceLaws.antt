@@ -12,13 +12,13 @@ use Rattle.std.proofs.lemmas.List.{get_or-map, length-map, map-append, map_more,
 use Rattle.fl_types.specs.Bits.{between}
 use Rattle.fl_types.specs.Validities.{covers, is_valid_at, items_of}
 use Rattle.fl_types.specs.declared.validity.Validity.{Validity}
-use Rattle.fl_plain.proofs.ItemLaws.{get_or-items_of, length-items_of}
-use Rattle.fl_plain.proofs.ListLaws.{all_fails, all_from, and_first, and_second, and_true}
+use Rattle.fl_column.proofs.ItemLaws.{get_or-items_of, length-items_of}
+use Rattle.fl_column.proofs.ListLaws.{all_fails, all_from, and_first, and_second, and_true}
 use Rattle.fl_codec.specs.Chunks.{chunk, chunks_of}
-use Rattle.fl_codec.specs.Filling.{either, first_some, last_some}
-use Rattle.fl_plain.specs.Columns.{Plain}
-use Rattle.fl_codec.specs.Parts.{items_of_plain, less_chunk_leasts, less_common}
-use Rattle.fl_codec.specs.Frames.{chunk_leasts, chunk_references, common_reference, least_valid, reference_of_chunk}
+use Rattle.fl_codec.specs.ForwardFill.{either, first_some, last_some}
+use Rattle.fl_column.specs.Columns.{PrimitiveParts}
+use Rattle.fl_codec.specs.Parts.{items_of_primitive, less_chunk_leasts, less_common}
+use Rattle.fl_codec.specs.FoRColumns.{chunk_leasts, chunk_references, common_reference, least_valid, reference_of_chunk}
 
 -- ---- the first that is there
 pub first_at : (xs : List (Option ℤ)) (k : ℕ) (x : Option ℤ) → k < length xs → get_or xs k None ≡ x → first_some (drop k xs) ≡ either x (first_some (drop (k + 1) xs))
@@ -176,21 +176,21 @@ pub length_of_values : {A B : Type 0} (value : A → B) (xs : List A) (ys : List
 length_of_values value xs ys e = sym (length-map xs value) ∙ ap length e
 
 -- the least valid item of a plain array, as a loop over all of its slots finds it
-pub least_of_plain : {A : Type 0} (value : A → ℤ) (p : Plain) (v : Validity) (xs : List A) (least : Option ℤ) → v ≡ p.validity → IsTrue (covers p.validity (length p.slots)) → map value xs ≡ p.slots
-    → least ≡ least_valid (between 0 (length xs) (items_of v (map value xs))) → least_valid (items_of_plain p) ≡ least
+pub least_of_plain : {A : Type 0} (value : A → ℤ) (p : PrimitiveParts) (v : Validity) (xs : List A) (least : Option ℤ) → v ≡ p.validity → IsTrue (covers p.validity (length p.slots)) → map value xs ≡ p.slots
+    → least ≡ least_valid (between 0 (length xs) (items_of v (map value xs))) → least_valid (items_of_primitive p) ≡ least
 least_of_plain value p v xs least same covered slots e =
     let long : length (items_of p.validity p.slots) ≡ length xs = length-items_of p.validity p.slots covered ∙ (ap length (sym slots) ∙ length-map xs value) in
     sym (e ∙ (rw (same, slots) (ap least_valid (between_whole (items_of p.validity p.slots) (length xs) long))))
 
 -- the references of a plain array, as a loop over all of its slots finds them, and the frame that they make
-pub references_of_plain : {A : Type 0} (value : A → ℤ) (p : Plain) (v : Validity) (xs : List A) (references : List ℤ) (common : Option ℤ) → v ≡ p.validity → map value xs ≡ p.slots
+pub references_of_plain : {A : Type 0} (value : A → ℤ) (p : PrimitiveParts) (v : Validity) (xs : List A) (references : List ℤ) (common : Option ℤ) → v ≡ p.validity → map value xs ≡ p.slots
     → references ≡ chunk_references (items_of v (map value xs)) → common ≡ common_reference references → less_common p references common ≡ less_chunk_leasts p
 references_of_plain value p v xs references common same slots e f = rw (f, e, same, slots) refl
 
 -- the items of a plain array, as its parts are read
-pub same_items : {A : Type 0} (value : A → ℤ) (p : Plain) (v : Validity) (xs : List A) → v ≡ p.validity → map value xs ≡ p.slots → items_of v (map value xs) ≡ items_of_plain p
+pub same_items : {A : Type 0} (value : A → ℤ) (p : PrimitiveParts) (v : Validity) (xs : List A) → v ≡ p.validity → map value xs ≡ p.slots → items_of v (map value xs) ≡ items_of_primitive p
 same_items value p v xs same slots = rw (same, slots) refl
 
 -- a plain array's validity has a bit for each of its slots, as its parts are read
-pub covered_read : {A : Type 0} (value : A → ℤ) (p : Plain) (v : Validity) (xs : List A) → v ≡ p.validity → IsTrue (covers p.validity (length p.slots)) → map value xs ≡ p.slots → IsTrue (covers v (length xs))
+pub covered_read : {A : Type 0} (value : A → ℤ) (p : PrimitiveParts) (v : Validity) (xs : List A) → v ≡ p.validity → IsTrue (covers p.validity (length p.slots)) → map value xs ≡ p.slots → IsTrue (covers v (length xs))
 covered_read value p v xs same covered slots = rw (same, length_of_values value xs p.slots slots) covered

@@ -7,13 +7,13 @@ use Rattle.std.proofs.lemmas.List.{get_or-set_other, get_or-set_same, length-map
 use Rattle.std.proofs.lemmas.List.FromFn.{get_or-range_with_len, length-range_with_len}
 use Rattle.fl_types.specs.declared.validity.Validity.{Validity}
 use Rattle.fl_types.specs.Validities.{covers, items_of}
-use Rattle.fl_plain.specs.Columns.{Plain, column_of_plain, integers_in, numbers_of}
-use Rattle.fl_plain.proofs.ItemLaws.{length-items_of}
-use Rattle.fl_plain.proofs.ListLaws.{all_fails, all_from}
+use Rattle.fl_column.specs.Columns.{PrimitiveParts, column_of_primitive, integers_in, numbers_of}
+use Rattle.fl_column.proofs.ItemLaws.{length-items_of}
+use Rattle.fl_column.proofs.ListLaws.{all_fails, all_from}
 use Rattle.fl_codec.specs.Chunks.{chunk}
-use Rattle.fl_codec.specs.Parts.{items_of_plain}
+use Rattle.fl_codec.specs.Parts.{items_of_primitive}
 use Rattle.fl_codec.specs.RunColumns.{are_run_indices, are_run_offsets, is_chunk_of_runs, is_run_index, run_count}
-use Rattle.fl_codec.proofs.FillingLaws.{get_or-chunk}
+use Rattle.fl_codec.proofs.ForwardFillLaws.{get_or-chunk}
 use Rattle.fl_codec.proofs.ReferenceLaws.{same_items}
 
 fails_too : (b c : Bool) → c ≡ false → (b && c) ≡ false
@@ -35,8 +35,8 @@ range_fails p n k h e = let long = length-range_with_len 0 n in all_fails p (ran
 range_all : (p : ℕ → Bool) (n : ℕ) → ((k : ℕ) → k < n → p k ≡ true) → list_all p (range_with_len 0 n) ≡ true
 range_all p n each = all_from p (range_with_len 0 n) 0 (λ k h. let within : k < n = rw length-range_with_len at h in ap p (here_in_range n k within) ∙ each k within)
 
-pub numbers_long : (p : Plain) → IsTrue (covers p.validity (length p.slots)) → length (numbers_of (column_of_plain p)) ≡ length p.slots
-numbers_long p covered = length-map (integers_in (column_of_plain p)) unsigned_abs ∙ (length-map (column_of_plain p).items (λ (item : Option ℤ). unwrap_or item (pos 0)) ∙ length-items_of p.validity p.slots covered)
+pub numbers_long : (p : PrimitiveParts) → IsTrue (covers p.validity (length p.slots)) → length (numbers_of (column_of_primitive p)) ≡ length p.slots
+numbers_long p covered = length-map (integers_in (column_of_primitive p)) unsigned_abs ∙ (length-map (column_of_primitive p).items (λ (item : Option ℤ). unwrap_or item (pos 0)) ∙ length-items_of p.validity p.slots covered)
 
 pub offsets_fail : (offsets : List ℕ) (count k : ℕ) → k < length offsets → is_chunk_of_runs offsets count k ≡ false → are_run_offsets offsets count ≡ false
 offsets_fail offsets count k h e = fails_too (nat_lt 0 (length offsets) || (count == 0)) _ (range_fails (is_chunk_of_runs offsets count) (length offsets) k h e)
@@ -51,9 +51,9 @@ pub indices_pass : (indices : List (Option ℤ)) (offsets : List ℕ) (count : �
 indices_pass indices offsets count each = range_all (λ n. list_all (is_run_index (run_count offsets count n)) (chunk n indices)) (length offsets) each
 
 -- an index of a chunk, as it is read
-pub chunk_item : {A : Type 0} (value : A → ℤ) (p : Plain) (v : Validity) (xs : List A) (k q : ℕ) (x : Option ℤ) → v ≡ p.validity → map value xs ≡ p.slots → q < 1024 → x ≡ get_or (items_of v (map value xs)) (1024 * k + q) None
-    → x ≡ get_or (chunk k (items_of_plain p)) q None
-chunk_item value p v xs k q x same slots h e = e ∙ (ap (λ ys. get_or ys (1024 * k + q) None) (same_items value p v xs same slots) ∙ sym (get_or-chunk (items_of_plain p) k q None h))
+pub chunk_item : {A : Type 0} (value : A → ℤ) (p : PrimitiveParts) (v : Validity) (xs : List A) (k q : ℕ) (x : Option ℤ) → v ≡ p.validity → map value xs ≡ p.slots → q < 1024 → x ≡ get_or (items_of v (map value xs)) (1024 * k + q) None
+    → x ≡ get_or (chunk k (items_of_primitive p)) q None
+chunk_item value p v xs k q x same slots h e = e ∙ (ap (λ ys. get_or ys (1024 * k + q) None) (same_items value p v xs same slots) ∙ sym (get_or-chunk (items_of_primitive p) k q None h))
 
 -- one more number of a list that a loop fills
 pub number_filled : (f : ℕ → ℕ) (xs : List ℕ) (i x : ℕ) → i < length xs → ((j : ℕ) → j < i → get_or xs j 0 ≡ f j) → x ≡ f i → (j : ℕ) → j < i + 1 → get_or (set xs i x) j 0 ≡ f j

@@ -16,13 +16,13 @@ use Rattle.fl_types.specs.Types.{can_be_null, is_index_type}
 use Rattle.fl_types.specs.Bits.{table}
 use Rattle.fl_types.specs.Validities.{covers, is_valid_at, items_of, nullability_of, validity_between}
 use Rattle.fl_types.proofs.BitLists.{same_tables}
-use Rattle.fl_plain.specs.Columns.{Column, Plain, column_of_plain, integers_in, numbers_of}
-use Rattle.fl_plain.proofs.ItemLaws.{covers-between, get_or-items_of, length-between, length-items_of, nullability_of-between}
-use Rattle.fl_codec.proofs.FrameColumns.{items_of-table}
-use Rattle.fl_plain.proofs.ListLaws.{all_at}
+use Rattle.fl_column.specs.Columns.{Column, PrimitiveParts, column_of_primitive, integers_in, numbers_of}
+use Rattle.fl_column.proofs.ItemLaws.{covers-between, get_or-items_of, length-between, length-items_of, nullability_of-between}
+use Rattle.fl_codec.proofs.FoRColumnLaws.{items_of-table}
+use Rattle.fl_column.proofs.ListLaws.{all_at}
 use Rattle.fl_codec.specs.Chunks.{chunk, chunks_of}
-use Rattle.fl_codec.proofs.FillingLaws.{get_or-chunk}
-use Rattle.fl_codec.specs.Parts.{RunParts, items_of_plain}
+use Rattle.fl_codec.proofs.ForwardFillLaws.{get_or-chunk}
+use Rattle.fl_codec.specs.Parts.{RunParts, items_of_primitive}
 use Rattle.fl_codec.specs.RunColumns.{IsChunk, IsRunChunk, are_run_indices, are_run_offsets, chunk_end, chunk_start, is_chunk_of_runs, is_run_index, is_run_index_type, run_column, run_count, run_integer, run_item, run_offsets_of, runs_refusal}
 
 -- ---- numbers that are read
@@ -46,7 +46,7 @@ pub record AreRuns (parts : RunParts) (offset len : ℕ) : Type 0 where
   pub offsets : IsTrue (is_unsigned parts.offsets.ptype)
   pub shown : offset + len ≤ length parts.indices.slots
   pub whole : length parts.indices.slots ≡ 1024 * length parts.offsets.slots
-  pub chunks : (k : ℕ) → k < length parts.offsets.slots → IsChunk (length parts.values.slots) (items_of_plain parts.indices) (run_offsets_of parts) k
+  pub chunks : (k : ℕ) → k < length parts.offsets.slots → IsChunk (length parts.values.slots) (items_of_primitive parts.indices) (run_offsets_of parts) k
 
 passes : (b : Bool) (e : FastLanesError) (rest : Option FastLanesError) → (if b then Some e else rest) ≡ None → (b ≡ false) × (rest ≡ None)
 passes true e rest h = cc
@@ -125,12 +125,12 @@ pub sound : (parts : RunParts) (offset len : ℕ) → IsTrue (covers parts.indic
 sound parts offset len indices_covered offsets_covered e =
     let offsets = run_offsets_of parts in
     let count = length parts.values.slots in
-    let indices = items_of_plain parts.indices in
+    let indices = items_of_primitive parts.indices in
     let total = length parts.indices.slots in
     let a = passes (nat_le 1024 offset) _ _ e in
     let b = passes (can_be_null (nullability_of parts.values.validity)) _ _ a.1 in
     let d = passes (not (is_run_index_type parts.indices.ptype)) _ _ b.1 in
-    let f = passes (not (is_index_type (column_of_plain parts.offsets).dtype)) _ _ d.1 in
+    let f = passes (not (is_index_type (column_of_primitive parts.offsets).dtype)) _ _ d.1 in
     let g = passes (not (total % 1024 == 0)) _ _ f.1 in
     let h = passes (nat_lt total (offset + len)) _ _ g.1 in
     let i = passes (not (length parts.offsets.slots == total / 1024)) _ _ h.1 in
@@ -139,7 +139,7 @@ sound parts offset len indices_covered offsets_covered e =
     let rest : total % 1024 ≡ 0 = eqb-true _ _ (not-false _ g.0) in
     let chunks : length parts.offsets.slots ≡ total / 1024 = eqb-true _ _ (not-false _ i.0) in
     let whole : total ≡ 1024 * length parts.offsets.slots = omega arith in
-    let each : length offsets ≡ length parts.offsets.slots = length-map (integers_in (column_of_plain parts.offsets)) unsigned_abs ∙ (length-map (column_of_plain parts.offsets).items (λ (item : Option ℤ). unwrap_or item (pos 0)) ∙ length-items_of parts.offsets.validity parts.offsets.slots offsets_covered) in
+    let each : length offsets ≡ length parts.offsets.slots = length-map (integers_in (column_of_primitive parts.offsets)) unsigned_abs ∙ (length-map (column_of_primitive parts.offsets).items (λ (item : Option ℤ). unwrap_or item (pos 0)) ∙ length-items_of parts.offsets.validity parts.offsets.slots offsets_covered) in
     let long : length indices ≡ total = length-items_of parts.indices.validity parts.indices.slots indices_covered in
     record {
       start = leb-false 1024 offset a.0;
@@ -165,7 +165,7 @@ shown_chunk parts offset len fine k h =
     }
 
 -- ---- the items that are shown
-pub covers_shown : (p : Plain) (offset len : ℕ) → IsTrue (covers p.validity (length p.slots)) → offset + len ≤ length p.slots → IsTrue (covers (validity_between offset (offset + len) p.validity) len)
+pub covers_shown : (p : PrimitiveParts) (offset len : ℕ) → IsTrue (covers p.validity (length p.slots)) → offset + len ≤ length p.slots → IsTrue (covers (validity_between offset (offset + len) p.validity) len)
 covers_shown p offset len covered room =
     let size : offset + len - offset ≡ len = omega arith in
     let order : offset ≤ offset + len = omega arith in
@@ -181,12 +181,12 @@ one_item : (g : ℤ → ℤ) (here : Bool) (slot : ℤ) (x : Option ℤ) → x �
 one_item g true slot x e = rw e refl
 one_item g false slot x e = rw e refl
 
-pub decoded : (parts : RunParts) (offset len : ℕ) (ptype : PType) (slots : List ℤ) (v : Validity) (a : Plain) → IsTrue (covers parts.indices.validity (length parts.indices.slots)) → offset + len ≤ length parts.indices.slots → parts.values.ptype ≡ ptype
-    → slots ≡ table (λ i. run_integer parts.values.slots (items_of_plain parts.indices) (run_offsets_of parts) (offset + i)) len → v ≡ validity_between offset (offset + len) parts.indices.validity → a ≡ record { ptype = ptype; slots = slots; validity = v }
-    → column_of_plain a ≡ run_column parts offset len
+pub decoded : (parts : RunParts) (offset len : ℕ) (ptype : PType) (slots : List ℤ) (v : Validity) (a : PrimitiveParts) → IsTrue (covers parts.indices.validity (length parts.indices.slots)) → offset + len ≤ length parts.indices.slots → parts.values.ptype ≡ ptype
+    → slots ≡ table (λ i. run_integer parts.values.slots (items_of_primitive parts.indices) (run_offsets_of parts) (offset + i)) len → v ≡ validity_between offset (offset + len) parts.indices.validity → a ≡ record { ptype = ptype; slots = slots; validity = v }
+    → column_of_primitive a ≡ run_column parts offset len
 decoded parts offset len ptype slots v a covered room same is shown made =
     let indices = parts.indices in
-    let items = items_of_plain indices in
+    let items = items_of_primitive indices in
     let between = validity_between offset (offset + len) indices.validity in
     let integer : ℕ → ℤ = λ i. run_integer parts.values.slots items (run_offsets_of parts) (offset + i) in
     let part = covers_shown indices offset len covered room in

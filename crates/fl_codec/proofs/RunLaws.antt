@@ -18,16 +18,16 @@ use Rattle.fl_types.specs.declared.dtype.PType.TheVariants.{U16, U64}
 use Rattle.fl_types.specs.declared.validity.Validity.{Validity}
 use Rattle.fl_types.specs.declared.validity.Validity.TheVariants as valid
 use Rattle.fl_types.specs.Validities.{covers}
-use Rattle.fl_plain.specs.Columns.{Plain}
+use Rattle.fl_column.specs.Columns.{PrimitiveParts}
 use Rattle.fl_types.specs.Bits.{table}
 use Rattle.fl_types.specs.Integers.{fits, pattern_of, read_as}
-use Rattle.fl_codec.specs.Filling.{Reset, filled}
+use Rattle.fl_codec.specs.ForwardFill.{Reset, fill_forward}
 use Rattle.fl_codec.specs.Chunks.{chunks_of}
-use Rattle.fl_codec.specs.Parts.{encode_runs, items_of_plain, solid}
+use Rattle.fl_codec.specs.Parts.{encode_runs, items_of_primitive, non_nullable}
 use Rattle.fl_codec.specs.Runs.{chunk_values, differs_next, indices_to, offsets_to, run_index, run_validity, values_to}
 use Rattle.fl_codec.proofs.Congruence.{read_as-pattern_of}
 use Rattle.fl_codec.proofs.DeltaLaws.{values_table}
-use Rattle.fl_codec.proofs.FillingLaws.{table_append}
+use Rattle.fl_codec.proofs.ForwardFillLaws.{table_append}
 use Rattle.fl_codec.proofs.ReferenceLaws.{table_more}
 
 -- ---- counts
@@ -98,31 +98,31 @@ run_values item value k (suc n) here =
     ∙ sym (values_next item k n)))
 
 -- the run values of a chunk, as words
-pub values_of_chunk : {W : Type 0} (pattern : W → ℕ) (ptype : PType) (item : ℕ → ℤ) (k : ℕ) (block : ℕ → ℕ) (runs : List W) (count : ℕ) → count ≤ length runs → count ≡ changes block 1023 + 1
+pub values_of_chunk : {W : Type 0} (pattern : W → ℕ) (ptype : PType) (item : ℕ → ℤ) (k : ℕ) (block : ℕ → ℕ) (rle : List W) (count : ℕ) → count ≤ length rle → count ≡ changes block 1023 + 1
     → ((i : ℕ) → i < 1024 → block i ≡ pattern_of ptype (item (1024 * k + i))) → ((i : ℕ) → i < 1024 → IsTrue (fits ptype (item (1024 * k + i))))
-    → ((q : ℕ) → q < 1024 → pattern_at pattern runs (changes block q) ≡ block q)
-    → map (λ w. read_as ptype (pattern w)) (take count runs) ≡ chunk_values item k
-values_of_chunk pattern ptype item k block runs count few is here fit runs_are =
-    let value = λ (m : ℕ). read_as ptype (pattern_at pattern runs m) in
+    → ((q : ℕ) → q < 1024 → pattern_at pattern rle (changes block q) ≡ block q)
+    → map (λ w. read_as ptype (pattern w)) (take count rle) ≡ chunk_values item k
+values_of_chunk pattern ptype item k block rle count few is here fit runs_are =
+    let value = λ (m : ℕ). read_as ptype (pattern_at pattern rle m) in
     let last : 1023 < 1024 = lit< tt in
-    let long : length (take count runs) ≡ count = let taken = length-take count runs in omega arith in
+    let long : length (take count rle) ≡ count = let taken = length-take count rle in omega arith in
     let counted_is : count ≡ run_index item k 1023 + 1 = is ∙ ap (λ n. n + 1) (changes_are ptype item k block 1023 last here fit) in
-    values_table pattern (read_as ptype) (take count runs) value count long (λ i h. ap (read_as ptype) (pattern_at_take pattern runs count i h))
+    values_table pattern (read_as ptype) (take count rle) value count long (λ i h. ap (read_as ptype) (pattern_at_take pattern rle count i h))
     ∙ (ap (table value) counted_is
     ∙ run_values item value k 1023 (λ q h.
     let inside : q < 1024 = omega arith in
     ap value (sym (changes_are ptype item k block q inside here fit)) ∙ (ap (read_as ptype) (runs_are q inside ∙ here q inside) ∙ read_as-pattern_of ptype (item (1024 * k + q)) (fit q inside))))
 
-pub values_more : (items : List (Option ℤ)) (k : ℕ) → values_to items (k + 1) ≡ values_to items k ++ chunk_values (filled Reset items) k
+pub values_more : (items : List (Option ℤ)) (k : ℕ) → values_to items (k + 1) ≡ values_to items k ++ chunk_values (fill_forward Reset items) k
 values_more items k =
-    rw (range_to_more k) (flat_map-append (chunk_values (filled Reset items)) (range_with_len 0 k) (k ∷ []) ∙ ap (λ ys. values_to items k ++ ys) (append-nil (chunk_values (filled Reset items) k)))
+    rw (range_to_more k) (flat_map-append (chunk_values (fill_forward Reset items)) (range_with_len 0 k) (k ∷ []) ∙ ap (λ ys. values_to items k ++ ys) (append-nil (chunk_values (fill_forward Reset items) k)))
 
 -- ---- the indices of a chunk
 pub indices_of_chunk : (ptype : PType) (items : List (Option ℤ)) (k : ℕ) (block : ℕ → ℕ) (positions : List ℕ) → length positions ≡ 1024
-    → ((i : ℕ) → i < 1024 → block i ≡ pattern_of ptype (filled Reset items (1024 * k + i))) → ((i : ℕ) → i < 1024 → IsTrue (fits ptype (filled Reset items (1024 * k + i))))
+    → ((i : ℕ) → i < 1024 → block i ≡ pattern_of ptype (fill_forward Reset items (1024 * k + i))) → ((i : ℕ) → i < 1024 → IsTrue (fits ptype (fill_forward Reset items (1024 * k + i))))
     → ((q : ℕ) → q < 1024 → get_or positions q 0 ≡ changes block q) → indices_to items k ++ positions ≡ indices_to items (k + 1)
 indices_of_chunk ptype items k block positions long here fit are =
-    let item = filled Reset items in
+    let item = fill_forward Reset items in
     let index = λ (p : ℕ). run_index item (p / 1024) (p % 1024) in
     let more : 1024 * k + 1024 ≡ 1024 * (k + 1) = omega arith in
     let now = fill_by_all (λ q. index (1024 * k + q)) positions 1024 0 long
@@ -152,9 +152,9 @@ padded_more bits padded new len i h is pushed =
 pub ok_same : {A : Type 0} (x y : A) → (let left : Result A FastLanesError = Ok x in left) ≡ Ok y → y ≡ x
 ok_same x y e = cc
 
-pub runs_made : (p : Plain) (ptype : PType) (values indices offsets : Plain) (vs : List ℤ) (is os : List ℕ) (v : Validity) (n : ℕ) → p.ptype ≡ ptype → n ≡ chunks_of (length p.slots)
-    → values ≡ solid ptype vs → vs ≡ values_to (items_of_plain p) n
-    → indices ≡ record { ptype = U16; slots = map (λ i. pos i) is; validity = v } → is ≡ indices_to (items_of_plain p) n → v ≡ run_validity p.validity (length p.slots) (1024 * n)
-    → offsets ≡ solid U64 (map (λ i. pos i) os) → os ≡ offsets_to (items_of_plain p) n
+pub runs_made : (p : PrimitiveParts) (ptype : PType) (values indices offsets : PrimitiveParts) (vs : List ℤ) (is os : List ℕ) (v : Validity) (n : ℕ) → p.ptype ≡ ptype → n ≡ chunks_of (length p.slots)
+    → values ≡ non_nullable ptype vs → vs ≡ values_to (items_of_primitive p) n
+    → indices ≡ record { ptype = U16; slots = map (λ i. pos i) is; validity = v } → is ≡ indices_to (items_of_primitive p) n → v ≡ run_validity p.validity (length p.slots) (1024 * n)
+    → offsets ≡ non_nullable U64 (map (λ i. pos i) os) → os ≡ offsets_to (items_of_primitive p) n
     → record { values = values; indices = indices; offsets = offsets } ≡ encode_runs p
 runs_made p ptype values indices offsets vs is os v n same chunks a b c d e f g = rw (a, b, c, d, e, f, g, chunks, ← same) refl

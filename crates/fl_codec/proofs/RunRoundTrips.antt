@@ -15,16 +15,16 @@ use Rattle.fl_types.specs.declared.validity.Validity.{Validity}
 use Rattle.fl_types.specs.declared.validity.Validity.TheVariants as valid
 use Rattle.fl_types.specs.Bits.{table}
 use Rattle.fl_types.specs.Validities.{covers, is_valid_at, items_of, nullability_of}
-use Rattle.fl_plain.specs.Columns.{Plain, column_of_plain, numbers_of}
-use Rattle.fl_plain.proofs.ItemLaws.{get_or-items_of, length-items_of}
-use Rattle.fl_plain.proofs.ListLaws.{all_from, and_true}
+use Rattle.fl_column.specs.Columns.{PrimitiveParts, column_of_primitive, numbers_of}
+use Rattle.fl_column.proofs.ItemLaws.{get_or-items_of, length-items_of}
+use Rattle.fl_column.proofs.ListLaws.{all_from, and_true}
 use Rattle.fl_codec.specs.Chunks.{chunk, chunks_of}
-use Rattle.fl_codec.proofs.FillingLaws.{get_or-chunk, length-chunk}
-use Rattle.fl_codec.specs.Filling.{Reset, filled}
-use Rattle.fl_codec.specs.Parts.{encode_runs, solid}
+use Rattle.fl_codec.proofs.ForwardFillLaws.{get_or-chunk, length-chunk}
+use Rattle.fl_codec.specs.ForwardFill.{Reset, fill_forward}
+use Rattle.fl_codec.specs.Parts.{encode_runs, non_nullable}
 use Rattle.fl_codec.specs.Runs.{chunk_values, differs_next, indices_to, offsets_to, run_index, run_validity, values_to}
 use Rattle.fl_codec.specs.RunColumns.{are_run_indices, are_run_offsets, chunk_end, chunk_start, is_chunk_of_runs, is_run_index, run_column, run_count, run_item, runs_refusal}
-use Rattle.fl_codec.proofs.DeltaRoundTrips.{filled-valid}
+use Rattle.fl_codec.proofs.DeltaRoundTrips.{fill_forward-valid}
 use Rattle.fl_codec.proofs.ReferenceLaws.{get_or-table, length-table}
 use Rattle.fl_codec.proofs.RunLaws.{counted_next, counted_zero, covers-run_validity, values_more, values_next, values_up_to}
 
@@ -104,9 +104,9 @@ index_inside : (item : ℕ → ℤ) (k q : ℕ) → q < 1024 → run_index item 
 index_inside item k q h = let long = length-values item k 1023 in let grows = counted_grows (differs_next item k) q 1023 (omega arith) in rw long (omega arith)
 
 pub value_at_index : (items : List (Option ℤ)) (chunks k q : ℕ) → k < chunks → q < 1024
-    → get_or (values_to items chunks) (length (values_to items k) + run_index (filled Reset items) k q) (pos 0) ≡ filled Reset items (1024 * k + q)
+    → get_or (values_to items chunks) (length (values_to items k) + run_index (fill_forward Reset items) k q) (pos 0) ≡ fill_forward Reset items (1024 * k + q)
 value_at_index items chunks k q within h =
-    let item = filled Reset items in
+    let item = fill_forward Reset items in
     let ks = range_with_len 0 chunks in
     let index = run_index item k q in
     let some : k < length ks = rw length-range_with_len within in
@@ -118,9 +118,9 @@ value_at_index items chunks k q within h =
     ∙ (ap (λ m. get_or (chunk_values item m) index (pos 0)) here ∙ value_stands item k 1023 q (pos 0) (omega arith)))
 
 -- ---- what the encoder's parts are, read back
-solid_numbers : (ns : List ℕ) → map unsigned_abs (map (λ (item : Option ℤ). unwrap_or item (pos 0)) (map (λ (x : ℤ). Some x) (map (λ n. pos n) ns))) ≡ ns
-solid_numbers [] = refl
-solid_numbers (n ∷ ns) = ap (λ ms. n ∷ ms) (solid_numbers ns)
+non_nullable_numbers : (ns : List ℕ) → map unsigned_abs (map (λ (item : Option ℤ). unwrap_or item (pos 0)) (map (λ (x : ℤ). Some x) (map (λ n. pos n) ns))) ≡ ns
+non_nullable_numbers [] = refl
+non_nullable_numbers (n ∷ ns) = ap (λ ms. n ∷ ms) (non_nullable_numbers ns)
 
 valid_padded : (v : Validity) (len total i : ℕ) → IsTrue (covers v len) → i < len → is_valid_at (run_validity v len total) i ≡ is_valid_at v i
 valid_padded valid.NonNullable len total i covered h = refl
@@ -149,19 +149,19 @@ start_is items chunks k h =
     let before : ℕ → ℕ = λ j. length (values_to items j) in
     same_start (get_or (offsets_to items chunks) k 0) (get_or (offsets_to items chunks) 0 0) (length (values_to items k)) (get_or-table before chunks k 0 h) (get_or-table before chunks 0 0 (omega arith))
 
-pub runs_back : (p : Plain) → IsTrue (covers p.validity (length p.slots)) → run_column (encode_runs p) 0 (length p.slots) ≡ column_of_plain p
+pub runs_back : (p : PrimitiveParts) → IsTrue (covers p.validity (length p.slots)) → run_column (encode_runs p) 0 (length p.slots) ≡ column_of_primitive p
 runs_back p covered =
     let items = items_of p.validity p.slots in
     let len = length p.slots in
     let chunks = chunks_of len in
     let total = 1024 * chunks in
-    let item = filled Reset items in
+    let item = fill_forward Reset items in
     let v = run_validity p.validity len total in
     let entry : ℕ → ℕ = λ q. run_index item (q / 1024) (q % 1024) in
     let slots : List ℤ = map (λ n. pos n) (indices_to items chunks) in
     let long : length slots ≡ total = length-map (indices_to items chunks) (λ n. pos n) ∙ length-table entry total in
     let padded : IsTrue (covers v (length slots)) = rw long (covers-run_validity p.validity len total covered (omega arith)) in
-    let numbers : numbers_of (column_of_plain (solid U64 (map (λ n. pos n) (offsets_to items chunks)))) ≡ offsets_to items chunks = solid_numbers (offsets_to items chunks) in
+    let numbers : numbers_of (column_of_primitive (non_nullable U64 (map (λ n. pos n) (offsets_to items chunks)))) ≡ offsets_to items chunks = non_nullable_numbers (offsets_to items chunks) in
     let values = values_to items chunks in
     let shown : List ℕ → ℕ → Option ℤ = λ offsets i. run_item values (items_of v slots) offsets (0 + i) in
     let each = length-items_of p.validity p.slots covered in
@@ -183,9 +183,9 @@ runs_back p covered =
     let read : ℤ → ℤ = λ z. get_or values (chunk_start (offsets_to items chunks) k + unsigned_abs z) (pos 0) in
     let value : is_valid_at p.validity i ≡ true → read (pos (entry i)) ≡ slot = λ valid.
     let present : get_or items (1024 * k + q) None ≡ Some slot = ap (λ n. get_or items n None) there ∙ (stored ∙ ap (λ b. cond b (Some slot) None) valid) in
-    ap (λ n. get_or values (n + entry i) (pos 0)) (start_is items chunks k within) ∙ (value_at_index items chunks k q within small ∙ filled-valid Reset items k q slot small present) in
+    ap (λ n. get_or values (n + entry i) (pos 0)) (start_is items chunks k within) ∙ (value_at_index items chunks k q within small ∙ fill_forward-valid Reset items k q slot small present) in
     stored ∙ sym (ap (run_item values (items_of v slots) (offsets_to items chunks)) start ∙ (ap (option_map read) index ∙ mapped_item read (is_valid_at p.validity i) (pos (entry i)) slot value)))) in
-    ap (λ n. record { dtype = Primitive p.ptype n; items = table (shown (numbers_of (column_of_plain (solid U64 (map (λ n. pos n) (offsets_to items chunks)))))) len }) (nullability_padded p.validity len total)
+    ap (λ n. record { dtype = Primitive p.ptype n; items = table (shown (numbers_of (column_of_primitive (non_nullable U64 (map (λ n. pos n) (offsets_to items chunks)))))) len }) (nullability_padded p.validity len total)
     ∙ ap (λ xs. record { dtype = Primitive p.ptype (nullability_of p.validity); items = xs }) (ap (λ offsets. table (shown offsets) len) numbers ∙ all)
 
 -- ---- the encoder's parts are well-formed
@@ -199,8 +199,8 @@ end_is items chunks k h =
       | inr last ↦ ap (λ b. cond b (chunk_start offsets (k + 1)) count) (ap (nat_lt (k + 1)) long ∙ le-ltb (k + 1) chunks last) ∙ ap (λ n. length (values_to items n)) (let same : chunks ≡ k + 1 = omega arith in same)
     ]
 
-size_is : (items : List (Option ℤ)) (k : ℕ) → length (values_to items (k + 1)) ≡ length (values_to items k) + (run_index (filled Reset items) k 1023 + 1)
-size_is items k = ap length (values_more items k) ∙ (length-append (values_to items k) (chunk_values (filled Reset items) k) ∙ ap (λ n. length (values_to items k) + n) (length-values (filled Reset items) k 1023))
+size_is : (items : List (Option ℤ)) (k : ℕ) → length (values_to items (k + 1)) ≡ length (values_to items k) + (run_index (fill_forward Reset items) k 1023 + 1)
+size_is items k = ap length (values_more items k) ∙ (length-append (values_to items k) (chunk_values (fill_forward Reset items) k) ∙ ap (λ n. length (values_to items k) + n) (length-values (fill_forward Reset items) k 1023))
 
 sized : (a b n : ℕ) → b ≡ a + (n + 1) → n ≤ 1023 → (nat_lt a b && nat_le (b - a) 1024) ≡ true
 sized a b n e h = and_true (nat_lt a b) (nat_le (b - a) 1024) (lt-ltb a b (omega arith)) (le-leb (b - a) 1024 (omega arith))
@@ -213,9 +213,9 @@ chunk_well items chunks k h =
     let here = start_is items chunks k h in
     let next = end_is items chunks k h in
     let first : get_or offsets 0 0 ≡ 0 = get_or-table before chunks 0 0 (omega arith) in
-    let few = counted_few (differs_next (filled Reset items) k) 1023 in
+    let few = counted_few (differs_next (fill_forward Reset items) k) 1023 in
     and_true (nat_le (get_or offsets 0 0) (get_or offsets k 0)) _ (le-leb (get_or offsets 0 0) (get_or offsets k 0) (rw first (omega arith)))
-    (sized (chunk_start offsets k) (chunk_end offsets count k) (run_index (filled Reset items) k 1023) (next ∙ (size_is items k ∙ ap (λ n. n + (run_index (filled Reset items) k 1023 + 1)) (sym here))) few)
+    (sized (chunk_start offsets k) (chunk_end offsets count k) (run_index (fill_forward Reset items) k 1023) (next ∙ (size_is items k ∙ ap (λ n. n + (run_index (fill_forward Reset items) k 1023 + 1)) (sym here))) few)
 
 offsets_well : (items : List (Option ℤ)) (chunks : ℕ) → are_run_offsets (offsets_to items chunks) (length (values_to items chunks)) ≡ true
 offsets_well items zero = refl
@@ -239,7 +239,7 @@ below_passes count false n h = refl
 chunk_named : (items : List (Option ℤ)) (v : Validity) (chunks k : ℕ) → IsTrue (covers v (length (map (λ n. pos n) (indices_to items chunks)))) → k < chunks
     → list_all (is_run_index (run_count (offsets_to items chunks) (length (values_to items chunks)) k)) (chunk k (items_of v (map (λ n. pos n) (indices_to items chunks)))) ≡ true
 chunk_named items v chunks k padded h =
-    let item = filled Reset items in
+    let item = fill_forward Reset items in
     let offsets = offsets_to items chunks in
     let count = length (values_to items chunks) in
     let entry : ℕ → ℕ = λ p. run_index item (p / 1024) (p % 1024) in
@@ -263,27 +263,27 @@ chunk_named items v chunks k padded h =
     get_or-chunk indices k q None (omega arith) ∙ (get_or-items_of v slots i (pos 0) padded (rw long inside) ∙ ap (λ z. cond (is_valid_at v i) (Some z) None) named) in
     ap (is_run_index (run_count offsets count k)) index ∙ below_passes (run_count offsets count k) (is_valid_at v i) (run_index item k q) below)
 
-pub runs_well : (p : Plain) → IsTrue (covers p.validity (length p.slots)) → runs_refusal (encode_runs p) 0 (length p.slots) ≡ None
+pub runs_well : (p : PrimitiveParts) → IsTrue (covers p.validity (length p.slots)) → runs_refusal (encode_runs p) 0 (length p.slots) ≡ None
 runs_well p covered =
     let items = items_of p.validity p.slots in
     let len = length p.slots in
     let chunks = chunks_of len in
     let total = 1024 * chunks in
-    let item = filled Reset items in
+    let item = fill_forward Reset items in
     let v = run_validity p.validity len total in
     let entry : ℕ → ℕ = λ q. run_index item (q / 1024) (q % 1024) in
     let slots : List ℤ = map (λ n. pos n) (indices_to items chunks) in
     let long : length slots ≡ total = length-map (indices_to items chunks) (λ n. pos n) ∙ length-table entry total in
     let padded : IsTrue (covers v (length slots)) = rw long (covers-run_validity p.validity len total covered (omega arith)) in
     let offsets = offsets_to items chunks in
-    let numbers : numbers_of (column_of_plain (solid U64 (map (λ n. pos n) offsets))) ≡ offsets = solid_numbers offsets in
+    let numbers : numbers_of (column_of_primitive (non_nullable U64 (map (λ n. pos n) offsets))) ≡ offsets = non_nullable_numbers offsets in
     let count = length (values_to items chunks) in
     let each : length (map (λ n. pos n) offsets) ≡ chunks = length-map offsets (λ n. pos n) ∙ length-table (λ j. length (values_to items j)) chunks in
     let whole : (length slots % 1024 == 0) ≡ true = eq-eqb (length slots % 1024) 0 (rw long (omega arith)) in
     let enough : nat_lt (length slots) (0 + len) ≡ false = le-ltb (length slots) (0 + len) (rw long (omega arith)) in
     let one_each : (length (map (λ n. pos n) offsets) == length slots / 1024) ≡ true = eq-eqb _ _ (rw (each, long) (omega arith)) in
-    let starts : are_run_offsets (numbers_of (column_of_plain (solid U64 (map (λ n. pos n) offsets)))) count ≡ true = ap (λ ns. are_run_offsets ns count) numbers ∙ offsets_well items chunks in
-    let named : are_run_indices (items_of v slots) (numbers_of (column_of_plain (solid U64 (map (λ n. pos n) offsets)))) count ≡ true =
+    let starts : are_run_offsets (numbers_of (column_of_primitive (non_nullable U64 (map (λ n. pos n) offsets)))) count ≡ true = ap (λ ns. are_run_offsets ns count) numbers ∙ offsets_well items chunks in
+    let named : are_run_indices (items_of v slots) (numbers_of (column_of_primitive (non_nullable U64 (map (λ n. pos n) offsets)))) count ≡ true =
     ap (λ ns. are_run_indices (items_of v slots) ns count) numbers
     ∙ all_from (λ k. list_all (is_run_index (run_count offsets count k)) (chunk k (items_of v slots))) (range_with_len 0 (length offsets)) 0
     (λ j h.

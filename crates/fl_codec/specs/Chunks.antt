@@ -2,7 +2,7 @@
 use Rattle.std.specs.Prelude.{◌+◌, ◌*◌, ◌/◌, ℕ, List}
 use Rattle.fl_types.specs.Bits.{between}
 
--- how many chunks so many items have, a short last one too
+-- how many chunks this many items have, a short last one too
 abbrev pub chunks_of : ℕ → ℕ
 chunks_of n = (n + 1023) / 1024
 

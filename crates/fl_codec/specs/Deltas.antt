@@ -7,9 +7,9 @@ use Rattle.fl_types.specs.Bits.{table}
 use Rattle.fl_types.specs.Integers.{bits_of_type, lanes_of_type, wrap}
 use Rattle.fl_types.specs.Validities.{is_valid_at, nullability_of}
 use Rattle.fl_types.specs.declared.dtype.DType.TheVariants.{Primitive}
-use Rattle.fl_plain.specs.Columns.{Column}
+use Rattle.fl_column.specs.Columns.{Column}
 use Rattle.fl_codec.specs.Chunks.{chunks_of}
-use Rattle.fl_codec.specs.Filling.{Carry, filled}
+use Rattle.fl_codec.specs.ForwardFill.{Carry, fill_forward}
 
 -- ---- the encoder: over the filled items, block after block
 -- base k is the first item of lane k mod lanes of block k div lanes
@@ -25,11 +25,11 @@ delta_of ptype item j q =
 
 -- the bases of the first blocks of a column, one for each lane
 abbrev pub bases_to : PType → List (Option ℤ) → ℕ → List ℤ
-bases_to ptype items blocks = table (base_of (lanes_of_type ptype) (filled Carry items)) (lanes_of_type ptype * blocks)
+bases_to ptype items blocks = table (base_of (lanes_of_type ptype) (fill_forward Carry items)) (lanes_of_type ptype * blocks)
 
 -- the deltas of the first blocks of a column
 abbrev pub deltas_to : PType → List (Option ℤ) → ℕ → List ℤ
-deltas_to ptype items blocks = table (λ k. delta_of ptype (filled Carry items) (k / 1024) (k % 1024)) (1024 * blocks)
+deltas_to ptype items blocks = table (λ k. delta_of ptype (fill_forward Carry items) (k / 1024) (k % 1024)) (1024 * blocks)
 
 -- the bases of a column
 abbrev pub delta_bases : PType → List (Option ℤ) → List ℤ

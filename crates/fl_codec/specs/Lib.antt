@@ -1,8 +1,12 @@
 pub mod Chunks
 pub mod Deltas
-pub mod Filling
-pub mod FrameValues
-pub mod Frames
+pub mod ForwardFill
+pub mod FoRValues
+pub mod FoRColumns
 pub mod Parts
 pub mod RunColumns
 pub mod Runs
+pub mod ChunkSlices
+pub mod DeltaRefusals
+pub mod RunRefusals
+pub mod Refusals

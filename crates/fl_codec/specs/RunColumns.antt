@@ -10,9 +10,9 @@ use Rattle.fl_types.specs.Bits.{table}
 use Rattle.fl_types.specs.Integers.{is_unsigned, same_ptype}
 use Rattle.fl_types.specs.Types.{can_be_null, is_index_type}
 use Rattle.fl_types.specs.Validities.{nullability_of}
-use Rattle.fl_plain.specs.Columns.{Column, Plain, column_of_plain, numbers_of, option_all}
+use Rattle.fl_column.specs.Columns.{Column, PrimitiveParts, column_of_primitive, numbers_of, option_all}
 use Rattle.fl_codec.specs.Chunks.{chunk}
-use Rattle.fl_codec.specs.Parts.{RunParts, items_of_plain}
+use Rattle.fl_codec.specs.Parts.{RunParts, items_of_primitive}
 
 -- where the run values of chunk k start: its run offset, counted from the first one
 abbrev pub chunk_start : List ℕ → ℕ → ℕ
@@ -28,17 +28,17 @@ run_item values indices offsets p = option_map (λ index. slice_index_or values 
 
 -- the numbers that the run offsets are
 abbrev pub run_offsets_of : RunParts → List ℕ
-run_offsets_of parts = numbers_of (column_of_plain parts.offsets)
+run_offsets_of parts = numbers_of (column_of_primitive parts.offsets)
 
--- the column of so many items that runs show from an offset on
+-- the column of this many items that runs show from an offset on
 abbrev pub run_column : RunParts → ℕ → ℕ → Column
 run_column parts offset len = record {
   dtype = Primitive parts.values.ptype (nullability_of parts.indices.validity);
-  items = table (λ i. run_item parts.values.slots (items_of_plain parts.indices) (run_offsets_of parts) (offset + i)) len;
+  items = table (λ i. run_item parts.values.slots (items_of_primitive parts.indices) (run_offsets_of parts) (offset + i)) len;
 }
 
 -- ---- what runs must be
--- where the run values of chunk k, among so many, end: at the next chunk's start, or at the end of all
+-- where the run values of chunk k, among this many, end: at the next chunk's start, or at the end of all
 abbrev pub chunk_end : List ℕ → ℕ → ℕ → ℕ
 chunk_end offsets count k = if nat_lt (k + 1) (length offsets) then chunk_start offsets (k + 1) else count
 
@@ -70,22 +70,22 @@ is_run_index_type ptype = same_ptype ptype U8 || same_ptype ptype U16
 abbrev pub contents_refusal : RunParts → Option FastLanesError
 contents_refusal parts =
     if not (are_run_offsets (run_offsets_of parts) (length parts.values.slots)) then Some RunOffsets
-    else if not (are_run_indices (items_of_plain parts.indices) (run_offsets_of parts) (length parts.values.slots)) then Some RunIndex
+    else if not (are_run_indices (items_of_primitive parts.indices) (run_offsets_of parts) (length parts.values.slots)) then Some RunIndex
     else None
 
--- why these parts make no column of so many items from an offset on, if they make none
+-- why these parts make no column of this many items from an offset on, if they make none
 abbrev pub runs_refusal : RunParts → ℕ → ℕ → Option FastLanesError
 runs_refusal parts offset len =
     if nat_le 1024 offset then Some OffsetTooLarge
     else if can_be_null (nullability_of parts.values.validity) then Some ChildNullable
     else if not (is_run_index_type parts.indices.ptype) then Some RunIndexType
-    else if not (is_index_type (column_of_plain parts.offsets).dtype) then Some BlockOffsetsType
+    else if not (is_index_type (column_of_primitive parts.offsets).dtype) then Some BlockOffsetsType
     else if not (length parts.indices.slots % 1024 == 0) then Some ChildLength
     else if nat_lt (length parts.indices.slots) (offset + len) then Some RangeBeyondChild
     else if not (length parts.offsets.slots == length parts.indices.slots / 1024) then Some BlockOffsetsCount
     else contents_refusal parts
 
--- chunk k has from 1 to 1024 run values, they lie among so many, and its indices are null or below their number
+-- chunk k has from 1 to 1024 run values, they lie among this many, and its indices are null or below their number
 pub record IsChunk (count : ℕ) (indices : List (Option ℤ)) (offsets : List ℕ) (k : ℕ) : Type 0 where
   pub some : chunk_start offsets k < chunk_end offsets count k
   pub few : run_count offsets count k ≤ 1024
@@ -93,9 +93,9 @@ pub record IsChunk (count : ℕ) (indices : List (Option ℤ)) (offsets : List �
   pub named : (q : ℕ) → q < 1024 → IsTrue (is_run_index (run_count offsets count k) (slice_index_or indices (1024 * k + q) None))
 
 -- indices and offsets are unsigned, each has what chunk k needs, and the chunk is such a one
-pub record IsRunChunk (count : ℕ) (indices offsets : Plain) (k : ℕ) : Type 0 where
+pub record IsRunChunk (count : ℕ) (indices offsets : PrimitiveParts) (k : ℕ) : Type 0 where
   pub index_type : IsTrue (is_unsigned indices.ptype)
   pub offset_type : IsTrue (is_unsigned offsets.ptype)
   pub full : 1024 * (k + 1) ≤ length indices.slots
   pub range : k < length offsets.slots
-  pub chunk : IsChunk count (items_of_plain indices) (numbers_of (column_of_plain offsets)) k
+  pub chunk : IsChunk count (items_of_primitive indices) (numbers_of (column_of_primitive offsets)) k

@@ -5,17 +5,17 @@ ghost use Rattle.fl_types.specs.Validities.{covers, items_of};
 ghost use Rattle.fl_codec.specs.Chunks.{chunk, chunks_of};
 
 use fastlanes::FL_CHUNK_SIZE;
-use fl_plain::item_at;
+use fl_column::item_at;
 use fl_types::{NativePType, Validity};
 
-/// How many chunks so many items have. The last one may be short.
+/// How many chunks this many items have. The last one may be short.
 pub(crate) fn chunk_count(len: usize) -> usize
     ensures { result ≡ chunks_of len }
 {
     len.div_ceil(FL_CHUNK_SIZE)
 }
 
-/// Where chunk `k` of so many items ends.
+/// Where chunk `k` of this many items ends.
 pub(crate) fn chunk_end(k: usize, len: usize) -> usize
     requires { 1024 * k ≤ len }
     ensures { result ≡ min (1024 * (k + 1)) len }

@@ -1,5 +1,7 @@
 //! Columns that are kept as differences along the lanes of blocks of 1024 items.
 
+pub mod children;
+
 ghost use Rattle.std.specs.Prelude.{◌≡◌, ◌+◌, ◌*◌, ◌/◌, ◌%◌, ◌<◌, ◌≤◌, ◌++◌, ◌-◌, ◌^◌, ℕ, ℤ, pos, IsTrue, IfOk, OnOk, Ok, length, map, min, slice_index_or, take};
 ghost use Rattle.fastlanes.specs.Layout.{pattern_at, place, segment};
 ghost use Rattle.fastlanes.specs.Delta.{summed_item};
@@ -7,18 +9,18 @@ ghost use Rattle.fl_types.specs.Bits.{table};
 ghost use Rattle.fl_types.specs.Integers.{lanes_of_type, pattern_of, read_as};
 ghost use Rattle.fl_types.specs.Refusals.{Answers};
 ghost use Rattle.fl_types.specs.Validities.{covers};
-ghost use Rattle.fl_plain.specs.Columns.{column_of_plain};
+ghost use Rattle.fl_column.specs.Columns.{column_of_primitive};
 ghost use Rattle.fl_codec.specs.Chunks.{chunks_of};
 ghost use Rattle.fl_codec.specs.Deltas.{bases_to, delta_column, delta_integer, deltas_to, encoded_delta};
-ghost use Rattle.fl_codec.specs.Filling.{carried_to};
-ghost use Rattle.fl_codec.specs.Parts.{compress_deltas, items_of_plain};
+ghost use Rattle.fl_codec.specs.ForwardFill.{carried_to};
+ghost use Rattle.fl_codec.specs.Parts.{compress_deltas, items_of_primitive};
 
 use crate::chunks::chunk_count;
-use crate::filled::fill_chunk;
-use crate::plain::{solid, under_validity};
-use fastlanes::round_trips::all_in_range;
+use crate::fill_forward::fill_chunk;
+use crate::plain::{non_nullable, under_validity};
+use fastlanes::facts::prove_all_in_range;
 use fastlanes::{FL_CHUNK_SIZE, FastLanes, delta, transpose, undelta, untranspose};
-use fl_plain::{PhysicalPType, PrimitiveArray};
+use fl_column::{PhysicalPType, PrimitiveArray};
 use fl_types::{FastLanesError, Validity, match_each_integer_ptype};
 use std::alloc::{AllocError, Global};
 
@@ -39,7 +41,7 @@ fn encode_block<W: FastLanes>(block: &mut [W; FL_CHUNK_SIZE], stored: &mut [W; F
     ensures stored { length stored.new ≡ 1024 }
     ensures whole { length block.new ≡ 1024 }
 {
-    all_in_range(block);
+    prove_all_in_range(block);
     transpose(block, stored);
     delta(stored, first_row(stored), block);
 }
@@ -69,12 +71,12 @@ fn push_chunk<T: PhysicalPType>(
 ) -> Result<T, AllocError>
     requires same { array.now.ptype ≡ T.PTYPE }
     requires chunk { 1024 * k ≤ length array.now.slots }
-    requires last { T.value last ≡ carried_to (items_of_plain array.now) k }
-    requires bases { map T.value bases.old.items ≡ bases_to T.PTYPE (items_of_plain array.now) k }
-    requires deltas { map T.value deltas.old.items ≡ deltas_to T.PTYPE (items_of_plain array.now) k }
-    ensures last { IfOk result (λ x. T.value x ≡ carried_to (items_of_plain array.now) (k + 1)) }
-    ensures bases { OnOk result (map T.value bases.new.items ≡ bases_to T.PTYPE (items_of_plain array.now) (k + 1)) }
-    ensures deltas { OnOk result (map T.value deltas.new.items ≡ deltas_to T.PTYPE (items_of_plain array.now) (k + 1)) }
+    requires last { T.value last ≡ carried_to (items_of_primitive array.now) k }
+    requires bases { map T.value bases.old.items ≡ bases_to T.PTYPE (items_of_primitive array.now) k }
+    requires deltas { map T.value deltas.old.items ≡ deltas_to T.PTYPE (items_of_primitive array.now) k }
+    ensures last { IfOk result (λ x. T.value x ≡ carried_to (items_of_primitive array.now) (k + 1)) }
+    ensures bases { OnOk result (map T.value bases.new.items ≡ bases_to T.PTYPE (items_of_primitive array.now) (k + 1)) }
+    ensures deltas { OnOk result (map T.value deltas.new.items ≡ deltas_to T.PTYPE (items_of_primitive array.now) (k + 1)) }
 {
     let last = fill_chunk(array.as_slice::<T>(), array.validity(), k, last, block);
     encode_block(block, stored);
@@ -93,7 +95,7 @@ fn compress_typed<T: PhysicalPType>(
     let chunks = chunk_count(array.len());
     let mut bases = Vec::with_capacity(alloc, chunks.saturating_mul(T::Physical::LANES))?;
     let mut deltas = Vec::with_capacity(alloc, chunks.saturating_mul(FL_CHUNK_SIZE))?;
-    T::Physical::in_memory();
+    T::Physical::prove_in_memory();
     let mut block = [T::Physical::zero(); FL_CHUNK_SIZE];
     let mut stored = [T::Physical::zero(); FL_CHUNK_SIZE];
     let mut last = T::zero();
@@ -108,7 +110,7 @@ fn compress_typed<T: PhysicalPType>(
             &mut deltas,
         )?;
     }
-    Ok((solid(bases), solid(deltas)))
+    Ok((non_nullable(bases), non_nullable(deltas)))
 }
 
 /// The bases and the deltas of a column's blocks of 1024 items, none of which may be null: a base
@@ -127,7 +129,10 @@ pub fn delta_compress(
 }
 
 /// Writes the patterns of these values, at most a block of them.
-pub(crate) fn put_patterns<T: PhysicalPType>(values: &[T], block: &mut [T::Physical; FL_CHUNK_SIZE])
+pub(crate) fn write_patterns<T: PhysicalPType>(
+    values: &[T],
+    block: &mut [T::Physical; FL_CHUNK_SIZE],
+)
     requires { length values.now ≤ 1024 }
     ensures block { (i : ℕ) → i < length values.now → pattern_at T.Physical.pattern block.new i ≡ pattern_of T.PTYPE (slice_index_or (map T.value values.now) i (pos 0)) }
     ensures whole { length block.new ≡ 1024 }
@@ -166,8 +171,8 @@ fn read_block<T: PhysicalPType>(
     ensures whole { length block.new ≡ 1024 }
 {
     let lanes = T::Physical::LANES;
-    put_patterns(&bases[j * lanes..j * lanes + lanes], row);
-    put_patterns(
+    write_patterns(&bases[j * lanes..j * lanes + lanes], row);
+    write_patterns(
         &deltas[FL_CHUNK_SIZE * j..FL_CHUNK_SIZE * j + FL_CHUNK_SIZE],
         block,
     );
@@ -211,7 +216,7 @@ fn decompress_typed<T: PhysicalPType>(
     ensures items { IfOk result (λ v. map T.value v.items ≡ table (λ i. delta_integer T.PTYPE (map T.value bases.now) (map T.value deltas.now) (offset + i)) len) }
 {
     let mut values = Vec::with_capacity(alloc, len)?;
-    T::Physical::in_memory();
+    T::Physical::prove_in_memory();
     let mut row = [T::Physical::zero(); FL_CHUNK_SIZE];
     let mut block = [T::Physical::zero(); FL_CHUNK_SIZE];
     let mut stored = [T::Physical::zero(); FL_CHUNK_SIZE];
@@ -237,7 +242,7 @@ fn decode_typed<T: PhysicalPType>(
     requires few { offset + len < 2 ^ 64 }
     requires bases { chunks_of (offset + len) * lanes_of_type bases.now.ptype ≤ length bases.now.slots }
     requires deltas { 1024 * chunks_of (offset + len) ≤ length deltas.now.slots }
-    ensures { Answers column_of_plain result (Ok (delta_column bases.now.ptype bases.now.slots deltas.now.slots validity.now offset len)) }
+    ensures { Answers column_of_primitive result (Ok (delta_column bases.now.ptype bases.now.slots deltas.now.slots validity.now offset len)) }
 {
     let values = decompress_typed(
         alloc,
@@ -249,7 +254,7 @@ fn decode_typed<T: PhysicalPType>(
     under_validity(alloc, validity, values)
 }
 
-/// The column of so many items of delta blocks, from `offset` on, null where the validity has none:
+/// The column of this many items of delta blocks, from `offset` on, null where the validity has none:
 /// each item is its lane's base and the deltas of the rows up to its own, modulo 2 to the type's
 /// bits.
 ///
@@ -269,7 +274,7 @@ pub fn delta_decompress(
     requires few { offset + len < 2 ^ 64 }
     requires bases { chunks_of (offset + len) * lanes_of_type bases.now.ptype ≤ length bases.now.slots }
     requires deltas { 1024 * chunks_of (offset + len) ≤ length deltas.now.slots }
-    ensures { Answers column_of_plain result (Ok (delta_column bases.now.ptype bases.now.slots deltas.now.slots validity.now offset len)) }
+    ensures { Answers column_of_primitive result (Ok (delta_column bases.now.ptype bases.now.slots deltas.now.slots validity.now offset len)) }
 {
     match_each_integer_ptype!(
         bases.ptype(),

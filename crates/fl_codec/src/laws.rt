@@ -1,38 +1,38 @@
 //! What holds of every column: its encoded parts give it back.
 
 ghost use Rattle.std.specs.Prelude.{◌≡◌, length, None, Ok};
-ghost use Rattle.fl_plain.specs.Columns.{column_of_plain};
+ghost use Rattle.fl_column.specs.Columns.{column_of_primitive};
 ghost use Rattle.fl_codec.specs.Deltas.{delta_column};
-ghost use Rattle.fl_codec.specs.FrameValues.{column_of_frame, column_of_one_reference};
+ghost use Rattle.fl_codec.specs.FoRValues.{column_of_for, column_of_one_reference};
 ghost use Rattle.fl_codec.specs.Parts.{OneReference, compress_deltas, encode_chunked, encode_global, encode_runs};
 ghost use Rattle.fl_codec.specs.RunColumns.{run_column, runs_refusal};
 
-use fl_plain::PrimitiveArray;
+use fl_column::PrimitiveArray;
 
 /// A column less its least item is the column again with that item added.
-#[tactic(auto, using(crate::proofs::FrameRoundTrips::global_back))]
-pub fn global_frame_and_back(array: &PrimitiveArray)
-    ensures { (parts : OneReference) → encode_global array.now ≡ Ok parts → column_of_one_reference parts ≡ column_of_plain array.now }
+#[tactic(auto, using(crate::proofs::FoRRoundTrips::global_back))]
+pub fn global_for_and_back(array: &PrimitiveArray)
+    ensures { (parts : OneReference) → encode_global array.now ≡ Ok parts → column_of_one_reference parts ≡ column_of_primitive array.now }
 {
-    array.in_range();
+    array.prove_in_range();
     let _validity = array.validity();
 }
 
 /// A column less the least items of its chunks is the column again with those items added.
-#[tactic(auto, using(crate::proofs::FrameRoundTrips::chunked_back))]
-pub fn chunked_frame_and_back(array: &PrimitiveArray)
-    ensures { column_of_frame (encode_chunked array.now) ≡ column_of_plain array.now }
+#[tactic(auto, using(crate::proofs::FoRRoundTrips::chunked_back))]
+pub fn chunked_for_and_back(array: &PrimitiveArray)
+    ensures { column_of_for (encode_chunked array.now) ≡ column_of_primitive array.now }
 {
-    array.in_range();
+    array.prove_in_range();
     let _validity = array.validity();
 }
 
 /// The bases and the deltas of a column sum to it.
 #[tactic(auto, using(crate::proofs::DeltaRoundTrips::delta_back))]
 pub fn deltas_and_back(array: &PrimitiveArray)
-    ensures { delta_column array.now.ptype (compress_deltas array.now).0.slots (compress_deltas array.now).1.slots array.now.validity 0 (length array.now.slots) ≡ column_of_plain array.now }
+    ensures { delta_column array.now.ptype (compress_deltas array.now).0.slots (compress_deltas array.now).1.slots array.now.validity 0 (length array.now.slots) ≡ column_of_primitive array.now }
 {
-    array.in_range();
+    array.prove_in_range();
     let _validity = array.validity();
 }
 
@@ -40,7 +40,7 @@ pub fn deltas_and_back(array: &PrimitiveArray)
 #[tactic(auto, using(crate::proofs::RunRoundTrips::runs_back, crate::proofs::RunRoundTrips::runs_well))]
 pub fn runs_and_back(array: &PrimitiveArray)
     ensures sound { runs_refusal (encode_runs array.now) 0 (length array.now.slots) ≡ None }
-    ensures column { run_column (encode_runs array.now) 0 (length array.now.slots) ≡ column_of_plain array.now }
+    ensures column { run_column (encode_runs array.now) 0 (length array.now.slots) ≡ column_of_primitive array.now }
 {
     let _validity = array.validity();
 }

@@ -1,11 +1,11 @@
-//! Encodings of whole plain columns: frames of reference, filled lists, differences and runs.
+//! Encodings of whole plain columns: frames of reference (`for_`), deltas (`delta`) and run-length
+//! encoding (`rle`).
 #![tactic(auto)]
 
 mod chunks;
 pub mod delta;
-pub mod filled;
-pub mod frame_of_reference;
+pub mod fill_forward;
+pub mod for_;
 pub mod laws;
 mod plain;
-pub mod run_checks;
-pub mod runs;
+pub mod rle;

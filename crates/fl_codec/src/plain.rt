@@ -3,9 +3,9 @@
 ghost use Rattle.std.specs.Prelude.{◌≡◌, IsTrue, Ok, length, map};
 ghost use Rattle.fl_types.specs.Refusals.{Answers};
 ghost use Rattle.fl_types.specs.Validities.{covers};
-ghost use Rattle.fl_codec.specs.Parts.{solid, under_validity_of};
+ghost use Rattle.fl_codec.specs.Parts.{non_nullable, under_validity_of};
 
-use fl_plain::PrimitiveArray;
+use fl_column::PrimitiveArray;
 use fl_types::{FastLanesError, NativePType, Validity};
 use std::alloc::Global;
 
@@ -22,8 +22,8 @@ pub(crate) fn under_validity_of<T: NativePType>(
 }
 
 /// These slots, none of which may be null.
-pub(crate) fn solid<T: NativePType>(slots: Vec<T>) -> PrimitiveArray
-    ensures { result ≡ solid T.PTYPE (map T.value slots.items) }
+pub(crate) fn non_nullable<T: NativePType>(slots: Vec<T>) -> PrimitiveArray
+    ensures { result ≡ non_nullable T.PTYPE (map T.value slots.items) }
 {
     PrimitiveArray::new(slots, Validity::NonNullable).unwrap()
 }

@@ -1,10 +1,32 @@
-//! Columns of nullable integers: refusals, types, values, plain arrays and patches, passed on from
-//! the crates that have them, under the names that other crates use.
+//! Columns of nullable integers, and the plain arrays that store them as they are. Types, values,
+//! validities and refusals are passed on, so that who uses columns lists this crate alone.
 #![tactic(auto)]
 
-pub use fl_patches::Patches;
-pub use fl_plain::{BoolArray, ConstantArray, PhysicalPType, PrimitiveArray};
+pub mod bools;
+pub mod builder;
+mod casting;
+pub mod chunks;
+pub mod constant;
+mod constants;
+pub mod laws;
+pub mod numbers;
+pub mod patterns;
+pub mod physical;
+pub mod primitive;
+mod questions;
+mod reinterpret;
+mod selection;
+
+pub use crate::bools::BoolArray;
+pub use crate::builder::PrimitiveBuilder;
+pub use crate::chunks::{chunk_bounds, chunk_count, chunk_of};
+pub use crate::constant::ConstantArray;
+pub use crate::numbers::{index_array, number_at};
+pub use crate::physical::PhysicalPType;
+pub use crate::primitive::PrimitiveArray;
+pub use crate::selection::item_at;
 pub use fl_types::{
     BetweenOptions, BitList, CompareOperator, DType, FastLanesError, Mask, NativePType,
-    Nullability, PType, PValue, Scalar, Slots, StrictComparison, Validity,
+    Nullability, PType, PValue, PrimitiveBuffer, Scalar, StrictComparison, Validity, is_equal,
+    is_less,
 };

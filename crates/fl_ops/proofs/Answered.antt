@@ -5,11 +5,11 @@ use Rattle.fl_types.specs.declared.error.FastLanesError.{FastLanesError}
 use Rattle.fl_types.specs.declared.error.FastLanesError.TheVariants.{NotInteger}
 use Rattle.fl_types.specs.Refusals.{Answers}
 use Rattle.fl_types.specs.Types.{is_integer}
-use Rattle.fl_plain.specs.Columns.{Column, Plain, column_of_plain}
+use Rattle.fl_column.specs.Columns.{Column, PrimitiveParts, column_of_primitive}
 use Rattle.fl_array.specs.Reads.{integer_column}
 
 -- an array of the same column answers alike
-pub answered_as : (f : Column → Result Column FastLanesError) (c d : Column) (r : Result Plain FastLanesError) → c ≡ d → Answers column_of_plain r (f d) → Answers column_of_plain r (f c)
+pub answered_as : (f : Column → Result Column FastLanesError) (c d : Column) (r : Result PrimitiveParts FastLanesError) → c ≡ d → Answers column_of_primitive r (f d) → Answers column_of_primitive r (f c)
 answered_as f c d r e so = rw e so
 
 -- the plain array of a column has the column

@@ -1,9 +1,9 @@
 -- Masks that keep all.
 use Rattle.std.proofs.Common.{◌≡◌, ℕ, length, refl}
 use Rattle.fl_types.specs.declared.mask.Mask.TheVariants.{AllTrue}
-use Rattle.fl_plain.specs.Columns.{Column}
-use Rattle.fl_plain.specs.Operations.{filter_of}
-use Rattle.fl_plain.proofs.SelectionLaws.{kept_all}
+use Rattle.fl_column.specs.Columns.{Column}
+use Rattle.fl_column.specs.Operations.{filter_of}
+use Rattle.fl_column.proofs.SelectionLaws.{kept_all}
 
 -- a mask that keeps all keeps the column
 pub all_kept : (c : Column) (n : ℕ) → n ≡ length c.items → filter_of (AllTrue n) c ≡ c

@@ -1,7 +1,7 @@
 -- A run of operations, one step at a time.
 use Rattle.std.proofs.Common.{◌≡◌, ℕ, ◌+◌, ◌<◌, List, length, drop, get_or, refl, ap, sym, ◌∙◌, add-one, drop-cons}
 use Rattle.std.specs.Prelude.{Result, Ok, Err}
-use Rattle.fl_plain.specs.Columns.{Column}
+use Rattle.fl_column.specs.Columns.{Column}
 use Rattle.fl_types.specs.declared.error.FastLanesError.{FastLanesError}
 use Rattle.fl_types.specs.Refusals.{Refuses}
 use Rattle.fl_types.proofs.RefusalLaws.{Refuses_map}

@@ -3,8 +3,8 @@ use Rattle.std.specs.Prelude.{List, [], ◌∷◌, Result, Ok, Err}
 use Rattle.fl_types.specs.declared.error.FastLanesError.{FastLanesError}
 use Rattle.fl_types.specs.declared.mask.Mask.{Mask}
 use Rattle.fl_types.specs.declared.mask.Mask.TheVariants.{AllFalse, AllTrue, Values}
-use Rattle.fl_plain.specs.Columns.{Column}
-use Rattle.fl_plain.specs.Operations.{cast_column, filter_column, ranges_column, slice_column, take_column}
+use Rattle.fl_column.specs.Columns.{Column}
+use Rattle.fl_column.specs.Operations.{cast_column, filter_column, ranges_column, slice_column, take_column}
 use Rattle.fl_array.specs.Trees.{column}
 use Rattle.fl_array.specs.Kinds.{IsPrimitive, Kind, slice_kind}
 use Rattle.fl_ops.specs.declared.operations.Op.{Op}

@@ -5,10 +5,10 @@ ghost use Rattle.fl_types.specs.declared.mask.Mask.TheVariants.{AllTrue};
 ghost use Rattle.fl_types.specs.Masks.{mask_len};
 ghost use Rattle.fl_types.specs.Refusals.{Answers};
 ghost use Rattle.fl_types.specs.Types.{has_ptype, is_integer};
-ghost use Rattle.fl_types.specs.Values.{cell_of, integer_of, ptype_of_value};
-ghost use Rattle.fl_plain.specs.Columns.{column_of_bools};
-ghost use Rattle.fl_plain.specs.Operations.{cast_column, filter_column, ranges_column, take_column};
-ghost use Rattle.fl_plain.specs.Questions.{between_column, compare_column, is_constant_column, is_sorted_column};
+ghost use Rattle.fl_types.specs.Values.{scalar_parts, integer_of, ptype_of_value};
+ghost use Rattle.fl_column.specs.Columns.{column_of_bools};
+ghost use Rattle.fl_column.specs.Operations.{cast_column, filter_column, ranges_column, take_column};
+ghost use Rattle.fl_column.specs.Questions.{between_column, compare_column, is_constant_column, is_sorted_column};
 ghost use Rattle.fl_array.specs.Kinds.{IsPrimitive, kind};
 ghost use Rattle.fl_array.specs.Trees.{Tree, column};
 ghost use Rattle.fl_ops.specs.Operations.{filter_kind};
@@ -21,8 +21,8 @@ use fl_column::{
 };
 use std::alloc::Global;
 
-/// Operations and questions on arrays of integers. An array of truth values is refused with
-/// `NotInteger` by each. Where no other result is stated, it is a plain array.
+/// Operations and questions on arrays of integers. Each refuses a Bool array with `NotInteger`.
+/// Where no other result is stated, it is a plain array.
 pub trait ArrayOps {
     /// The tree of the array.
     ghost tree: { Self → Tree };
@@ -72,7 +72,7 @@ pub trait ArrayOps {
         ensures column { Answers column result (cast_column target (column (tree self.now))) }
         ensures kind { IfOk result (λ a. kind a ≡ IsPrimitive) };
 
-    /// How each item compares with a constant of the array's type that is no null; a null stays a
+    /// How each item compares with a constant of the array's type that is not null; a null stays a
     /// null.
     ///
     /// # Errors
@@ -83,10 +83,10 @@ pub trait ArrayOps {
         operator: CompareOperator,
         constant: &Scalar,
     ) -> Result<BoolArray, FastLanesError>
-        requires { IsTrue (is_comparable (column (tree self.now)) (cell_of constant.now)) }
-        ensures { Answers column_of_bools result (compare_column operator (integer_in (cell_of constant.now)) (column (tree self.now))) };
+        requires { IsTrue (is_comparable (column (tree self.now)) (scalar_parts constant.now)) }
+        ensures { Answers column_of_bools result (compare_column operator (integer_in (scalar_parts constant.now)) (column (tree self.now))) };
 
-    /// Whether each item lies between two bounds of the array's type that are no nulls; a null stays
+    /// Whether each item lies between two bounds of the array's type that are not null; a null stays
     /// a null. Nothing lies between bounds of which the lower is above the upper.
     ///
     /// # Errors
@@ -98,9 +98,9 @@ pub trait ArrayOps {
         upper: &Scalar,
         options: &BetweenOptions,
     ) -> Result<BoolArray, FastLanesError>
-        requires lower { IsTrue (is_comparable (column (tree self.now)) (cell_of lower.now)) }
-        requires upper { IsTrue (is_comparable (column (tree self.now)) (cell_of upper.now)) }
-        ensures { Answers column_of_bools result (between_column (integer_in (cell_of lower.now)) (integer_in (cell_of upper.now)) options.now (column (tree self.now))) };
+        requires lower { IsTrue (is_comparable (column (tree self.now)) (scalar_parts lower.now)) }
+        requires upper { IsTrue (is_comparable (column (tree self.now)) (scalar_parts upper.now)) }
+        ensures { Answers column_of_bools result (between_column (integer_in (scalar_parts lower.now)) (integer_in (scalar_parts upper.now)) options.now (column (tree self.now))) };
 
     /// Whether all items are equal; a null equals a null. An empty array is constant.
     ///
@@ -121,8 +121,8 @@ pub trait ArrayOps {
 /// The integer of a constant of the array's type.
 fn integer_for(array: &ArrayRef, constant: &Scalar) -> PValue
     requires integers { IsTrue (is_integer (column array.now).dtype) }
-    requires comparable { IsTrue (is_comparable (column array.now) (cell_of constant.now)) }
-    ensures value { integer_of result ≡ integer_in (cell_of constant.now) }
+    requires comparable { IsTrue (is_comparable (column array.now) (scalar_parts constant.now)) }
+    ensures value { integer_of result ≡ integer_in (scalar_parts constant.now) }
     ensures typed { IsTrue (has_ptype (ptype_of_value result) (column array.now).dtype) }
 {
     match constant.as_pvalue() {

@@ -2,7 +2,7 @@
 
 ghost use Rattle.std.specs.Prelude.{◌≡◌, [], IfOk, Ok};
 ghost use Rattle.fl_types.specs.Refusals.{Answers};
-ghost use Rattle.fl_plain.specs.Operations.{filter_column, slice_column};
+ghost use Rattle.fl_column.specs.Operations.{filter_column, slice_column};
 ghost use Rattle.fl_array.specs.Kinds.{kind, slice_kind};
 ghost use Rattle.fl_array.specs.Trees.{column};
 ghost use Rattle.fl_ops.specs.Operations.{filter_kind, run, run_kind, step, step_kind};

@@ -5,14 +5,15 @@ ghost use Rattle.fl_types.specs.Masks.{mask_len};
 ghost use Rattle.fl_types.specs.Refusals.{Answers};
 ghost use Rattle.fl_types.specs.Types.{has_ptype, is_integer};
 ghost use Rattle.fl_types.specs.Values.{integer_of, ptype_of_value};
-ghost use Rattle.fl_plain.specs.Columns.{column_of_bools, column_of_plain};
-ghost use Rattle.fl_plain.specs.Operations.{cast_column, filter_column, ranges_column, take_column};
-ghost use Rattle.fl_plain.specs.Questions.{between_column, compare_column, is_constant_column, is_sorted_column};
+ghost use Rattle.fl_column.specs.Columns.{column_of_bools, column_of_constant, column_of_primitive};
+ghost use Rattle.fl_column.specs.Operations.{cast_column, filter_column, ranges_column, take_column};
+ghost use Rattle.fl_column.specs.Questions.{between_column, compare_column, is_constant_column, is_sorted_column};
 ghost use Rattle.fl_array.specs.Trees.{column};
 
 use fl_array::ArrayRef;
 use fl_column::{
-    BetweenOptions, BoolArray, CompareOperator, DType, FastLanesError, Mask, PValue, PrimitiveArray,
+    BetweenOptions, BoolArray, CompareOperator, ConstantArray, DType, FastLanesError, Mask, PValue,
+    PrimitiveArray,
 };
 use std::alloc::Global;
 
@@ -22,13 +23,13 @@ fn take_plain(
     array: &ArrayRef,
     indices: &PrimitiveArray,
 ) -> Result<PrimitiveArray, FastLanesError>
-    ensures { Answers column_of_plain result (take_column (column_of_plain indices.now) (column array.now)) }
+    ensures { Answers column_of_primitive result (take_column (column_of_primitive indices.now) (column array.now)) }
 {
     if let Some(plain) = array.as_primitive() {
         return plain.take(alloc, indices);
     }
-    if let Some(copies) = array.as_constant() {
-        return copies.take(alloc, indices);
+    if let Some(constant_array) = array.as_constant() {
+        return constant_array.take(alloc, indices);
     }
     array.to_primitive(alloc)?.take(alloc, indices)
 }
@@ -39,7 +40,7 @@ pub(crate) fn take(
     array: &ArrayRef,
     indices: &ArrayRef,
 ) -> Result<PrimitiveArray, FastLanesError>
-    ensures { Answers column_of_plain result (take_column (column indices.now) (column array.now)) }
+    ensures { Answers column_of_primitive result (take_column (column indices.now) (column array.now)) }
 {
     if let Some(indices) = indices.as_primitive() {
         return take_plain(alloc, array, indices);
@@ -57,13 +58,13 @@ pub(crate) fn take_ranges(
     array: &ArrayRef,
     ranges: &[(usize, usize)],
 ) -> Result<PrimitiveArray, FastLanesError>
-    ensures { Answers column_of_plain result (ranges_column ranges.now (column array.now)) }
+    ensures { Answers column_of_primitive result (ranges_column ranges.now (column array.now)) }
 {
     if let Some(plain) = array.as_primitive() {
         return plain.take_ranges(alloc, ranges);
     }
-    if let Some(copies) = array.as_constant() {
-        return copies.take_ranges(alloc, ranges);
+    if let Some(constant_array) = array.as_constant() {
+        return constant_array.take_ranges(alloc, ranges);
     }
     let DType::Primitive(_, _) = array.dtype() else {
         return Err(FastLanesError::NotInteger);
@@ -78,13 +79,13 @@ pub(crate) fn filter(
     mask: &Mask,
 ) -> Result<PrimitiveArray, FastLanesError>
     requires { mask_len mask.now ≡ length (column array.now).items }
-    ensures { Answers column_of_plain result (filter_column mask.now (column array.now)) }
+    ensures { Answers column_of_primitive result (filter_column mask.now (column array.now)) }
 {
     if let Some(plain) = array.as_primitive() {
         return plain.filter(alloc, mask);
     }
-    if let Some(copies) = array.as_constant() {
-        return copies.filter(alloc, mask);
+    if let Some(constant_array) = array.as_constant() {
+        return constant_array.filter(alloc, mask);
     }
     array.to_primitive(alloc)?.filter(alloc, mask)
 }
@@ -95,7 +96,7 @@ pub(crate) fn cast(
     array: &ArrayRef,
     target: DType,
 ) -> Result<PrimitiveArray, FastLanesError>
-    ensures { Answers column_of_plain result (cast_column target (column array.now)) }
+    ensures { Answers column_of_primitive result (cast_column target (column array.now)) }
 {
     if let DType::Bool(_) = target {
         return Err(FastLanesError::NotInteger);
@@ -103,8 +104,8 @@ pub(crate) fn cast(
     if let Some(plain) = array.as_primitive() {
         return plain.cast(alloc, target);
     }
-    if let Some(copies) = array.as_constant() {
-        return copies.cast(alloc, target);
+    if let Some(constant_array) = array.as_constant() {
+        return constant_array.cast(alloc, target);
     }
     array.to_primitive(alloc)?.cast(alloc, target)
 }
@@ -123,8 +124,8 @@ pub(crate) fn compare(
     if let Some(plain) = array.as_primitive() {
         return plain.compare(alloc, operator, constant);
     }
-    if let Some(copies) = array.as_constant() {
-        return copies.compare(alloc, operator, constant);
+    if let Some(constant_array) = array.as_constant() {
+        return constant_array.compare(alloc, operator, constant);
     }
     array
         .to_primitive(alloc)?
@@ -147,12 +148,19 @@ pub(crate) fn between(
     if let Some(plain) = array.as_primitive() {
         return plain.between(alloc, lower, upper, options);
     }
-    if let Some(copies) = array.as_constant() {
-        return copies.between(alloc, lower, upper, options);
+    if let Some(constant_array) = array.as_constant() {
+        return constant_array.between(alloc, lower, upper, options);
     }
     array
         .to_primitive(alloc)?
         .between(alloc, lower, upper, options)
+}
+
+/// A Constant array is of integers. The call does nothing of use when it runs.
+fn prove_integers(array: &ConstantArray)
+    ensures { IsTrue (is_integer (column_of_constant array.now).dtype) }
+{
+    let _ptype = array.ptype();
 }
 
 /// Whether all items are equal.
@@ -162,10 +170,9 @@ pub(crate) fn is_constant(alloc: Global, array: &ArrayRef) -> Result<bool, FastL
     if let Some(plain) = array.as_primitive() {
         return Ok(plain.is_constant());
     }
-    if let Some(copies) = array.as_constant() {
-        // Its contract says that copies are of integers, so that they are asked and not refused.
-        let _ptype = copies.ptype();
-        return Ok(copies.is_constant());
+    if let Some(constant_array) = array.as_constant() {
+        prove_integers(constant_array);
+        return Ok(constant_array.is_constant());
     }
     Ok(array.to_primitive(alloc)?.is_constant())
 }
@@ -181,10 +188,9 @@ pub(crate) fn is_sorted(
     if let Some(plain) = array.as_primitive() {
         return Ok(plain.is_sorted(strict));
     }
-    if let Some(copies) = array.as_constant() {
-        // Its contract says that copies are of integers, so that they are asked and not refused.
-        let _ptype = copies.ptype();
-        return Ok(copies.is_sorted(strict));
+    if let Some(constant_array) = array.as_constant() {
+        prove_integers(constant_array);
+        return Ok(constant_array.is_sorted(strict));
     }
     Ok(array.to_primitive(alloc)?.is_sorted(strict))
 }

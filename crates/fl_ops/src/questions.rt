@@ -1,11 +1,13 @@
 //! Questions to arrays.
 
-ghost use Rattle.std.specs.Prelude.{◌≡◌, IsTrue};
+ghost use Rattle.std.specs.Prelude.{◌≡◌, IfErr, IsTrue};
+ghost use Rattle.fl_types.specs.declared.error.FastLanesError.TheVariants.{OutOfMemory};
 ghost use Rattle.fl_types.specs.Refusals.{Answers};
-ghost use Rattle.fl_types.specs.Values.{cell_of};
-ghost use Rattle.fl_plain.specs.Questions.{scalar_of_column};
+ghost use Rattle.fl_types.specs.Values.{scalar_parts};
+ghost use Rattle.fl_column.specs.Questions.{scalar_of_column};
+ghost use Rattle.fl_array.specs.Kinds.{has_delta, kind};
 ghost use Rattle.fl_array.specs.Trees.{column};
-ghost use Rattle.fl_ops.specs.Questions.{ask_column, may_ask, reply_of};
+ghost use Rattle.fl_ops.specs.Questions.{ask_column, may_ask, may_need_memory, reply_of};
 
 use crate::array_ops::ArrayOps;
 use fl_array::ArrayRef;
@@ -32,15 +34,16 @@ pub enum Query {
 pub enum Answer {
     /// An item.
     Scalar(Scalar),
-    /// A truth value for each item, or a null.
+    /// A bool for each item, or a null.
     Bools(BoolArray),
-    /// One truth value.
+    /// One bool.
     Bool(bool),
 }
 
 /// The item at an index, where there is one.
 fn scalar_within(alloc: Global, array: &ArrayRef, i: usize) -> Result<Scalar, FastLanesError>
-    ensures { Answers cell_of result (scalar_of_column i (column array.now)) }
+    ensures item { Answers scalar_parts result (scalar_of_column i (column array.now)) }
+    ensures memory { IfErr result (λ e. e ≡ OutOfMemory → IsTrue (has_delta (kind array.now))) }
 {
     if i < array.len() {
         array.scalar_at(alloc, i)
@@ -50,15 +53,17 @@ fn scalar_within(alloc: Global, array: &ArrayRef, i: usize) -> Result<Scalar, Fa
 }
 
 /// What an array answers to a question. The constants that a question compares with are of the
-/// array's type and no nulls.
+/// array's type and not null.
 ///
 /// # Errors
 /// `IndexOutOfBounds` for the item at an index that is not below the length; `NotInteger` for every
-/// other question to an array of truth values.
+/// other question to a Bool array; else only `OutOfMemory`. A point read takes no memory where no
+/// array of differences stands in the array.
 #[tactic(auto, using(crate::proofs::Truths::first_true, crate::proofs::Truths::second_true))]
 pub fn ask(alloc: Global, array: &ArrayRef, query: &Query) -> Result<Answer, FastLanesError>
     requires { IsTrue (may_ask (column array.now) query.now) }
-    ensures { Answers reply_of result (ask_column (column array.now) query.now) }
+    ensures reply { Answers reply_of result (ask_column (column array.now) query.now) }
+    ensures memory { IfErr result (λ e. e ≡ OutOfMemory → IsTrue (may_need_memory (kind array.now) query.now)) }
 {
     match query {
         Query::ScalarAt(i) => Ok(Answer::Scalar(scalar_within(alloc, array, *i)?)),

@@ -3,7 +3,7 @@ use Rattle.std.proofs.Common.{◌≡◌, ◌≢◌, ℕ, ◌*◌, ◌<◌, Bool,
 use Rattle.std.proofs.lemmas.Bool.{eq-eqb, ne_eqb}
 use Rattle.std.proofs.lemmas.List.FromFn.{length-enumerate_from, get_or-enumerate_from}
 use Rattle.std.specs.List.{enumerate_from}
-use Rattle.fl_plain.proofs.ListLaws.{all_fails, all_from}
+use Rattle.fl_column.proofs.ListLaws.{all_fails, all_from}
 use Rattle.fl_patches.specs.PatchMaps.{are_chunk_offsets, count_below}
 
 -- what the test of a numbered chunk offset says

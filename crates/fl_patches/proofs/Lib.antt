@@ -1,6 +1,6 @@
+pub mod AllFound
 pub mod Chunks
 pub mod Kept
-pub mod Narrowed
 pub mod Parts
 pub mod Picked
 pub mod Rising

@@ -5,24 +5,25 @@ use Rattle.std.proofs.lemmas.List.{length-map}
 use Rattle.fl_patches.proofs.Rising.{count_split, rank_found}
 use Rattle.fl_types.specs.Validities.{covers, is_valid_at, items_of}
 use Rattle.fl_types.specs.declared.validity.Validity.{Validity}
-use Rattle.fl_plain.proofs.ItemLaws.{get_or-items_of, length-items_of}
-use Rattle.fl_plain.proofs.ListLaws.{all_at, any_at}
+use Rattle.fl_column.proofs.ItemLaws.{get_or-items_of, length-items_of}
+use Rattle.fl_column.proofs.ListLaws.{all_at, any_at}
 use Rattle.std.specs.List.{list_all, list_any}
 use Rattle.std.specs.Prelude.{is_none}
 use Rattle.fl_types.specs.Types.{is_index_type}
 use Rattle.fl_types.specs.declared.error.FastLanesError.{FastLanesError}
 use Rattle.fl_types.specs.declared.error.FastLanesError.TheVariants.{PatchType, PatchLength, PatchContent}
-use Rattle.fl_plain.specs.Columns.{column_of_plain}
-use Rattle.fl_patches.specs.PatchMaps.{ArePatches, PatchMap, count_below, patched, is_index_within, is_rising, numbers, patch_contents_fit, patch_lengths_fit, patch_types_fit, refusal_of}
+use Rattle.fl_column.specs.Columns.{column_of_primitive}
+use Rattle.fl_column.specs.Numbers.{numbers}
+use Rattle.fl_patches.specs.PatchMaps.{ArePatches, PatchesParts, count_below, patched, is_index_within, is_rising, patch_contents_fit, patch_lengths_fit, patch_types_fit, refusal_of}
 
 -- parts that nothing speaks against
-pub record AreSound (p : PatchMap) : Type 0 where
-  pub typed : is_index_type (column_of_plain p.indices).dtype ≡ true
+pub record AreSound (p : PatchesParts) : Type 0 where
+  pub typed : is_index_type (column_of_primitive p.indices).dtype ≡ true
   pub even : length p.indices.slots ≡ length p.values.slots
   pub some : 0 < length p.indices.slots
   pub rising : is_rising (numbers p.indices) ≡ true
   pub within : list_all (is_index_within p.offset p.array_len) (numbers p.indices) ≡ true
-  pub valued : list_any is_none (column_of_plain p.values).items ≡ false
+  pub valued : list_any is_none (column_of_primitive p.values).items ≡ false
 
 unrefused : (types lengths contents : Bool) (a b d : FastLanesError) → (if not types then Some a else if not lengths then Some b else if not contents then Some d else None) ≡ None → (types ≡ true) × (lengths ≡ true) × (contents ≡ true)
 unrefused true true true a b d e = (refl, refl, refl)
@@ -30,10 +31,10 @@ unrefused true true false a b d e = cc
 unrefused true false c a b d e = cc
 unrefused false l c a b d e = cc
 
-pub sound : (p : PatchMap) → refusal_of p ≡ None → AreSound p
+pub sound : (p : PatchesParts) → refusal_of p ≡ None → AreSound p
 sound p e =
     let fit = unrefused (patch_types_fit p) (patch_lengths_fit p) (patch_contents_fit p) PatchType PatchLength PatchContent e in
-    let types = and_parts (is_index_type (column_of_plain p.indices).dtype) _ fit.0 in
+    let types = and_parts (is_index_type (column_of_primitive p.indices).dtype) _ fit.0 in
     let lengths = and_parts _ _ fit.1 in
     let more = and_parts _ _ lengths.1 in
     let contents = and_parts (is_rising (numbers p.indices)) _ fit.2 in
@@ -52,7 +53,7 @@ accept : (types lengths contents : Bool) (a b d : FastLanesError) → types ≡ 
 accept types lengths contents a b d e f g = rw (e, f, g) refl
 
 -- nothing speaks against such parts without chunk offsets
-pub unrefused_parts : (p : PatchMap) → AreSound p → p.chunk_offsets ≡ None → refusal_of p ≡ None
+pub unrefused_parts : (p : PatchesParts) → AreSound p → p.chunk_offsets ≡ None → refusal_of p ≡ None
 unrefused_parts p s none =
     accept (patch_types_fit p) (patch_lengths_fit p) (patch_contents_fit p) PatchType PatchLength PatchContent
     (and_from _ _ s.typed (rw none refl))
@@ -60,15 +61,23 @@ unrefused_parts p s none =
     (and_from _ _ s.rising (and_from _ _ s.within (and_from _ _ (not_from_false _ s.valued) (rw none refl))))
 
 -- no index is below the offset
-pub none_before : (p : PatchMap) → AreSound p → count_below p.offset (numbers p.indices) ≡ 0
+pub none_before : (p : PatchesParts) → AreSound p → count_below p.offset (numbers p.indices) ≡ 0
 none_before p s =
     let xs = numbers p.indices in
     count_split xs p.offset 0 (omega arith) (λ i h. absurd (omega arith)) (λ i h k.
     leb-true p.offset (get_or xs i 0) (and_parts _ _ (all_at (is_index_within p.offset p.array_len) xs i 0 s.within k)).0)
 
+-- every index is below the end
+pub all_before : (p : PatchesParts) → AreSound p → count_below (p.offset + p.array_len) (numbers p.indices) ≡ length (numbers p.indices)
+all_before p s =
+    let xs = numbers p.indices in
+    count_split xs (p.offset + p.array_len) (length xs) (omega arith)
+    (λ i h. ltb-true (get_or xs i 0) (p.offset + p.array_len) (and_parts (nat_le p.offset (get_or xs i 0)) _ (all_at (is_index_within p.offset p.array_len) xs i 0 s.within h)).1)
+    (λ i h k. absurd (omega arith))
+
 -- ---- the map of patches
 -- patches have a value somewhere
-some_patched : (p : PatchMap) → AreSound p → ((i : ℕ) → i < p.array_len → patched p i ≡ None) → ⊥
+some_patched : (p : PatchesParts) → AreSound p → ((i : ℕ) → i < p.array_len → patched p i ≡ None) → ⊥
 some_patched p s nowhere =
     let xs = numbers p.indices in
     let len = length-map p.indices.slots unsigned_abs in
@@ -82,7 +91,7 @@ some_patched p s nowhere =
     let clash = rw found at here in
     cc
 
-pub patches_some : (p : PatchMap) (at : ℕ → Option ℤ) → AreSound p → ((i : ℕ) → i < p.array_len → patched p i ≡ at i) → ArePatches (Some p) p.array_len at
+pub patches_some : (p : PatchesParts) (at : ℕ → Option ℤ) → AreSound p → ((i : ℕ) → i < p.array_len → patched p i ≡ at i) → ArePatches (Some p) p.array_len at
 patches_some p at s same = record {
   values = same;
   none = (λ h. absurd (true≢false h), λ h. absurd (some_patched p s (λ i k. same i k ∙ h i k)));

@@ -10,11 +10,11 @@ use Rattle.fl_types.specs.declared.dtype.Nullability.{Nullability}
 use Rattle.fl_types.specs.declared.dtype.Nullability.TheVariants.{NonNullable, Nullable}
 use Rattle.fl_types.specs.declared.error.FastLanesError.{FastLanesError}
 use Rattle.fl_types.specs.declared.validity.Validity.{Validity}
-use Rattle.fl_plain.specs.Columns.{Plain, new_plain}
-use Rattle.fl_plain.proofs.GatherLaws.{mapped_more, value_read}
-use Rattle.fl_plain.proofs.ListLaws.{all_at}
+use Rattle.fl_column.specs.Columns.{PrimitiveParts, without_nulls}
+use Rattle.fl_column.proofs.GatherLaws.{mapped_more, value_read}
+use Rattle.fl_column.proofs.ListLaws.{all_at}
 use Rattle.fl_patches.specs.PatchMaps.{AreFound, rank_of, ranks_at}
-use Rattle.fl_patches.proofs.Rising.{read}
+use Rattle.fl_column.specs.Numbers.{numbers_by}
 
 -- the value of one more rank
 pub picked_more : {A : Type 0} (f : A → ℤ) (xs : List A) (zs : List ℤ) (ranks : List ℕ) (i : ℕ) (old new : List A) (x : A) → map f xs ≡ zs → list_all (λ rank. nat_lt rank (length zs)) ranks ≡ true → i < length ranks
@@ -25,17 +25,12 @@ picked_more f xs zs ranks i old new x slots ranked within added before is =
     let here : get_or zs (get_or ranks i 0) (pos 0) ≡ f x = rw (← slots) (value_read f xs (get_or ranks i 0) x is (omega arith)) in
     rw (added, map-append, before, ← here) (sym (map_more (λ rank. get_or zs rank (pos 0)) ranks i 0 within))
 
-full_new : (t : PType) (n : Nullability) (ys : List ℤ) → new_plain t ys (full_validity n) ≡ Ok (record { ptype = t; slots = ys; validity = full_validity n })
-full_new t NonNullable ys = refl
-full_new t Nullable ys = refl
-
 -- the array of the values of all ranks
-pub picked_all : (t u : PType) (v w : Validity) (n : Nullability) (ys zs : List ℤ) (ranks : List ℕ) (i : ℕ) (r : Result Plain FastLanesError) → r ≡ new_plain t ys w → w ≡ full_validity n → n ≡ nullability_of v → u ≡ t
+pub picked_all : (t u : PType) (v : Validity) (n : Nullability) (ys zs : List ℤ) (ranks : List ℕ) (i : ℕ) (array : PrimitiveParts) → array ≡ without_nulls t n ys → n ≡ nullability_of v → u ≡ t
     → ys ≡ map (λ rank. get_or zs rank (pos 0)) (take i ranks) → length ranks ≤ i
-    → Answers (λ a. a) r (Ok (record { ptype = u; slots = map (λ rank. get_or zs rank (pos 0)) ranks; validity = full_validity (nullability_of v) }))
-picked_all t u v w n ys zs ranks i r is full nullable same picked end =
+    → Answers (λ a. a) (Ok array) (Ok (record { ptype = u; slots = map (λ rank. get_or zs rank (pos 0)) ranks; validity = full_validity (nullability_of v) }))
+picked_all t u v n ys zs ranks i array made nullable same picked end =
     let all : take i ranks ≡ ranks = take_all i ranks end in
-    let made : r ≡ Ok (record { ptype = t; slots = ys; validity = full_validity n }) = is ∙ (ap (new_plain t ys) full ∙ full_new t n ys) in
     rw (made, picked, all, nullable, same) refl
 
 -- the patch at one more position
@@ -49,7 +44,7 @@ found_more offset numbers positions i rank places ranks more_places more_ranks p
     rw next (push items long found)
 
 -- the patches at all positions
-pub found_all : {A : Type 0} (f : A → ℤ) (xs : List A) (zs : List ℤ) (offset : ℕ) (positions : List (Option ℕ)) (i : ℕ) (places ranks : List ℕ) → map f xs ≡ zs → AreFound places ranks (ranks_at offset (read f xs) (take i positions)) → length positions ≤ i
+pub found_all : {A : Type 0} (f : A → ℤ) (xs : List A) (zs : List ℤ) (offset : ℕ) (positions : List (Option ℕ)) (i : ℕ) (places ranks : List ℕ) → map f xs ≡ zs → AreFound places ranks (ranks_at offset (numbers_by f xs) (take i positions)) → length positions ≤ i
     → AreFound places ranks (ranks_at offset (map unsigned_abs zs) positions)
 found_all f xs zs offset positions i places ranks slots found end =
     let all : take i positions ≡ positions = take_all i positions end in

@@ -3,7 +3,8 @@ use Rattle.std.proofs.Common.{◌≡◌, ◌≢◌, ℕ, Option, Some, None, opt
 use Rattle.std.proofs.lemmas.Bool.{ltb-true, lt-ltb, le-ltb, ltb-false, cases_lt, cases_Bool, eq-eqb, eqb-true, ne_eqb}
 use Rattle.std.proofs.lemmas.List.{length-map, get_or-map}
 use Rattle.std.proofs.lemmas.List.Sums.{sum_by-cons, count_by-le-length}
-use Rattle.fl_plain.proofs.ListLaws.{and_first, and_second}
+use Rattle.fl_column.proofs.ListLaws.{and_first, and_second}
+use Rattle.fl_column.specs.Numbers.{numbers_by}
 use Rattle.fl_patches.specs.PatchMaps.{count_below, is_rising, rank_of}
 
 pub count-cons : (limit x : ℕ) (xs : List ℕ) → count_below limit (x ∷ xs) ≡ cond (nat_lt x limit) 1 0 + count_below limit xs
@@ -139,23 +140,20 @@ count_stays xs index k rise is other =
     omega arith)
 
 -- ---- numbers that are read from typed indices
-abbrev pub read : {X : Type 0} → (X → ℤ) → List X → List ℕ
-read f xs = map unsigned_abs (map f xs)
+pub length-numbers_by : {X : Type 0} (f : X → ℤ) (xs : List X) → length (numbers_by f xs) ≡ length xs
+length-numbers_by f xs = length-map (map f xs) unsigned_abs ∙ length-map xs f
 
-pub length-read : {X : Type 0} (f : X → ℤ) (xs : List X) → length (read f xs) ≡ length xs
-length-read f xs = length-map (map f xs) unsigned_abs ∙ length-map xs f
-
-pub get_or-read : {X : Type 0} (f : X → ℤ) (xs : List X) (i : ℕ) (d : X) → i < length xs → get_or (read f xs) i 0 ≡ unsigned_abs (f (get_or xs i d))
-get_or-read f xs i d h = get_or-map unsigned_abs (map f xs) i (f d) 0 (rw length-map h) ∙ ap unsigned_abs (get_or-map f xs i d (f d) h)
+pub get_or-numbers_by : {X : Type 0} (f : X → ℤ) (xs : List X) (i : ℕ) (d : X) → i < length xs → get_or (numbers_by f xs) i 0 ≡ unsigned_abs (f (get_or xs i d))
+get_or-numbers_by f xs i d h = get_or-map unsigned_abs (map f xs) i (f d) 0 (rw length-map h) ∙ ap unsigned_abs (get_or-map f xs i d (f d) h)
 
 -- those below a number stand before the others
-pub below_first : {X : Type 0} (f : X → ℤ) (xs : List X) (limit : ℕ) → is_rising (read f xs) ≡ true
+pub below_first : {X : Type 0} (f : X → ℤ) (xs : List X) (limit : ℕ) → is_rising (numbers_by f xs) ≡ true
     → (i j : ℕ) (d : X) → i ≤ j → j < length xs → nat_lt (unsigned_abs (f (get_or xs j d))) limit ≡ true → nat_lt (unsigned_abs (f (get_or xs i d))) limit ≡ true
 below_first f xs limit rise i j d o h low =
-    let len = length-read f xs in
-    let up = rising_to (read f xs) i j rise o (omega arith) in
-    let at_i = get_or-read f xs i d (omega arith) in
-    let at_j = get_or-read f xs j d h in
+    let len = length-numbers_by f xs in
+    let up = rising_to (numbers_by f xs) i j rise o (omega arith) in
+    let at_i = get_or-numbers_by f xs i d (omega arith) in
+    let at_j = get_or-numbers_by f xs j d h in
     let small = ltb-true (unsigned_abs (f (get_or xs j d))) limit low in
     lt-ltb _ limit (omega arith)
 
@@ -163,14 +161,10 @@ below_first f xs limit rise i j d o h low =
 pub count_from_point : {X : Type 0} (f : X → ℤ) (xs : List X) (limit r : ℕ) → r ≤ length xs
     → ((k : ℕ) (d : X) → 0 ≤ k → k < r → nat_lt (unsigned_abs (f (get_or xs k d))) limit ≡ true)
     → ((k : ℕ) (d : X) → r ≤ k → k < length xs → nat_lt (unsigned_abs (f (get_or xs k d))) limit ≡ false)
-    → count_below limit (read f xs) ≡ r
+    → count_below limit (numbers_by f xs) ≡ r
 count_from_point f [] limit r room below above = omega arith
 count_from_point f (x ∷ xs) limit r room below above =
-    let len = length-read f (x ∷ xs) in
-    count_split (read f (x ∷ xs)) limit r (omega arith)
-    (λ i h. let at = get_or-read f (x ∷ xs) i x (omega arith) in let small = ltb-true _ limit (below i x (omega arith) h) in omega arith)
-    (λ i h k. let at = get_or-read f (x ∷ xs) i x (omega arith) in let large = ltb-false _ limit (above i x h (omega arith)) in omega arith)
-
--- the number at a place, as it was read
-pub number_read : {X : Type 0} (f : X → ℤ) (xs : List X) (i : ℕ) (x : X) → i < length xs → x ≡ get_or xs i x → unsigned_abs (f x) ≡ get_or (read f xs) i 0
-number_read f xs i x h e = sym (get_or-read f xs i x h ∙ ap (λ y. unsigned_abs (f y)) (sym e))
+    let len = length-numbers_by f (x ∷ xs) in
+    count_split (numbers_by f (x ∷ xs)) limit r (omega arith)
+    (λ i h. let at = get_or-numbers_by f (x ∷ xs) i x (omega arith) in let small = ltb-true _ limit (below i x (omega arith) h) in omega arith)
+    (λ i h k. let at = get_or-numbers_by f (x ∷ xs) i x (omega arith) in let large = ltb-false _ limit (above i x h (omega arith)) in omega arith)

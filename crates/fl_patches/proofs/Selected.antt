@@ -12,16 +12,18 @@ use Rattle.fl_types.specs.declared.dtype.Nullability.TheVariants.{NonNullable, N
 use Rattle.fl_types.specs.declared.dtype.PType.{PType}
 use Rattle.fl_types.specs.declared.error.FastLanesError.{FastLanesError}
 use Rattle.fl_types.specs.declared.validity.Validity.TheVariants as valid
-use Rattle.fl_plain.specs.Columns.{Plain}
-use Rattle.fl_plain.specs.Selections.{positions_in}
-use Rattle.fl_plain.proofs.SelectionLaws.{ok_positions}
-use Rattle.fl_patches.specs.PatchMaps.{AreFound, AreOrdered, ranks_at, ArePatches, PatchMap, is_index_within, is_rising, numbers, patched, patches_at, patches_of_items, patched_in_take, places_from, select_patches, rank_of, refusal_of, values_in}
-use Rattle.fl_patches.proofs.Narrowed.{none_null, smallest_unsigned}
+use Rattle.fl_column.specs.Columns.{PrimitiveParts}
+use Rattle.fl_column.specs.Selections.{positions_in}
+use Rattle.fl_column.proofs.SelectionLaws.{ok_positions}
+use Rattle.fl_column.specs.Numbers.{numbers}
+use Rattle.fl_patches.specs.PatchMaps.{AreFound, AreOrdered, ranks_at, ArePatches, PatchesParts, is_index_within, is_rising, patched, patches_at, patches_of_items, patched_in_take, places_from, select_patches, rank_of, refusal_of, values_in}
+use Rattle.fl_column.proofs.FullLaws.{no_null}
+use Rattle.fl_column.proofs.NumberLaws.{smallest_unsigned}
 use Rattle.fl_patches.proofs.Parts.{AreSound, patches_none, patches_some, unrefused_parts}
 use Rattle.fl_patches.proofs.Sparse.{found_at, found_ordered, found_patches, numbers_of_places, ranked_values, ranks_below, places_below, places_even, places_rise}
 
 -- patches with these places and values
-abbrev pub picked : ℕ → PType → Nullability → List ℕ → List ℤ → PatchMap
+abbrev pub picked : ℕ → PType → Nullability → List ℕ → List ℤ → PatchesParts
 picked len ptype nullability places values = record {
   array_len = len;
   offset = 0;
@@ -36,10 +38,6 @@ all_within (place ∷ places) len below =
     let parts = and_parts (nat_lt place len) _ below in
     let low = ltb-true place len parts.0 in
     and_from _ _ (and_from _ _ (le-leb 0 place (omega arith)) (lt-ltb place (0 + len) (omega arith))) (all_within places len parts.1)
-
-no_null : (nullability : Nullability) (zs : List ℤ) → list_any is_none (items_of (full_validity nullability) zs) ≡ false
-no_null NonNullable zs = none_null zs
-no_null Nullable zs = none_null zs
 
 pub sound_picked : (len : ℕ) (ptype : PType) (nullability : Nullability) (places : List ℕ) (values : List ℤ) → is_rising places ≡ true → list_all (λ place. nat_lt place len) places ≡ true → length values ≡ length places → 0 < length places
     → AreSound (picked len ptype nullability places values)
@@ -63,7 +61,7 @@ picked_at len ptype nullability [] values some = absurd (omega arith)
 picked_at len ptype nullability (place ∷ places) values some = refl
 
 -- patches of the arrays that were made
-pub picked_is : (len : ℕ) (ptype : PType) (nullability : Nullability) (places : List ℕ) (slots : List ℤ) (indices values : Plain)
+pub picked_is : (len : ℕ) (ptype : PType) (nullability : Nullability) (places : List ℕ) (slots : List ℤ) (indices values : PrimitiveParts)
     → indices ≡ record { ptype = smallest_type len; slots = map pos places; validity = valid.NonNullable } → values ≡ record { ptype = ptype; slots = slots; validity = full_validity nullability }
     → picked len ptype nullability places slots ≡ record { array_len = len; offset = 0; indices = indices; values = values; chunk_offsets = None }
 picked_is len ptype nullability places slots indices values is vs = cc
@@ -82,7 +80,7 @@ pub items_are : (ptype : PType) (nullability : Nullability) (items : List (Optio
 items_are ptype nullability items = items_by_places ptype nullability items (places_from 0 items) refl
 
 -- the same of maps that agree
-pub same_maps : (patches : Option PatchMap) (len : ℕ) (at other : ℕ → Option ℤ) → ((i : ℕ) → i < len → at i ≡ other i) → ArePatches patches len at → ArePatches patches len other
+pub same_maps : (patches : Option PatchesParts) (len : ℕ) (at other : ℕ → Option ℤ) → ((i : ℕ) → i < len → at i ≡ other i) → ArePatches patches len at → ArePatches patches len other
 same_maps patches len at other same are = record {
   values = (λ i h. are.values i h ∙ same i h);
   none = (λ h i k. sym (same i k) ∙ are.none.0 h i k, λ h. are.none.1 (λ i k. same i k ∙ h i k));
@@ -95,14 +93,14 @@ answered (Err e) m P holds is = tt
 
 -- ---- patches that were found at positions
 -- they are in order
-pub found_in_order : (p : PatchMap) (positions : List (Option ℕ)) (places ranks : List ℕ) (len : ℕ) → AreSound p → AreFound places ranks (ranks_at p.offset (numbers p.indices) positions) → len ≡ length positions → AreOrdered places ranks len (length p.values.slots)
+pub found_in_order : (p : PatchesParts) (positions : List (Option ℕ)) (places ranks : List ℕ) (len : ℕ) → AreSound p → AreFound places ranks (ranks_at p.offset (numbers p.indices) positions) → len ≡ length positions → AreOrdered places ranks len (length p.values.slots)
 found_in_order p positions places ranks len s found all =
     let count : length (numbers p.indices) ≡ length p.values.slots = length-map p.indices.slots unsigned_abs ∙ s.even in
     let ordered : ℕ → Type 0 = λ n. AreOrdered places ranks len n in
     subst ordered count (found_ordered places ranks (ranks_at p.offset (numbers p.indices) positions) len (length (numbers p.indices)) found (all ∙ sym (length-map positions _)) (ranks_below p.offset (numbers p.indices) positions))
 
 -- with the values of their ranks they are those of the items
-pub found_selected : (p : PatchMap) (positions : List (Option ℕ)) (places ranks : List ℕ) (len : ℕ) → AreFound places ranks (ranks_at p.offset (numbers p.indices) positions) → len ≡ length positions
+pub found_selected : (p : PatchesParts) (positions : List (Option ℕ)) (places ranks : List ℕ) (len : ℕ) → AreFound places ranks (ranks_at p.offset (numbers p.indices) positions) → len ≡ length positions
     → patches_at len p.values.ptype (nullability_of p.values.validity) places (map (λ rank. get_or p.values.slots rank (pos 0)) ranks) ≡ select_patches positions p
 found_selected p positions places ranks len found all =
     let value : ℕ → ℤ = λ rank. get_or p.values.slots rank (pos 0) in
@@ -110,14 +108,14 @@ found_selected p positions places ranks len found all =
     ∙ ap (patches_of_items p.values.ptype (nullability_of p.values.validity)) (ranked_values p positions)
 
 -- ---- take
-item_of_take : (indices : List (Option ℤ)) (p : PatchMap) (j : ℕ) → get_or (map (option_and_then (patched p)) (map (option_map unsigned_abs) indices)) j None ≡ patched_in_take indices p j
+item_of_take : (indices : List (Option ℤ)) (p : PatchesParts) (j : ℕ) → get_or (map (option_and_then (patched p)) (map (option_map unsigned_abs) indices)) j None ≡ patched_in_take indices p j
 item_of_take [] p j = refl
 item_of_take (None ∷ indices) p zero = refl
 item_of_take (Some z ∷ indices) p zero = refl
 item_of_take (index ∷ indices) p (suc j) = item_of_take indices p j
 
 -- patches of what indices name are those of the named positions
-pub take_are : (indices : List (Option ℤ)) (p : PatchMap) (positions : List (Option ℕ)) → positions_in p.array_len indices ≡ Ok positions → ArePatches (select_patches positions p) (length indices) (patched_in_take indices p)
+pub take_are : (indices : List (Option ℤ)) (p : PatchesParts) (positions : List (Option ℕ)) → positions_in p.array_len indices ≡ Ok positions → ArePatches (select_patches positions p) (length indices) (patched_in_take indices p)
 take_are indices p positions e =
     let named = (ok_positions p.array_len indices positions e).1 in
     let items = map (option_and_then (patched p)) (map (option_map unsigned_abs) indices) in
@@ -130,13 +128,13 @@ take_are indices p positions e =
     subst of_positions named holds
 
 -- ---- filter
-item_of_filter : (p : PatchMap) (positions : List ℕ) (j : ℕ) → j < length positions → get_or (map (option_and_then (patched p)) (map (λ i. Some i) positions)) j None ≡ patched p (get_or positions j 0)
+item_of_filter : (p : PatchesParts) (positions : List ℕ) (j : ℕ) → j < length positions → get_or (map (option_and_then (patched p)) (map (λ i. Some i) positions)) j None ≡ patched p (get_or positions j 0)
 item_of_filter p [] j h = absurd (omega arith)
 item_of_filter p (i ∷ positions) zero h = refl
 item_of_filter p (i ∷ positions) (suc j) h = item_of_filter p positions j (omega arith)
 
 -- patches at rising positions are those of the positions
-pub filter_are : (p : PatchMap) (positions : List ℕ) → ArePatches (select_patches (map (λ i. Some i) positions) p) (length positions) (λ j. patched p (get_or positions j 0))
+pub filter_are : (p : PatchesParts) (positions : List ℕ) → ArePatches (select_patches (map (λ i. Some i) positions) p) (length positions) (λ j. patched p (get_or positions j 0))
 filter_are p positions =
     let items = map (option_and_then (patched p)) (map (λ i. Some i) positions) in
     let patches = patches_of_items p.values.ptype (nullability_of p.values.validity) items in

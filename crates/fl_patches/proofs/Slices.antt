@@ -7,11 +7,12 @@ use Rattle.std.specs.List.{list_all, list_any}
 use Rattle.fl_types.specs.Bits.{between}
 use Rattle.fl_types.specs.Types.{is_index_type}
 use Rattle.fl_types.specs.declared.dtype.DType.TheVariants.{Primitive}
-use Rattle.fl_plain.specs.Columns.{Plain, column_of_plain, slice_plain}
-use Rattle.fl_plain.proofs.ItemLaws.{items_of-between, length-between, nullability_of-between}
-use Rattle.fl_plain.proofs.ListLaws.{all_from}
-use Rattle.fl_plain.proofs.QuestionLaws.{next_holds}
-use Rattle.fl_patches.specs.PatchMaps.{PatchMap, is_index_within, is_rising, numbers, patched, patches_before, rank_of}
+use Rattle.fl_column.specs.Columns.{PrimitiveParts, column_of_primitive, slice_primitive}
+use Rattle.fl_column.proofs.ItemLaws.{items_of-between, length-between, nullability_of-between}
+use Rattle.fl_column.proofs.ListLaws.{all_from}
+use Rattle.fl_column.proofs.QuestionLaws.{next_holds}
+use Rattle.fl_column.specs.Numbers.{numbers}
+use Rattle.fl_patches.specs.PatchMaps.{PatchesParts, is_index_within, is_rising, patched, patches_before, rank_of}
 use Rattle.fl_patches.proofs.Parts.{AreSound}
 use Rattle.fl_patches.proofs.Rising.{cases_rank, count_ge, count_lt, count_within, rank_at, rank_found, rank_none, rising_at}
 
@@ -68,10 +69,10 @@ beside_part xs ys first last index rise o r below above =
 
 -- ---- slices of patches
 -- patches first to below last, as those of the items from start to below end
-abbrev pub cut : ℕ → ℕ → ℕ → ℕ → PatchMap → PatchMap
-cut start end first last p = record { array_len = end - start; offset = p.offset + start; indices = slice_plain first last p.indices; values = slice_plain first last p.values; chunk_offsets = None }
+abbrev pub cut : ℕ → ℕ → ℕ → ℕ → PatchesParts → PatchesParts
+cut start end first last p = record { array_len = end - start; offset = p.offset + start; indices = slice_primitive first last p.indices; values = slice_primitive first last p.values; chunk_offsets = None }
 
-pub before_in_order : (p : PatchMap) (start end : ℕ) → AreSound p → start ≤ end → patches_before start p ≤ patches_before end p
+pub before_in_order : (p : PatchesParts) (start end : ℕ) → AreSound p → start ≤ end → patches_before start p ≤ patches_before end p
 before_in_order p start end s o = elim (cases_lt (patches_before end p) (patches_before start p)) [
   | inl wrong ↦ absurd (
       let xs = numbers p.indices in
@@ -82,17 +83,17 @@ before_in_order p start end s o = elim (cases_lt (patches_before end p) (patches
   | inr right ↦ right
 ]
 
-pub before_within : (p : PatchMap) (i : ℕ) → patches_before i p ≤ length p.indices.slots
+pub before_within : (p : PatchesParts) (i : ℕ) → patches_before i p ≤ length p.indices.slots
 before_within p i = let within = count_within (numbers p.indices) (p.offset + i) in omega (arith, length-map p.indices.slots unsigned_abs)
 
 -- the first index of a slice that has one
-pub first_at : (p : PatchMap) (start end : ℕ) → AreSound p → start ≤ end → patches_before start p ≢ patches_before end p → p.offset + start ≤ get_or (numbers p.indices) (patches_before start p) 0
+pub first_at : (p : PatchesParts) (start end : ℕ) → AreSound p → start ≤ end → patches_before start p ≢ patches_before end p → p.offset + start ≤ get_or (numbers p.indices) (patches_before start p) 0
 first_at p start end s o other =
     let order = before_in_order p start end s o in
     let within = before_within p end in
     count_ge (numbers p.indices) (p.offset + start) (patches_before start p) s.rising (omega arith) (omega (arith, length-map p.indices.slots unsigned_abs))
 
-pub patched_cut : (p : PatchMap) (start end i : ℕ) → AreSound p → start ≤ end → i < end - start → patched (cut start end (patches_before start p) (patches_before end p) p) i ≡ patched p (start + i)
+pub patched_cut : (p : PatchesParts) (start end i : ℕ) → AreSound p → start ≤ end → i < end - start → patched (cut start end (patches_before start p) (patches_before end p) p) i ≡ patched p (start + i)
 patched_cut p start end i s o h =
     let xs = numbers p.indices in
     let first = patches_before start p in
@@ -103,7 +104,7 @@ patched_cut p start end i s o h =
     (λ j k. let low = count_lt xs (p.offset + start) j s.rising k in omega arith)
     (λ j k l. let high = count_ge xs (p.offset + end) j s.rising k l in omega arith))
 
-within_cut : (p : PatchMap) (start end : ℕ) → AreSound p → start ≤ end → list_all (is_index_within (p.offset + start) (end - start)) (between (patches_before start p) (patches_before end p) (numbers p.indices)) ≡ true
+within_cut : (p : PatchesParts) (start end : ℕ) → AreSound p → start ≤ end → list_all (is_index_within (p.offset + start) (end - start)) (between (patches_before start p) (patches_before end p) (numbers p.indices)) ≡ true
 within_cut p start end s o =
     let xs = numbers p.indices in
     let first = patches_before start p in
@@ -117,7 +118,7 @@ within_cut p start end s o =
     let high = count_lt xs (p.offset + end) (first + i) s.rising (omega arith) in
     and_from _ _ (le-leb (p.offset + start) _ (omega arith)) (lt-ltb _ (p.offset + start + (end - start)) (omega arith)))
 
-pub sound_cut : (p : PatchMap) (start end : ℕ) → AreSound p → start ≤ end → patches_before start p ≢ patches_before end p → AreSound (cut start end (patches_before start p) (patches_before end p) p)
+pub sound_cut : (p : PatchesParts) (start end : ℕ) → AreSound p → start ≤ end → patches_before start p ≢ patches_before end p → AreSound (cut start end (patches_before start p) (patches_before end p) p)
 sound_cut p start end s o other =
     let first = patches_before start p in
     let last = patches_before end p in
@@ -132,11 +133,11 @@ sound_cut p start end s o other =
       some = omega arith;
       rising = ap is_rising (map-between unsigned_abs p.indices.slots first last) ∙ rising_part (numbers p.indices) first last s.rising order (count_within (numbers p.indices) (p.offset + end));
       within = ap (list_all (is_index_within (p.offset + start) (end - start))) (map-between unsigned_abs p.indices.slots first last) ∙ within_cut p start end s o;
-      valued = ap (list_any is_none) (items_of-between p.values.validity p.values.slots first last) ∙ any_part is_none (column_of_plain p.values).items first last s.valued;
+      valued = ap (list_any is_none) (items_of-between p.values.validity p.values.slots first last) ∙ any_part is_none (column_of_primitive p.values).items first last s.valued;
     }
 
 -- no position of a slice without a patch is patched
-pub none_cut : (p : PatchMap) (start end i : ℕ) → AreSound p → patches_before start p ≡ patches_before end p → i < end - start → patched p (start + i) ≡ None
+pub none_cut : (p : PatchesParts) (start end i : ℕ) → AreSound p → patches_before start p ≡ patches_before end p → i < end - start → patched p (start + i) ≡ None
 none_cut p start end i s same h =
     let xs = numbers p.indices in
     ap (option_map (λ k. get_or p.values.slots k (pos 0))) (rank_none xs (p.offset + (start + i)) (λ k l e.
@@ -146,6 +147,6 @@ none_cut p start end i s same h =
     ]))
 
 -- the parts of a slice are those of its patches
-pub cut_is : (p : PatchMap) (start end first last a b : ℕ) (indices values : Plain) → first ≡ a → last ≡ b → indices ≡ slice_plain first last p.indices → values ≡ slice_plain first last p.values
-    → (let q : PatchMap = record { array_len = end - start; offset = p.offset + start; indices = indices; values = values; chunk_offsets = None } in q) ≡ cut start end a b p
+pub cut_is : (p : PatchesParts) (start end first last a b : ℕ) (indices values : PrimitiveParts) → first ≡ a → last ≡ b → indices ≡ slice_primitive first last p.indices → values ≡ slice_primitive first last p.values
+    → (let q : PatchesParts = record { array_len = end - start; offset = p.offset + start; indices = indices; values = values; chunk_offsets = None } in q) ≡ cut start end a b p
 cut_is p start end first last a b indices values f l is vs = cc

@@ -5,8 +5,9 @@ use Rattle.std.proofs.lemmas.List.{length-map}
 use Rattle.std.specs.List.{list_all}
 use Rattle.fl_types.specs.declared.dtype.Nullability.{Nullability}
 use Rattle.fl_types.specs.declared.dtype.PType.{PType}
-use Rattle.fl_plain.specs.Columns.{option_all}
-use Rattle.fl_patches.specs.PatchMaps.{AreFound, AreOrdered, PatchMap, is_rising, numbers, patched, patches_at, patches_of_items, places_from, rank_of, ranks_at, values_in}
+use Rattle.fl_column.specs.Columns.{option_all}
+use Rattle.fl_column.specs.Numbers.{numbers}
+use Rattle.fl_patches.specs.PatchMaps.{AreFound, AreOrdered, PatchesParts, is_rising, patched, patches_at, patches_of_items, places_from, rank_of, ranks_at, values_in}
 use Rattle.fl_patches.proofs.Rising.{rank_at, rank_none}
 
 -- ---- one more item
@@ -109,7 +110,7 @@ ranks_below offset indices [] = refl
 ranks_below offset indices (position ∷ positions) = and_from _ _ (rank_below offset indices position) (ranks_below offset indices positions)
 
 -- the value of a position is the one beside its rank
-pub ranked_values : (p : PatchMap) (positions : List (Option ℕ)) → map (option_map (λ rank. get_or p.values.slots rank (pos 0))) (ranks_at p.offset (numbers p.indices) positions) ≡ map (option_and_then (patched p)) positions
+pub ranked_values : (p : PatchesParts) (positions : List (Option ℕ)) → map (option_map (λ rank. get_or p.values.slots rank (pos 0))) (ranks_at p.offset (numbers p.indices) positions) ≡ map (option_and_then (patched p)) positions
 ranked_values p [] = refl
 ranked_values p (None ∷ positions) = ap (λ items. None ∷ items) (ranked_values p positions)
 ranked_values p (Some i ∷ positions) = ap (λ items. patched p i ∷ items) (ranked_values p positions)

@@ -1,29 +1,24 @@
 //! What the parts of patches must be.
 
-ghost use Rattle.std.specs.Prelude.{◌≡◌, ◌&&◌, ◌==◌, IsTrue, length, nat_lt, map, unsigned_abs};
+ghost use Rattle.std.specs.Prelude.{◌≡◌, ◌&&◌, ◌==◌, IsTrue, length, nat_lt};
 ghost use Rattle.std.specs.List.{list_all};
 ghost use Rattle.fl_types.specs.Types.{is_index_type};
-ghost use Rattle.fl_plain.specs.Columns.{column_of_plain, option_all};
-ghost use Rattle.fl_patches.specs.PatchMaps.{are_chunk_offsets, chunk_count, is_index_within, is_rising, numbers, patch_contents_fit, patch_lengths_fit, patch_types_fit, refusal_of};
+ghost use Rattle.fl_column.specs.Chunks.{chunk_count};
+ghost use Rattle.fl_column.specs.Columns.{column_of_primitive, option_all};
+ghost use Rattle.fl_column.specs.Numbers.{numbers, numbers_by};
+ghost use Rattle.fl_patches.specs.PatchMaps.{are_chunk_offsets, is_index_within, is_rising, patch_contents_fit, patch_lengths_fit, patch_types_fit, refusal_of};
 
-use crate::indices::{count_in, number_at};
-use fl_plain::PrimitiveArray;
-use fl_types::{FastLanesError, NativePType, Nullability, match_each_integer_ptype};
-
-/// Whether an array is of an unsigned type and cannot hold a null.
-fn has_index_type(array: &PrimitiveArray) -> bool
-    ensures { result ≡ is_index_type (column_of_plain array.now).dtype }
-{
-    array.ptype().is_unsigned() && array.nullability() == Nullability::NonNullable
-}
+use crate::indices::count_in;
+use fl_column::{PrimitiveArray, chunk_count, number_at};
+use fl_types::{FastLanesError, NativePType, match_each_integer_ptype};
 
 /// Whether the types of indices and chunk offsets are those of positions.
 fn types_fit(indices: &PrimitiveArray, chunk_offsets: &Option<PrimitiveArray>) -> bool
-    ensures { result ≡ (is_index_type (column_of_plain indices.now).dtype && option_all (λ c. is_index_type (column_of_plain c).dtype) chunk_offsets.now) }
+    ensures { result ≡ (is_index_type (column_of_primitive indices.now).dtype && option_all (λ c. is_index_type (column_of_primitive c).dtype) chunk_offsets.now) }
 {
-    has_index_type(indices)
+    indices.dtype().is_index_type()
         && match chunk_offsets {
-            Some(offsets) => has_index_type(offsets),
+            Some(offsets) => offsets.dtype().is_index_type(),
             None => true,
         }
 }
@@ -40,14 +35,14 @@ fn lengths_fit(
     indices.len() == values.len()
         && indices.len() > 0
         && match chunk_offsets {
-            Some(offsets) => offsets.len() == array_len.div_ceil(1024),
+            Some(offsets) => offsets.len() == chunk_count(array_len),
             None => true,
         }
 }
 
 /// Whether each index is below the next.
 fn are_rising<I: NativePType>(indices: &[I]) -> bool
-    ensures { result ≡ is_rising (map unsigned_abs (map I.value indices.now)) }
+    ensures { result ≡ is_rising (numbers_by I.value indices.now) }
 {
     for i in 1..indices.len() {
         if number_at(indices, i - 1) >= number_at(indices, i) {
@@ -59,11 +54,11 @@ fn are_rising<I: NativePType>(indices: &[I]) -> bool
 
 /// Whether each index is that of a position of the array.
 fn are_within<I: NativePType>(indices: &[I], offset: usize, array_len: usize) -> bool
-    ensures { result ≡ list_all (is_index_within offset array_len) (map unsigned_abs (map I.value indices.now)) }
+    ensures { result ≡ list_all (is_index_within offset array_len) (numbers_by I.value indices.now) }
 {
     let end = offset as u128 + array_len as u128;
     for i in 0..indices.len() {
-        let index = number_at(indices, i);
+        let index = number_at(indices, i) as u128;
         if index < offset as u128 || end <= index {
             return false;
         }
@@ -104,7 +99,7 @@ fn are_chunk_offsets_typed<C: NativePType>(
     let offsets = offsets.as_slice::<C>();
     for k in 0..offsets.len() {
         let count = count_in(indices, 1024 * k as u128);
-        if number_at(offsets, k) != count as u128 {
+        if number_at(offsets, k) != count {
             return false;
         }
     }

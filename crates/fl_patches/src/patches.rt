@@ -6,12 +6,12 @@ ghost use Rattle.std.specs.Option.{option_copied};
 ghost use Rattle.fl_types.specs.Masks.{mask_len};
 ghost use Rattle.fl_types.specs.Refusals.{Answers};
 ghost use Rattle.fl_types.specs.Values.{integer_of, ptype_of_value};
-ghost use Rattle.fl_plain.specs.Columns.{column_of_plain, slice_plain};
+ghost use Rattle.fl_column.specs.Columns.{column_of_primitive, slice_primitive};
 ghost use Rattle.fl_patches.specs.PatchMaps.{ArePatches, new_patches, patched, refusal_of, slice_patches};
 
 use crate::checks::first_refusal;
-use crate::indices::{count_in, index_fits, rank_in};
-use fl_plain::PrimitiveArray;
+use crate::indices::{count_in, rank_in};
+use fl_column::PrimitiveArray;
 use fl_types::{DType, FastLanesError, PValue};
 use std::alloc::Global;
 use std::marker::Model;
@@ -43,9 +43,9 @@ impl Drop for Patches {
 
 impl Model for Patches {
     ghost use Rattle.std.specs.Prelude.{◌≡◌, None};
-    ghost use Rattle.fl_patches.specs.PatchMaps.{PatchMap, refusal_of};
+    ghost use Rattle.fl_patches.specs.PatchMaps.{PatchesParts, refusal_of};
 
-    ghost Value = { PatchMap };
+    ghost Value = { PatchesParts };
 
     ghost view = { λ p. record { array_len = p.array_len; offset = p.offset; indices = p.indices; values = p.values; chunk_offsets = p.chunk_offsets } };
 
@@ -55,10 +55,11 @@ impl Model for Patches {
 /// The value at a place of an array without nulls.
 fn value_in(values: &PrimitiveArray, i: usize) -> Option<PValue>
     requires range { i < length values.now.slots }
-    requires valued { list_any is_none (column_of_plain values.now).items ≡ false }
+    requires valued { list_any is_none (column_of_primitive values.now).items ≡ false }
     ensures value { option_map integer_of result ≡ Some (slice_index_or values.now.slots i (pos 0)) }
     ensures typed { IfSome result (λ v. ptype_of_value v ≡ values.now.ptype) }
 {
+    // For the proof: the validity covers the values.
     let _validity = values.validity();
     values.get(i)
 }
@@ -72,8 +73,9 @@ fn slice_of(
 ) -> Result<PrimitiveArray, FastLanesError>
     requires order { start ≤ end }
     requires range { end ≤ length array.now.slots }
-    ensures { Answers (λ a. a) result (Ok (slice_plain start end array.now)) }
+    ensures { Answers (λ a. a) result (Ok (slice_primitive start end array.now)) }
 {
+    // For the proof: there are as many items as slots.
     let _len = array.len();
     array.slice(alloc, start, end)
 }
@@ -100,39 +102,35 @@ impl Patches {
     {
         match first_refusal(array_len, offset, &indices, &values, &chunk_offsets) {
             Some(refusal) => Err(refusal),
-            None => Ok(Patches {
-                array_len,
-                offset,
-                indices,
-                values,
-                chunk_offsets,
-            }),
+            None => Ok(Patches::new_unchecked(array_len, offset, indices, values, chunk_offsets)),
         }
     }
 
-    /// Patches of these parts, which nothing speaks against.
-    pub(crate) fn from_parts(
+    /// Patches of these parts, which `new` accepts.
+    pub fn new_unchecked(
         array_len: usize,
         offset: usize,
         indices: PrimitiveArray,
         values: PrimitiveArray,
+        chunk_offsets: Option<PrimitiveArray>,
     ) -> Patches
-        requires { refusal_of (record { array_len = array_len; offset = offset; indices = indices; values = values; chunk_offsets = None }) ≡ None }
-        ensures { result ≡ record { array_len = array_len; offset = offset; indices = indices; values = values; chunk_offsets = None } }
+        requires { refusal_of (record { array_len = array_len; offset = offset; indices = indices; values = values; chunk_offsets = chunk_offsets }) ≡ None }
+        ensures { result ≡ record { array_len = array_len; offset = offset; indices = indices; values = values; chunk_offsets = chunk_offsets } }
     {
         Patches {
             array_len,
             offset,
             indices,
             values,
-            chunk_offsets: None,
+            chunk_offsets,
         }
     }
 
-    /// Nothing speaks against the parts.
-    pub fn well_formed(&self)
+    /// `new` accepts the parts.
+    pub fn prove_well_formed(&self)
         ensures { refusal_of self.now ≡ None }
     {
+        // For the proof: the type's invariant says so.
         let _ = &self.offset;
     }
 
@@ -159,7 +157,7 @@ impl Patches {
 
     /// The type of the values.
     pub fn dtype(&self) -> DType
-        ensures { result ≡ (column_of_plain self.now.values).dtype }
+        ensures { result ≡ (column_of_primitive self.now.values).dtype }
     {
         self.values.dtype()
     }
@@ -212,7 +210,8 @@ impl Patches {
         if first == last {
             return Ok(None);
         }
-        index_fits(&self.indices, first);
+        // For the proof: an index is below 2 ^ 64, and so is the sum.
+        let _index = self.indices.number_at(first);
         let slice_offset = self.offset + start;
         Ok(Some(Patches {
             array_len: end - start,

@@ -1,4 +1,4 @@
--- Lists of truth values, kept 64 to a word.
+-- Lists of booleans, kept 64 to a word.
 use Rattle.std.specs.Prelude.{◌==◌, ◌-◌, ◌/◌, ◌%◌, ℕ, Bool, List, map, slice_index, take, drop, count_by}
 use Rattle.std.specs.Int.{bit_at}
 use Rattle.std.specs.List.{range_with_len}

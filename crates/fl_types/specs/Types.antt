@@ -27,7 +27,7 @@ abbrev pub either_nullable : Nullability → Nullability → Nullability
 either_nullable NonNullable other = other
 either_nullable Nullable other = Nullable
 
--- a column of the type may have nulls, as a truth value
+-- a column of the type may have nulls, as a boolean
 abbrev pub is_nullable : DType → Bool
 is_nullable dtype = can_be_null (nullability_in dtype)
 
@@ -40,7 +40,7 @@ abbrev pub has_ptype : PType → DType → Bool
 has_ptype ptype (dtypes.Primitive other nullability) = same_ptype ptype other
 has_ptype ptype (dtypes.Bool nullability) = false
 
--- the same integer type, or both truth values; nullability aside
+-- the same integer type, or both booleans, whatever the nullability
 abbrev pub same_type : DType → DType → Bool
 same_type (dtypes.Primitive ptype nullability) other = has_ptype ptype other
 same_type (dtypes.Bool nullability) other = not (is_integer other)

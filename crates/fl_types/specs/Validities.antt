@@ -38,7 +38,7 @@ covers valid.AllValid n = true
 covers valid.AllInvalid n = true
 covers (valid.Array bits) n = length bits == n
 
--- the item at an index is no null
+-- the item at an index is not null
 abbrev pub is_valid_at : Validity → ℕ → Bool
 is_valid_at valid.NonNullable i = true
 is_valid_at valid.AllValid i = true

@@ -35,23 +35,23 @@ integer_of (I32 x) = x
 integer_of (I64 x) = x
 
 -- a value of a type, or a null
-pub record Cell : Type 0 where
+pub record ScalarParts : Type 0 where
   pub dtype : DType
   pub value : Option ℤ
 
--- a truth value, as a column holds it
-abbrev pub truth_number : Bool → ℤ
-truth_number true = pos 1
-truth_number false = pos 0
+-- a boolean, as a column holds it
+abbrev pub bool_number : Bool → ℤ
+bool_number true = pos 1
+bool_number false = pos 0
 
--- the integer is one of the type's; truth values are 0 and 1
+-- the integer is one of the type's; booleans are 0 and 1
 abbrev pub fits_in : DType → ℤ → Bool
 fits_in (dtypes.Primitive ptype nullability) z = fits ptype z
 fits_in (dtypes.Bool nullability) z = int_eq z (pos 0) || int_eq z (pos 1)
 
 -- what a scalar is
-abbrev pub cell_of : Scalar → Cell
-cell_of (scalars.Integer value nullability) = record { dtype = dtypes.Primitive (ptype_of_value value) nullability; value = Some (integer_of value) }
-cell_of (scalars.Truth value nullability) = record { dtype = dtypes.Bool nullability; value = Some (truth_number value) }
-cell_of (scalars.NullInteger ptype) = record { dtype = dtypes.Primitive ptype Nullable; value = None }
-cell_of scalars.NullTruth = record { dtype = dtypes.Bool Nullable; value = None }
+abbrev pub scalar_parts : Scalar → ScalarParts
+scalar_parts (scalars.Integer value nullability) = record { dtype = dtypes.Primitive (ptype_of_value value) nullability; value = Some (integer_of value) }
+scalar_parts (scalars.Truth value nullability) = record { dtype = dtypes.Bool nullability; value = Some (bool_number value) }
+scalar_parts (scalars.NullInteger ptype) = record { dtype = dtypes.Primitive ptype Nullable; value = None }
+scalar_parts scalars.NullTruth = record { dtype = dtypes.Bool Nullable; value = None }

@@ -1,4 +1,4 @@
-//! Lists of truth values.
+//! Lists of booleans.
 
 ghost use Rattle.std.specs.Prelude.{◌≡◌, ◌≢◌, ◌<◌, ◌≤◌, ◌+◌, ◌^◌, ◌*◌, ◌/◌, ℕ, Bool, [], ◌∷◌, ◌++◌, length, slice_get, slice_index, slice_index_or, false, Some, IfOk, IfErr, OnOk, OnErr, Ok};
 ghost use Rattle.std.specs.Bool.{beq};
@@ -13,7 +13,7 @@ use crate::error::FastLanesError;
 use std::alloc::{AllocError, Global};
 use std::marker::Model;
 
-/// A list of truth values, kept 64 to a word. Contracts see the list.
+/// A list of booleans, kept 64 to a word. Contracts see the list.
 #[derive(Debug, Drop)]
 pub struct BitList {
     words: Vec<u64>,
@@ -43,7 +43,7 @@ impl BitList {
         }
     }
 
-    /// How many truth values there are.
+    /// How many booleans there are.
     #[tactic(auto, using(crate::proofs::BitLists::length_first_bits))]
     pub fn len(&self) -> usize
         ensures { result ≡ length self.now }
@@ -51,7 +51,7 @@ impl BitList {
         self.len
     }
 
-    /// The truth value at an index.
+    /// The boolean at an index.
     #[tactic(auto, using(crate::proofs::BitLists::length_first_bits, crate::proofs::BitLists::get_first_bits))]
     pub fn get(&self, i: usize) -> bool
         requires { i < length self.now }

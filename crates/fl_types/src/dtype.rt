@@ -2,7 +2,7 @@
 
 ghost use Rattle.std.specs.Prelude.{◌≡◌};
 ghost use Rattle.fl_types.specs.Integers.{bits_of_type, is_unsigned, smallest_type};
-ghost use Rattle.fl_types.specs.Types.{either_nullable, nullability_in, integer_type, with_nullability};
+ghost use Rattle.fl_types.specs.Types.{either_nullable, is_index_type, nullability_in, integer_type, with_nullability};
 
 /// An integer type.
 #[derive(Clone, Copy, Debug, PartialEq, Eq, Hash)]
@@ -87,7 +87,7 @@ impl Nullability {
 pub enum DType {
     /// Integers of a type.
     Primitive(PType, Nullability),
-    /// Truth values.
+    /// Booleans.
     Bool(Nullability),
 }
 
@@ -102,7 +102,7 @@ impl DType {
         }
     }
 
-    /// The integer type, or `None` of truth values.
+    /// The integer type, or `None` of booleans.
     pub fn ptype(self) -> Option<PType>
         ensures { result ≡ integer_type self }
     {
@@ -119,6 +119,16 @@ impl DType {
         match self {
             DType::Primitive(ptype, _) => DType::Primitive(ptype, nullability),
             DType::Bool(_) => DType::Bool(nullability),
+        }
+    }
+
+    /// Whether it is of unsigned integers without nulls, as positions and lengths are.
+    pub fn is_index_type(self) -> bool
+        ensures { result ≡ is_index_type self }
+    {
+        match self {
+            DType::Primitive(ptype, Nullability::NonNullable) => ptype.is_unsigned(),
+            _ => false,
         }
     }
 }

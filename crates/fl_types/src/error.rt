@@ -8,14 +8,14 @@ use std::alloc::{AllocError, AllocFailed};
 use std::fmt;
 use thiserror::Error;
 
-/// Why a call gave no answer.
+/// The refusals of this library: why a call gives no result.
 #[derive(Clone, Copy, Debug, Error, PartialEq, Eq, Hash)]
 pub enum FastLanesError {
     /// A growth of memory was refused.
     OutOfMemory = 1,
-    /// Truth values, or a type of truth values, where integers are needed.
+    /// Booleans, or a type of booleans, where integers are needed.
     NotInteger = 2,
-    /// An item that is no null is negative.
+    /// A valid item is negative.
     NegativeValue = 3,
     /// A width above the bits of the type.
     WidthTooLarge = 4,
@@ -41,11 +41,11 @@ pub enum FastLanesError {
     BlockOffsetsType = 14,
     /// Boundaries are not one more than the blocks, or offsets of runs not one for each chunk.
     BlockOffsetsCount = 15,
-    /// Two boundaries between which no block of any width lies.
+    /// Two neighbouring boundaries that no block of any width lies between.
     BlockBoundary = 16,
     /// The last boundary less the first is not the length of the packed buffer.
     BlockSpan = 17,
-    /// Integer types differ, or an integer type meets truth values.
+    /// Integer types differ, or an integer type meets booleans.
     TypeMismatch = 18,
     /// A reference is null.
     NullReference = 19,

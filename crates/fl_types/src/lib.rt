@@ -3,6 +3,7 @@
 #![tactic(auto)]
 
 pub mod bits;
+pub mod buffer;
 pub mod dtype;
 pub mod error;
 pub mod laws;
@@ -11,15 +12,14 @@ pub mod mask;
 pub mod native;
 pub mod query;
 pub mod scalar;
-pub mod slots;
 pub mod validity;
 
 pub use crate::bits::BitList;
+pub use crate::buffer::PrimitiveBuffer;
 pub use crate::dtype::{DType, Nullability, PType};
 pub use crate::error::FastLanesError;
 pub use crate::mask::Mask;
-pub use crate::native::NativePType;
+pub use crate::native::{NativePType, is_equal, is_less};
 pub use crate::query::{BetweenOptions, CompareOperator, StrictComparison};
 pub use crate::scalar::{PValue, Scalar};
-pub use crate::slots::Slots;
 pub use crate::validity::Validity;

@@ -12,9 +12,9 @@ use std::alloc::Global;
 /// Which items a filter keeps.
 #[derive(Debug, PartialEq, Eq, Drop)]
 pub enum Mask {
-    /// Keeps each of so many items.
+    /// Keeps each of this many items.
     AllTrue(usize),
-    /// Keeps none of so many items.
+    /// Keeps none of this many items.
     AllFalse(usize),
     /// Keeps the items whose bits are set.
     Values(BitList),

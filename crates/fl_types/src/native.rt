@@ -1,17 +1,18 @@
 //! The eight integer types.
 
-ghost use Rattle.std.specs.Prelude.{◌≡◌, ◌<◌, ◌^◌, ℕ, ℤ, pos, List, [], map, refl, IsSome, IsTrue, ◌↔◌, IfSome};
+ghost use Rattle.std.specs.Prelude.{◌≡◌, ◌<◌, ◌^◌, ℕ, ℤ, pos, List, [], map, refl, IsSome, IsTrue, ◌↔◌, IfSome, int_lt, unsigned_abs};
+ghost use Rattle.std.specs.Ordering.{int_eq};
 ghost use Rattle.num_traits.specs.Laws.{Checks};
 ghost use Rattle.fl_types.specs.declared.dtype.PType.{PType};
 ghost use Rattle.fl_types.specs.declared.dtype.PType.TheVariants as types;
-ghost use Rattle.fl_types.specs.declared.slots.Slots.{Slots};
-ghost use Rattle.fl_types.specs.Slots.{integers_of, ptype_of};
+ghost use Rattle.fl_types.specs.declared.buffer.PrimitiveBuffer.{PrimitiveBuffer};
+ghost use Rattle.fl_types.specs.Buffers.{integers_of, ptype_of};
 ghost use Rattle.fl_types.specs.Values.{integer_of, ptype_of_value};
 ghost use Rattle.fl_types.specs.Integers.{bits_of_type, fits, pattern_of, pos_injective, read_as, wrap};
 
+use crate::buffer::PrimitiveBuffer;
 use crate::dtype::PType;
 use crate::scalar::PValue;
-use crate::slots::Slots;
 use num_traits::Integral;
 
 /// An integer type of columns. Contracts see a value as its integer, `T.value x`.
@@ -36,17 +37,21 @@ pub trait NativePType: Copy + Integral {
     fn from_i128(value: i128) -> Option<Self>
         ensures { Checks Self.value Self.fits value result };
 
+    /// The absolute value, which for an index or an offset is the value itself.
+    fn unsigned_abs(self) -> u64
+        ensures { result ≡ unsigned_abs (Self.value self) };
+
     /// The value lies in the type's range.
-    fn in_range(self)
+    fn prove_in_range(self)
         ensures { IsTrue (fits PTYPE (Self.value self)) };
 
     /// The slots, which have this type.
-    fn as_slice(slots: &Slots) -> &[Self]
+    fn as_slice(slots: &PrimitiveBuffer) -> &[Self]
         requires { ptype_of slots.now ≡ PTYPE }
         ensures { map Self.value result.now ≡ integers_of slots.now };
 
     /// Slots of this type.
-    fn into_slots(items: Vec<Self>) -> Slots
+    fn into_buffer(items: Vec<Self>) -> PrimitiveBuffer
         ensures slots { integers_of result ≡ map Self.value items.items }
         ensures typed { ptype_of result ≡ PTYPE };
 
@@ -65,6 +70,20 @@ pub trait NativePType: Copy + Integral {
 
     // Values of one integer are equal.
     ghost one_value: { (x y : Self) → Self.value x ≡ Self.value y → x ≡ y };
+}
+
+/// Whether the two values are one integer.
+pub fn is_equal<T: NativePType>(x: T, y: T) -> bool
+    ensures { result ≡ int_eq (T.value x) (T.value y) }
+{
+    x == y
+}
+
+/// Whether the first value is below the second.
+pub fn is_less<T: NativePType>(x: T, y: T) -> bool
+    ensures { result ≡ int_lt (T.value x) (T.value y) }
+{
+    x < y
 }
 
 #[tactic(auto, using(crate::proofs::Maps::maps))]
@@ -89,20 +108,24 @@ impl NativePType for u8 {
         num_traits::cast(value)
     }
 
-    fn in_range(self) {}
+    fn unsigned_abs(self) -> u64 {
+        self as u64
+    }
 
-    fn as_slice(slots: &Slots) -> &[u8] {
+    fn prove_in_range(self) {}
+
+    fn as_slice(slots: &PrimitiveBuffer) -> &[u8] {
         match slots {
-            Slots::U8(items) => items.as_slice(),
+            PrimitiveBuffer::U8(items) => items.as_slice(),
             _ => unreachable!(),
         }
     }
 
-    fn into_slots(items: Vec<u8>) -> Slots
+    fn into_buffer(items: Vec<u8>) -> PrimitiveBuffer
         ensures slots { integers_of result ≡ map (λ n. pos n) items.items }
         ensures typed { ptype_of result ≡ types.U8 }
     {
-        Slots::U8(items)
+        PrimitiveBuffer::U8(items)
     }
 
     fn into_pvalue(self) -> PValue {
@@ -139,20 +162,24 @@ impl NativePType for u16 {
         num_traits::cast(value)
     }
 
-    fn in_range(self) {}
+    fn unsigned_abs(self) -> u64 {
+        self as u64
+    }
 
-    fn as_slice(slots: &Slots) -> &[u16] {
+    fn prove_in_range(self) {}
+
+    fn as_slice(slots: &PrimitiveBuffer) -> &[u16] {
         match slots {
-            Slots::U16(items) => items.as_slice(),
+            PrimitiveBuffer::U16(items) => items.as_slice(),
             _ => unreachable!(),
         }
     }
 
-    fn into_slots(items: Vec<u16>) -> Slots
+    fn into_buffer(items: Vec<u16>) -> PrimitiveBuffer
         ensures slots { integers_of result ≡ map (λ n. pos n) items.items }
         ensures typed { ptype_of result ≡ types.U16 }
     {
-        Slots::U16(items)
+        PrimitiveBuffer::U16(items)
     }
 
     fn into_pvalue(self) -> PValue {
@@ -189,20 +216,24 @@ impl NativePType for u32 {
         num_traits::cast(value)
     }
 
-    fn in_range(self) {}
+    fn unsigned_abs(self) -> u64 {
+        self as u64
+    }
 
-    fn as_slice(slots: &Slots) -> &[u32] {
+    fn prove_in_range(self) {}
+
+    fn as_slice(slots: &PrimitiveBuffer) -> &[u32] {
         match slots {
-            Slots::U32(items) => items.as_slice(),
+            PrimitiveBuffer::U32(items) => items.as_slice(),
             _ => unreachable!(),
         }
     }
 
-    fn into_slots(items: Vec<u32>) -> Slots
+    fn into_buffer(items: Vec<u32>) -> PrimitiveBuffer
         ensures slots { integers_of result ≡ map (λ n. pos n) items.items }
         ensures typed { ptype_of result ≡ types.U32 }
     {
-        Slots::U32(items)
+        PrimitiveBuffer::U32(items)
     }
 
     fn into_pvalue(self) -> PValue {
@@ -239,20 +270,24 @@ impl NativePType for u64 {
         num_traits::cast(value)
     }
 
-    fn in_range(self) {}
+    fn unsigned_abs(self) -> u64 {
+        self
+    }
 
-    fn as_slice(slots: &Slots) -> &[u64] {
+    fn prove_in_range(self) {}
+
+    fn as_slice(slots: &PrimitiveBuffer) -> &[u64] {
         match slots {
-            Slots::U64(items) => items.as_slice(),
+            PrimitiveBuffer::U64(items) => items.as_slice(),
             _ => unreachable!(),
         }
     }
 
-    fn into_slots(items: Vec<u64>) -> Slots
+    fn into_buffer(items: Vec<u64>) -> PrimitiveBuffer
         ensures slots { integers_of result ≡ map (λ n. pos n) items.items }
         ensures typed { ptype_of result ≡ types.U64 }
     {
-        Slots::U64(items)
+        PrimitiveBuffer::U64(items)
     }
 
     fn into_pvalue(self) -> PValue {
@@ -289,20 +324,24 @@ impl NativePType for i8 {
         num_traits::cast(value)
     }
 
-    fn in_range(self) {}
+    fn unsigned_abs(self) -> u64 {
+        i8::unsigned_abs(self) as u64
+    }
 
-    fn as_slice(slots: &Slots) -> &[i8] {
+    fn prove_in_range(self) {}
+
+    fn as_slice(slots: &PrimitiveBuffer) -> &[i8] {
         match slots {
-            Slots::I8(items) => items.as_slice(),
+            PrimitiveBuffer::I8(items) => items.as_slice(),
             _ => unreachable!(),
         }
     }
 
-    fn into_slots(items: Vec<i8>) -> Slots
+    fn into_buffer(items: Vec<i8>) -> PrimitiveBuffer
         ensures slots { integers_of result ≡ map (λ z. z) items.items }
         ensures typed { ptype_of result ≡ types.I8 }
     {
-        Slots::I8(items)
+        PrimitiveBuffer::I8(items)
     }
 
     fn into_pvalue(self) -> PValue {
@@ -339,20 +378,24 @@ impl NativePType for i16 {
         num_traits::cast(value)
     }
 
-    fn in_range(self) {}
+    fn unsigned_abs(self) -> u64 {
+        i16::unsigned_abs(self) as u64
+    }
 
-    fn as_slice(slots: &Slots) -> &[i16] {
+    fn prove_in_range(self) {}
+
+    fn as_slice(slots: &PrimitiveBuffer) -> &[i16] {
         match slots {
-            Slots::I16(items) => items.as_slice(),
+            PrimitiveBuffer::I16(items) => items.as_slice(),
             _ => unreachable!(),
         }
     }
 
-    fn into_slots(items: Vec<i16>) -> Slots
+    fn into_buffer(items: Vec<i16>) -> PrimitiveBuffer
         ensures slots { integers_of result ≡ map (λ z. z) items.items }
         ensures typed { ptype_of result ≡ types.I16 }
     {
-        Slots::I16(items)
+        PrimitiveBuffer::I16(items)
     }
 
     fn into_pvalue(self) -> PValue {
@@ -389,20 +432,24 @@ impl NativePType for i32 {
         num_traits::cast(value)
     }
 
-    fn in_range(self) {}
+    fn unsigned_abs(self) -> u64 {
+        i32::unsigned_abs(self) as u64
+    }
 
-    fn as_slice(slots: &Slots) -> &[i32] {
+    fn prove_in_range(self) {}
+
+    fn as_slice(slots: &PrimitiveBuffer) -> &[i32] {
         match slots {
-            Slots::I32(items) => items.as_slice(),
+            PrimitiveBuffer::I32(items) => items.as_slice(),
             _ => unreachable!(),
         }
     }
 
-    fn into_slots(items: Vec<i32>) -> Slots
+    fn into_buffer(items: Vec<i32>) -> PrimitiveBuffer
         ensures slots { integers_of result ≡ map (λ z. z) items.items }
         ensures typed { ptype_of result ≡ types.I32 }
     {
-        Slots::I32(items)
+        PrimitiveBuffer::I32(items)
     }
 
     fn into_pvalue(self) -> PValue {
@@ -439,20 +486,24 @@ impl NativePType for i64 {
         num_traits::cast(value)
     }
 
-    fn in_range(self) {}
+    fn unsigned_abs(self) -> u64 {
+        i64::unsigned_abs(self)
+    }
 
-    fn as_slice(slots: &Slots) -> &[i64] {
+    fn prove_in_range(self) {}
+
+    fn as_slice(slots: &PrimitiveBuffer) -> &[i64] {
         match slots {
-            Slots::I64(items) => items.as_slice(),
+            PrimitiveBuffer::I64(items) => items.as_slice(),
             _ => unreachable!(),
         }
     }
 
-    fn into_slots(items: Vec<i64>) -> Slots
+    fn into_buffer(items: Vec<i64>) -> PrimitiveBuffer
         ensures slots { integers_of result ≡ map (λ z. z) items.items }
         ensures typed { ptype_of result ≡ types.I64 }
     {
-        Slots::I64(items)
+        PrimitiveBuffer::I64(items)
     }
 
     fn into_pvalue(self) -> PValue {

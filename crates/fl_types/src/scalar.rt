@@ -4,7 +4,7 @@ ghost use Rattle.std.specs.Prelude.{◌≡◌, ◌↔◌, IsTrue, IsSome, None, 
 ghost use Rattle.fl_types.specs.declared.dtype.DType.TheVariants.{Primitive, Bool};
 ghost use Rattle.fl_types.specs.declared.dtype.Nullability.TheVariants.{Nullable};
 ghost use Rattle.fl_types.specs.Types.{integer_type, with_nullability};
-ghost use Rattle.fl_types.specs.Values.{cell_of, integer_of, ptype_of_value, truth_number};
+ghost use Rattle.fl_types.specs.Values.{scalar_parts, integer_of, ptype_of_value, bool_number};
 
 use crate::dtype::{DType, Nullability, PType};
 
@@ -45,6 +45,22 @@ impl PValue {
             PValue::I64(_) => PType::I64,
         }
     }
+
+    /// The integer, as an `i128`, which holds those of the eight types.
+    pub fn as_i128(self) -> i128
+        ensures { result ≡ integer_of self }
+    {
+        match self {
+            PValue::U8(x) => x as i128,
+            PValue::U16(x) => x as i128,
+            PValue::U32(x) => x as i128,
+            PValue::U64(x) => x as i128,
+            PValue::I8(x) => x as i128,
+            PValue::I16(x) => x as i128,
+            PValue::I32(x) => x as i128,
+            PValue::I64(x) => x as i128,
+        }
+    }
 }
 
 /// A value of a type, or a null. A null's type is nullable.
@@ -52,32 +68,32 @@ impl PValue {
 pub enum Scalar {
     /// An integer, and whether a null may stand in its place.
     Integer(PValue, Nullability),
-    /// A truth value, and whether a null may stand in its place.
+    /// A boolean, and whether a null may stand in its place.
     Truth(bool, Nullability),
     /// A null in place of an integer of this type.
     NullInteger(PType),
-    /// A null in place of a truth value.
+    /// A null in place of a boolean.
     NullTruth,
 }
 
 impl Scalar {
     /// An integer.
     pub fn primitive(value: PValue, nullability: Nullability) -> Scalar
-        ensures { cell_of result ≡ record { dtype = Primitive (ptype_of_value value) nullability; value = Some (integer_of value) } }
+        ensures { scalar_parts result ≡ record { dtype = Primitive (ptype_of_value value) nullability; value = Some (integer_of value) } }
     {
         Scalar::Integer(value, nullability)
     }
 
-    /// A truth value.
+    /// A boolean.
     pub fn bool(value: bool, nullability: Nullability) -> Scalar
-        ensures { cell_of result ≡ record { dtype = Bool nullability; value = Some (truth_number value) } }
+        ensures { scalar_parts result ≡ record { dtype = Bool nullability; value = Some (bool_number value) } }
     {
         Scalar::Truth(value, nullability)
     }
 
     /// A null, whose type is this one made nullable.
     pub fn null(dtype: DType) -> Scalar
-        ensures { cell_of result ≡ record { dtype = with_nullability Nullable dtype; value = None } }
+        ensures { scalar_parts result ≡ record { dtype = with_nullability Nullable dtype; value = None } }
     {
         match dtype {
             DType::Primitive(ptype, _) => Scalar::NullInteger(ptype),
@@ -87,7 +103,7 @@ impl Scalar {
 
     /// The type.
     pub fn dtype(self) -> DType
-        ensures { result ≡ (cell_of self).dtype }
+        ensures { result ≡ (scalar_parts self).dtype }
     {
         match self {
             Scalar::Integer(value, nullability) => DType::Primitive(value.ptype(), nullability),
@@ -99,16 +115,16 @@ impl Scalar {
 
     /// Whether it is a null.
     pub fn is_null(self) -> bool
-        ensures { result ≡ is_none (cell_of self).value }
+        ensures { result ≡ is_none (scalar_parts self).value }
     {
         matches!(self, Scalar::NullInteger(_) | Scalar::NullTruth)
     }
 
-    /// The integer, or `None` of a null or a truth value.
+    /// The integer, or `None` of a null or a boolean.
     pub fn as_pvalue(self) -> Option<PValue>
-        ensures value { IfSome result (λ v. (cell_of self).value ≡ Some (integer_of v)) }
-        ensures typed { IfSome result (λ v. integer_type (cell_of self).dtype ≡ Some (ptype_of_value v)) }
-        ensures found { IsSome result ↔ (IsSome (integer_type (cell_of self).dtype) × IsSome (cell_of self).value) }
+        ensures value { IfSome result (λ v. (scalar_parts self).value ≡ Some (integer_of v)) }
+        ensures typed { IfSome result (λ v. integer_type (scalar_parts self).dtype ≡ Some (ptype_of_value v)) }
+        ensures found { IsSome result ↔ (IsSome (integer_type (scalar_parts self).dtype) × IsSome (scalar_parts self).value) }
     {
         match self {
             Scalar::Integer(value, _) => Some(value),
@@ -116,10 +132,10 @@ impl Scalar {
         }
     }
 
-    /// The truth value, or `None` of a null or an integer.
+    /// The boolean, or `None` of a null or an integer.
     pub fn as_bool(self) -> Option<bool>
-        ensures value { IfSome result (λ b. (cell_of self).value ≡ Some (truth_number b)) }
-        ensures found { IsSome result ↔ ((integer_type (cell_of self).dtype ≡ None) × IsSome (cell_of self).value) }
+        ensures value { IfSome result (λ b. (scalar_parts self).value ≡ Some (bool_number b)) }
+        ensures found { IsSome result ↔ ((integer_type (scalar_parts self).dtype ≡ None) × IsSome (scalar_parts self).value) }
     {
         match self {
             Scalar::Truth(value, _) => Some(value),

@@ -57,7 +57,7 @@ impl Validity {
         }
     }
 
-    /// Whether it is one for so many items: a list has a bit for each, the other forms fit any number.
+    /// Whether it is one for this many items: a list has a bit for each, the other forms fit any number.
     pub fn covers(&self, len: usize) -> bool
         ensures { result ≡ covers self.now len }
     {
@@ -67,7 +67,7 @@ impl Validity {
         }
     }
 
-    /// Whether the item at an index is no null.
+    /// Whether the item at an index is not null.
     pub fn is_valid(&self, i: usize, len: usize) -> bool
         requires covers { IsTrue (covers self.now len) }
         requires range { i < len }

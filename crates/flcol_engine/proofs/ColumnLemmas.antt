@@ -1,74 +1,68 @@
--- Blocks of items and of bytes.
-use Rattle.std.proofs.Common.{◌≡◌, ℕ, ◌+◌, ◌*◌, ◌-◌, ◌<◌, ◌≤◌, List, ◌++◌, length, take, drop, get_or, map, arith, refl, sym, suc, add-one, ap, subst, ◌∙◌, inl, inr}
-use Rattle.std.specs.Prelude.{slice_index}
-use Rattle.std.specs.Int.{bit_at}
-use Rattle.std.proofs.lemmas.Bool.{cases_lt, cases_eq}
-use Rattle.std.proofs.lemmas.List.{get_or-map, get_or-take, get_or_past, length-map, length-take, length-append, length-drop, drop-map, drop-append-le, take-append-le, take_all}
-use Rattle.std.proofs.Math.Seq.{drop-append_seam}
-use Rattle.std.proofs.Math.Nat.{mul-le-mul_left, mul-suc}
-use Rattle.fastlanes.specs.Layout.{place, pattern_at, word_at, Packed}
-use Rattle.flcol_engine.specs.Column.{block_of}
-use Rattle.flcol_engine.proofs.SliceLemmas.{from_index}
+-- The plain array of a column has this column.
+use Rattle.std.proofs.Common.{◌≡◌, ℤ, pos, Bool, true, false, not, cond, ◌||◌, List, [], ◌∷◌, map, None, Some, refl, ap}
+use Rattle.std.specs.Prelude.{Option, is_some, unwrap_or, IsTrue}
+use Rattle.std.specs.List.{list_all}
+use Rattle.fl_types.specs.declared.dtype.DType.TheVariants.{Primitive}
+use Rattle.fl_types.specs.declared.dtype.Nullability.{Nullability}
+use Rattle.fl_types.specs.declared.dtype.Nullability.TheVariants.{NonNullable, Nullable}
+use Rattle.fl_types.specs.declared.dtype.PType.{PType}
+use Rattle.fl_types.specs.declared.validity.Validity.TheVariants as valid
+use Rattle.fl_types.specs.Integers.{fits}
+use Rattle.fl_types.specs.Types.{can_be_null}
+use Rattle.fl_types.specs.Validities.{items_of, masked, nullability_of}
+use Rattle.fl_column.specs.Columns.{column_of_primitive, is_column, option_all}
+use Rattle.fl_column.proofs.ListLaws.{and_second}
+use Rattle.flcol_engine.specs.Text.{primitive_of_column, validity_of_bits}
 
--- an item that is there
-pub item_read : {W : Type 0} (pattern : W → ℕ) (items : List W) (i : ℕ) (x : W) → i < length items → x ≡ get_or items i x → pattern x ≡ slice_index (map pattern items) i
-item_read pattern items i x h e = ap pattern e ∙ sym (get_or-map pattern items i x 0 h)
+-- the slot of an item
+abbrev pub slot : Option ℤ → ℤ
+slot item = unwrap_or item (pos 0)
 
--- no item is there
-pub no_item : {W : Type 0} (pattern : W → ℕ) (items : List W) (i : ℕ) (x : W) → length items ≤ i → pattern x ≡ 0 → pattern x ≡ slice_index (map pattern items) i
-no_item pattern items i x h e = e ∙ sym (get_or_past (map pattern items) i 0 (rw length-map h))
+no_nulls : (items : List (Option ℤ)) → list_all is_some items ≡ true → map (λ z. Some z) (map slot items) ≡ items
+no_nulls [] h = refl
+no_nulls (Some z ∷ items) h = ap (λ xs. Some z ∷ xs) (no_nulls items h)
+no_nulls (None ∷ items) h = cc
 
--- a block whose items are filled in has no others
-pub block_filled : {W : Type 0} (pattern : W → ℕ) (block : List W) (items : List ℕ) → length block ≡ 1024
-    → ((i : ℕ) → i < 1024 → pattern_at pattern block i ≡ slice_index items i)
-    → (i : ℕ) → pattern_at pattern block i ≡ slice_index (take 1024 items) i
-unfolding pattern_at
-block_filled pattern block items whole filled i =
-    elim (cases_lt i 1024) [
-      | inl below ↦ filled i below ∙ sym (get_or-take 1024 items i 0 below)
-      | inr above ↦ get_or_past (map pattern block) i 0 (rw (length-map, whole) above) ∙ sym (get_or_past (take 1024 items) i 0 (omega (arith, length-take 1024 items)))
-    ]
+only_nulls : (items : List (Option ℤ)) → list_all not (map (λ i. is_some i) items) ≡ true → map (λ z. None) (map slot items) ≡ items
+only_nulls [] h = refl
+only_nulls (Some z ∷ items) h = cc
+only_nulls (None ∷ items) h = ap (λ xs. None ∷ xs) (only_nulls items h)
 
--- the items of block j, as they are read
-pub block_read : {W : Type 0} (pattern : W → ℕ) (items : List W) (j : ℕ) → block_of 1024 (map pattern items) j ≡ take 1024 (map pattern (take (length items - 1024 * j) (drop (1024 * j) items)))
-block_read pattern items j = rw (from_index items (1024 * j)) (ap (take 1024) (drop-map pattern (1024 * j) items))
+by_bits : (items : List (Option ℤ)) → masked (map (λ i. is_some i) items) (map slot items) ≡ items
+by_bits [] = refl
+by_bits (Some z ∷ items) = ap (λ xs. Some z ∷ xs) (by_bits items)
+by_bits (None ∷ items) = ap (λ xs. None ∷ xs) (by_bits items)
 
-block_kept : (size : ℕ) (bytes new : List ℕ) (k : ℕ) → size * k + size ≤ length bytes → block_of size (bytes ++ new) k ≡ block_of size bytes k
-block_kept size bytes new k h = rw (drop-append-le (size * k) bytes new (omega arith)) (take-append-le size (drop (size * k) bytes) new (omega (arith, length-drop (size * k) bytes)))
+all_bits : (items : List (Option ℤ)) → list_all (λ bit. bit) (map (λ i. is_some i) items) ≡ list_all is_some items
+all_bits [] = refl
+all_bits (Some z ∷ items) = all_bits items
+all_bits (None ∷ items) = refl
 
-block_new : (size : ℕ) (bytes new : List ℕ) (j : ℕ) → length bytes ≡ size * j → length new ≡ size → block_of size (bytes ++ new) j ≡ new
-block_new size bytes new j e f = rw (← e, drop-append_seam) (take_all size new (omega (arith, f)))
-
--- one more block
-pub block_added : (P : ℕ → List ℕ → Type 0) (size : ℕ) (bytes new : List ℕ) (j : ℕ) → length bytes ≡ size * j → length new ≡ size
-    → ((k : ℕ) → k < j → P k (block_of size bytes k)) → P j new
-    → (k : ℕ) → k < j + 1 → P k (block_of size (bytes ++ new) k)
-block_added P size bytes new j e f done here k below =
-    elim (cases_eq k j) [
-      | inl same ↦ subst (λ (m : ℕ). P m (block_of size (bytes ++ new) m)) (sym same) (subst (P j) (sym (block_new size bytes new j e f)) here)
-      | inr other ↦ subst (P k) (sym (block_kept size bytes new k (kept_room size j k (length bytes) e (omega arith)))) (done k (omega arith))
-    ]
+items_back : (n : Nullability) (items : List (Option ℤ)) → (can_be_null n || list_all is_some items) ≡ true → items_of (validity_of_bits n (map (λ i. is_some i) items)) (map slot items) ≡ items
+items_back NonNullable items h = no_nulls items h
+items_back Nullable items h = at_tests _ _ (λ p. no_nulls items (all_bits_are p)) (only_nulls items)
   where
-    kept_room : (size j k n : ℕ) → n ≡ size * j → k < j → size * k + size ≤ n
-    kept_room size j k n e h = let at_least : size * suc k ≤ size * j = mul-le-mul_left size (omega arith) in
-        let next : size * suc k ≡ size * k + size = mul-suc size k in
-        omega arith
+    all_bits_are : list_all (λ bit. bit) (map (λ i. is_some i) items) ≡ true → list_all is_some items ≡ true
+    all_bits_are p = rw all_bits at p
 
--- a block is packed from the items that were filled in
-pub block_packed : (T lanes width : ℕ) (items read word : ℕ → ℕ) → Packed T lanes width read word → ((i : ℕ) → read i ≡ items i) → Packed T lanes width items word
-block_packed T lanes width items read word packed same = record { bits = λ r l b p q h. ap (λ (x : ℕ). bit_at x b) (sym (same (place r l))) ∙ packed.bits r l b p q h }
+    at_tests : (p q : Bool) → (p ≡ true → map (λ z. Some z) (map slot items) ≡ items) → (q ≡ true → map (λ z. None) (map slot items) ≡ items)
+        → items_of (cond p valid.AllValid (cond q valid.AllInvalid (valid.Array (map (λ i. is_some i) items)))) (map slot items) ≡ items
+    at_tests true q full empty = full refl
+    at_tests false true full empty = empty refl
+    at_tests false false full empty = by_bits items
 
--- one more packed block
-pub packed_added : {W : Type 0} (pattern : W → ℕ) (T lanes width : ℕ) (items : List W) (bytes new more : List ℕ) (j : ℕ) → more ≡ bytes ++ new
-    → length bytes ≡ 128 * width * j → length new ≡ 128 * width
-    → ((k : ℕ) → k < j → Packed T lanes width (slice_index (block_of 1024 (map pattern items) k)) (word_at T (block_of (128 * width) bytes k)))
-    → Packed T lanes width (slice_index (take 1024 (map pattern (take (length items - 1024 * j) (drop (1024 * j) items))))) (word_at T new)
-    → (k : ℕ) → k < j + 1 → Packed T lanes width (slice_index (block_of 1024 (map pattern items) k)) (word_at T (block_of (128 * width) more k))
-packed_added pattern T lanes width items bytes new more j e size new_size done here k below = rw e (block_added
-    (λ (k : ℕ) (bs : List ℕ). Packed T lanes width (slice_index (block_of 1024 (map pattern items) k)) (word_at T bs))
-    (128 * width) bytes new j size new_size done
-    (subst (λ (xs : List ℕ). Packed T lanes width (slice_index xs) (word_at T new)) (sym (block_read pattern items j)) here) k below)
+nullability_back : (n : Nullability) (bits : List Bool) → nullability_of (validity_of_bits n bits) ≡ n
+nullability_back NonNullable bits = refl
+nullability_back Nullable bits = at_tests (list_all (λ bit. bit) bits) (list_all not bits)
+  where
+    at_tests : (p q : Bool) → nullability_of (cond p valid.AllValid (cond q valid.AllInvalid (valid.Array bits))) ≡ Nullable
+    at_tests true q = refl
+    at_tests false true = refl
+    at_tests false false = refl
 
--- the bytes of one more block
-pub size_added : (size j : ℕ) (bytes new more : List ℕ) → more ≡ bytes ++ new → length bytes ≡ size * j → length new ≡ size → length more ≡ size * (j + 1)
-size_added size j bytes new more e old added = rw (e, length-append, old, added, add-one, mul-suc) refl
+-- the array that a column is read into has the column
+pub column_back : (ptype : PType) (n : Nullability) (items : List (Option ℤ)) → IsTrue (is_column (record { dtype = Primitive ptype n; items = items }))
+    → column_of_primitive (primitive_of_column (record { dtype = Primitive ptype n; items = items })) ≡ record { dtype = Primitive ptype n; items = items }
+column_back ptype n items is =
+    let nulls = and_second (list_all (option_all (fits ptype)) items) (can_be_null n || list_all is_some items) is in
+    rw (nullability_back n (map (λ i. is_some i) items), items_back n items nulls) refl

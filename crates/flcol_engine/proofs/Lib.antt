@@ -1,6 +1,7 @@
 pub mod SliceLemmas
 pub mod EndLemmas
 pub mod TextLemmas
+pub mod IntegerLemmas
+pub mod ParseLemmas
 pub mod ColumnLemmas
-pub mod EngineLemmas
 pub mod PrintLemmas

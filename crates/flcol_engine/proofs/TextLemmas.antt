@@ -1,13 +1,13 @@
--- Lines, digits and items.
-use Rattle.std.proofs.Common.{◌≡◌, ◌≢◌, ℕ, eqb, ◌+◌, ◌-◌, ◌*◌, ◌<◌, ◌≤◌, List, [], ◌∷◌, ◌++◌, length, get_or, take, drop, zero, suc, arith, refl, sym, ap, ◌∙◌, Bool, true, false, cond, None, Some, add-one, drop-cons, append_assoc}
-use Rattle.std.specs.Prelude.{Option, option_map, nat_lt, nat_le, ◌&&◌}
+-- Lines and the numbers that digits write.
+use Rattle.std.proofs.Common.{◌≡◌, ◌≢◌, ℕ, eqb, ◌+◌, ◌-◌, ◌*◌, ◌<◌, ◌≤◌, List, [], ◌∷◌, length, get_or, take, drop, zero, suc, arith, refl, sym, ap, ◌∙◌, Bool, true, false, cond, None, Some, add-one, drop-cons}
+use Rattle.std.specs.Prelude.{option_and_then, nat_lt, nat_le, ◌&&◌}
 use Rattle.std.proofs.lemmas.Bool.{eq-eqb, eqb-false, ne_eqb, le-leb, lt-ltb}
 use Rattle.std.proofs.lemmas.List.{drop_all}
 use Rattle.std.proofs.lemmas.Bool.Decides.{nat_tests}
 use Rattle.std.specs.Str.{all_ascii_digits}
 use Rattle.std.specs.Char.{is_ascii_digit, digit_value}
 use Rattle.std.specs.Str.Parse.{digits_value, digits_value_after}
-use Rattle.flcol_engine.specs.Text.{lines_of, number_up_to, items_of, item_of}
+use Rattle.flcol_engine.specs.Text.{lines_of, number_up_to}
 
 -- the first line feed ends the first line
 pub line_ends : (text : List ℕ) (i : ℕ) → i < length text → ((k : ℕ) → k < i → get_or text k 0 ≢ 10) → get_or text i 0 ≡ 10 → lines_of text ≡ take i text ∷ lines_of (drop (i + 1) text)
@@ -43,13 +43,14 @@ grows n [] = omega arith
 grows n (c ∷ cs) = omega (arith, grows (n * 10 + digit_value c) cs)
 
 above : (max : ℕ) (ds : List ℕ) → max < digits_value 10 ds → number_up_to max ds ≡ None
-above max ds large = let not_le : nat_le (digits_value 10 ds) max ≡ false = ltb-false_le max (digits_value 10 ds) large in at_tests (nat_lt 0 (length ds)) (all_ascii_digits ds) (nat_le (digits_value 10 ds) max) not_le
+above max ds large = at_test (nat_lt 0 (length ds) && all_ascii_digits ds)
   where
-    ltb-false_le : (m d : ℕ) → m < d → nat_le d m ≡ false
-    ltb-false_le m d h = grind (arith, nat_tests)
+    not_within : (m d : ℕ) → m < d → nat_le d m ≡ false
+    not_within m d h = grind (arith, nat_tests)
 
-    at_tests : (p q r : Bool) → r ≡ false → cond (p && q && r) (Some (digits_value 10 ds)) None ≡ None
-    at_tests p q r e = grind arith
+    at_test : (p : Bool) → option_and_then (λ n. cond (nat_le n max) (Some n) None) (cond p (Some (digits_value 10 ds)) None) ≡ None
+    at_test true = rw (not_within max (digits_value 10 ds) large) refl
+    at_test false = refl
 
 digit_range : (c : ℕ) → is_ascii_digit c ≡ true → (48 ≤ c) × (c ≤ 57)
 digit_range c e = (grind (arith, nat_tests), grind (arith, nat_tests))
@@ -70,11 +71,11 @@ pub not_digit : (max : ℕ) (ds : List ℕ) (i n : ℕ) → i < length ds → is
 not_digit max ds i n h e r =
     let rest = all_ascii_digits (drop (i + 1) ds) in
     let none : all_ascii_digits ds ≡ false = sym r.digits ∙ (ap all_ascii_digits (one_more ds i h) ∙ ap (λ (b : Bool). b && rest) e) in
-    at_tests (nat_lt 0 (length ds)) (all_ascii_digits ds) (nat_le (digits_value 10 ds) max) none
+    at_tests (nat_lt 0 (length ds)) (all_ascii_digits ds) none
   where
-    at_tests : (p q r : Bool) → q ≡ false → cond (p && q && r) (Some (digits_value 10 ds)) None ≡ None
-    at_tests true q r e = rw e refl
-    at_tests false q r e = refl
+    at_tests : (p q : Bool) → q ≡ false → option_and_then (λ n. cond (nat_le n max) (Some n) None) (cond (p && q) (Some (digits_value 10 ds)) None) ≡ None
+    at_tests true q e = rw e refl
+    at_tests false q e = refl
 
 -- one more digit
 pub next_digit : (ds : List ℕ) (i n d : ℕ) → i < length ds → is_ascii_digit (get_or ds i 0) ≡ true → d ≡ get_or ds i 0 - 48 → IsReading ds i n → IsReading ds (i + 1) (n * 10 + d)
@@ -98,19 +99,3 @@ number_read max ds i n other end small r =
     let value : n ≡ digits_value 10 ds = sym (ap (digits_value_after 10 n) (drop_all i ds end)) ∙ r.value in
     let digits : true ≡ all_ascii_digits ds = sym (ap all_ascii_digits (drop_all i ds end)) ∙ r.digits in
     rw (lt-ltb 0 (length ds) some, ← digits, ← value, le-leb n max small) refl
-
--- the items so far, and then those
-abbrev pub with_front : List ℕ → Option (List ℕ) → Option (List ℕ)
-with_front front items = option_map (λ xs. front ++ xs) items
-
--- one more item
-pub one_item : (max : ℕ) (front : List ℕ) (line : List ℕ) (lines : List (List ℕ)) (item : ℕ) → item_of max line ≡ Some item → with_front front (items_of max (line ∷ lines)) ≡ with_front (front ++ item ∷ []) (items_of max lines)
-one_item max front line lines item e = rw e (at_items (items_of max lines))
-  where
-    at_items : (items : Option (List ℕ)) → with_front front (option_map (λ xs. item ∷ xs) items) ≡ with_front (front ++ item ∷ []) items
-    at_items None = refl
-    at_items (Some xs) = ap Some (sym (append_assoc front (item ∷ []) xs))
-
--- a line that says no number
-pub no_item : (max : ℕ) (front : List ℕ) (line : List ℕ) (lines : List (List ℕ)) → item_of max line ≡ None → with_front front (items_of max (line ∷ lines)) ≡ None
-no_item max front line lines e = rw e refl

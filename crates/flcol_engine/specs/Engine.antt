@@ -1,65 +1,60 @@
 -- What the contracts of a whole run say.
-use Rattle.std.specs.Prelude.{◌≡◌, ◌≢◌, ℕ, ◌-◌, ◌/◌, ◌^◌, List, Option, if◌then◌else◌, nat_lt, ok_or, IsOkAnd, Result, Ok, Err, ⊤}
+use Rattle.std.specs.Prelude.{◌≡◌, ◌≢◌, ℕ, List, Option, if◌then◌else◌, nat_lt, IsOkAnd, Result, Ok, Err, ⊤}
+use Rattle.std.specs.Option.{option_map_or}
 use Rattle.std.specs.Io.KnownBytes.{Appends, Keeps, IsAtEnd}
-use Rattle.flcol_engine.specs.declared.words.ColumnType.{ColumnType}
-use Rattle.flcol_engine.specs.declared.words.ColumnType.TheVariants.{U8, U16, U32, U64}
+use Rattle.fl_types.specs.declared.error.FastLanesError.TheVariants as errors
+use Rattle.fl_types.specs.Integers.{bits_of_type}
+use Rattle.fl_column.specs.Columns.{Column, integers_in, ptype_of_column}
+use Rattle.fl_bitpacking.specs.Blocks.{ArePacked, global_blocks}
+use Rattle.flcol_engine.specs.declared.words.Pack.{Pack}
 use Rattle.flcol_engine.specs.declared.fault.Fault.{Fault}
 use Rattle.flcol_engine.specs.declared.fault.Fault.TheVariants as faults
 use Rattle.flcol_engine.specs.Ends.{AppendsFront}
-use Rattle.flcol_engine.specs.Text.{column_of}
-use Rattle.flcol_engine.specs.Column.{IsPackedColumn}
+use Rattle.flcol_engine.specs.Faults.{out_of_memory}
+use Rattle.flcol_engine.specs.Text.{column_in_text}
 
--- the bits of an item
-abbrev pub bits_of : ColumnType → ℕ
-bits_of U8 = 8
-bits_of U16 = 16
-bits_of U32 = 32
-bits_of U64 = 64
+-- what a call returned stands in this relation to what is expected, or is the expected fault, unless memory ran out
+abbrev pub IsOutcome : {X Y : Type 0} → (Y → X → Type 0) → Result X Fault → Result Y Fault → Type 0
+IsOutcome Means (Ok x) expected = IsOkAnd expected (λ y. Means y x)
+IsOutcome Means (Err e) expected = e ≢ out_of_memory → expected ≡ Err e
 
--- what a call returned stands in this relation to what is expected, unless memory ran out
-abbrev pub Gives : {X Y : Type 0} → (Y → X → Type 0) → Result X Fault → Result Y Fault → Type 0
-Gives Means (Ok x) expected = IsOkAnd expected (λ y. Means y x)
-Gives Means (Err e) expected = e ≢ faults.OutOfMemory → expected ≡ Err e
+-- ---- pack
+-- the column that a text says and that is packed at a width, or what the packing is refused with
+abbrev pub column_to_pack : Pack → List ℕ → Result Column Fault
+column_to_pack command text =
+    option_map_or (λ c. if nat_lt (bits_of_type command.ptype) command.width then Err (faults.Refused errors.WidthTooLarge) else Ok c)
+    (column_in_text command.ptype command.nullability text) (Err faults.BadColumn)
 
-infixl 10 ◌>>=◌
-abbrev pub ◌>>=◌ : {A B : Type 0} → Result A Fault → (A → Result B Fault) → Result B Fault
-(Ok x) >>= f = f x
-(Err e) >>= f = Err e
+-- these bytes are the packed low bits of a column's integers, with 0 in place of a null
+abbrev pub IsPackedColumn : ℕ → Column → List ℕ → Type 0
+IsPackedColumn width c bytes = ArePacked (ptype_of_column c) (integers_in c) (global_blocks width) bytes
 
--- the column of items of so many bits that a text says, or what its packing is refused with
-abbrev pub column_to_pack : ℕ → ℕ → List ℕ → Result (List ℕ) Fault
-column_to_pack bits width text = ok_or (column_of (2 ^ bits - 1) text) faults.BadColumn >>= λ items.
-    if nat_lt bits width then Err faults.WidthTooLarge else Ok items
+-- known bytes grow by a column's packed bytes
+abbrev pub AppendsPacked : ℕ → Option (List ℕ) → Option (List ℕ) → Column → Type 0
+AppendsPacked width old new c = (bytes : List ℕ) × IsPackedColumn width c bytes × Appends old new bytes
 
--- these bytes are the packing of this column of items of so many bits
-abbrev pub Packs : ℕ → ℕ → List ℕ → List ℕ → Type 0
-Packs bits width items bytes = IsPackedColumn bits (1024 / bits) width items bytes
+-- known bytes grow by some beginning of a column's packed bytes
+abbrev pub AppendsPackedFront : ℕ → Option (List ℕ) → Option (List ℕ) → Column → Type 0
+AppendsPackedFront width old new c = (bytes : List ℕ) × IsPackedColumn width c bytes × AppendsFront old new bytes
 
--- known bytes grow by the packing of this column
-abbrev pub AppendsPacked : ℕ → ℕ → Option (List ℕ) → Option (List ℕ) → List ℕ → Type 0
-AppendsPacked bits width old new items = (out : List ℕ) × Packs bits width items out × Appends old new out
+-- A write fault comes only where there is a column to pack. A read fault and `OutOfMemory` may come with any text, every other fault only where it is expected.
+abbrev pub IsPackRefusal : Fault → Pack → List ℕ → Option (List ℕ) → Option (List ℕ) → Type 0
+IsPackRefusal faults.WriteFault command text old new = IsOkAnd (column_to_pack command text) (AppendsPackedFront command.width old new)
+IsPackRefusal faults.ReadFault command text old new = ⊤
+IsPackRefusal faults.BadColumn command text old new = column_to_pack command text ≡ Err faults.BadColumn
+IsPackRefusal faults.BadContainer command text old new = column_to_pack command text ≡ Err faults.BadContainer
+IsPackRefusal (faults.Refused error) command text old new = error ≢ errors.OutOfMemory → column_to_pack command text ≡ Err (faults.Refused error)
 
--- known bytes grow by some beginning of the packing of this column
-abbrev pub AppendsPackedFront : ℕ → ℕ → Option (List ℕ) → Option (List ℕ) → List ℕ → Type 0
-AppendsPackedFront bits width old new items = (out : List ℕ) × Packs bits width items out × AppendsFront old new out
+-- a run over a source that tells its bytes: its column's packed bytes are written, or the run is refused, and where the sink failed a beginning of the packed bytes is written
+abbrev pub IsPackOutcome : Result (Unit {0}) Fault → Pack → List ℕ → Option (List ℕ) → Option (List ℕ) → Type 0
+IsPackOutcome (Ok _) command text old new = IsOkAnd (column_to_pack command text) (AppendsPacked command.width old new)
+IsPackOutcome (Err e) command text old new = IsPackRefusal e command text old new
 
--- a write fault comes only where there is a column to pack, and any other error but for a read fault and want of memory where it is expected
-abbrev pub Refuses : Fault → ℕ → ℕ → List ℕ → Option (List ℕ) → Option (List ℕ) → Type 0
-Refuses faults.WriteFault bits width input old new = IsOkAnd (column_to_pack bits width input) (AppendsPackedFront bits width old new)
-Refuses faults.BadColumn bits width input old new = column_to_pack bits width input ≡ Err faults.BadColumn
-Refuses faults.WidthTooLarge bits width input old new = column_to_pack bits width input ≡ Err faults.WidthTooLarge
-Refuses faults.ReadFault bits width input old new = ⊤
-Refuses faults.OutOfMemory bits width input old new = ⊤
-
--- a run over a source that tells its bytes: the packing of its column is written, or the run is refused, and where the sink failed a beginning of the packing is written
-abbrev pub Answers : Result (Unit {0}) Fault → ℕ → ℕ → List ℕ → Option (List ℕ) → Option (List ℕ) → Type 0
-Answers (Ok _) bits width input old new = IsOkAnd (column_to_pack bits width input) (AppendsPacked bits width old new)
-Answers (Err e) bits width input old new = Refuses e bits width input old new
-
+-- ---- every command
 -- a run that didn't stop at a read has read all
 abbrev pub ReadsAll : Result (Unit {0}) Fault → Option (List ℕ) → Type 0
 ReadsAll (Ok _) left = IsAtEnd left
-ReadsAll (Err e) left = e ≢ faults.OutOfMemory → e ≢ faults.ReadFault → IsAtEnd left
+ReadsAll (Err e) left = e ≢ out_of_memory → e ≢ faults.ReadFault → IsAtEnd left
 
 -- an error other than a write fault leaves nothing written
 abbrev pub IsSilent : Result (Unit {0}) Fault → Option (List ℕ) → Option (List ℕ) → Type 0

@@ -1,6 +1,5 @@
 pub mod Ends
 pub mod Text
-pub mod Column
-pub mod Refusals
+pub mod Faults
 pub mod Engine
 pub mod Command

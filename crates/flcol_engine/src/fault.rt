@@ -1,25 +1,27 @@
 //! Why a run is refused.
 
 ghost use Rattle.std.specs.Prelude.{◌≡◌};
+ghost use Rattle.fl_types.specs.declared.error.FastLanesError.TheVariants.{OutOfMemory};
 ghost use Rattle.flcol_engine.specs.declared.fault.Fault.TheVariants as faults;
-ghost use Rattle.flcol_engine.specs.Refusals.{number_of, line_of};
+ghost use Rattle.flcol_engine.specs.Faults.{fault_line, fault_number};
 
 use crate::ends::{ReadFault, WriteFault};
 use std::alloc::{AllocError, AllocFailed};
 use thiserror::Error;
+use vortex_fastlanes::FastLanesError;
 
 /// What a run can be refused with. Each has a number, and is shown by its name.
 #[derive(Clone, Copy, Debug, PartialEq, Eq, Error)]
 pub enum Fault {
-    /// A growth of memory was refused.
-    #[error("OutOfMemory")]
-    OutOfMemory,
-    /// The width is above the bits of the column's type.
-    #[error("WidthTooLarge")]
-    WidthTooLarge,
-    /// A line says no number, or none that fits the column's type.
+    /// The library refused it, with this refusal's number and name.
+    #[error("{0}")]
+    Refused(FastLanesError),
+    /// A line says no item of the column's type.
     #[error("BadColumn")]
     BadColumn,
+    /// The bytes are no container.
+    #[error("BadContainer")]
+    BadContainer,
     /// The reader failed.
     #[error("ReadFault")]
     ReadFault,
@@ -31,12 +33,12 @@ pub enum Fault {
 impl Fault {
     /// The fault's number.
     pub fn number(self) -> u8
-        ensures { result ≡ number_of self }
+        ensures { result ≡ fault_number self }
     {
         match self {
-            Fault::OutOfMemory => 1,
-            Fault::WidthTooLarge => 4,
+            Fault::Refused(error) => error.number(),
             Fault::BadColumn => 41,
+            Fault::BadContainer => 42,
             Fault::ReadFault => 43,
             Fault::WriteFault => 44,
         }
@@ -44,31 +46,64 @@ impl Fault {
 
     /// The line that says the fault's number and its name, for which no memory is needed.
     pub fn line(self) -> &'static str
-        ensures { result.now ≡ line_of self }
+        ensures { result.now ≡ fault_line self }
     {
         match self {
-            Fault::OutOfMemory => "error 1 OutOfMemory\n",
-            Fault::WidthTooLarge => "error 4 WidthTooLarge\n",
+            Fault::Refused(error) => refusal_line(error),
             Fault::BadColumn => "error 41 BadColumn\n",
+            Fault::BadContainer => "error 42 BadContainer\n",
             Fault::ReadFault => "error 43 ReadFault\n",
             Fault::WriteFault => "error 44 WriteFault\n",
         }
     }
 }
 
+/// The line of each of these refusals, beside its number.
+macro_rules! lines {
+    ($error:expr; $($number:literal $name:ident)*) => {
+        match $error {
+            $(FastLanesError::$name => concat!("error ", $number, " ", stringify!($name), "\n"),)*
+        }
+    };
+}
+
+/// The line that says the number and the name of a refusal.
+fn refusal_line(error: FastLanesError) -> &'static str
+    ensures { result.now ≡ fault_line (faults.Refused error) }
+{
+    lines!(error;
+        1 OutOfMemory 2 NotInteger 3 NegativeValue 4 WidthTooLarge 5 AllBlocksNative
+        6 BlockCount 7 OffsetTooLarge 8 LengthOverflow 9 ValidityLength 10 PatchType
+        11 PatchLength 12 PatchContent 13 PackedLength 14 BlockOffsetsType 15 BlockOffsetsCount
+        16 BlockBoundary 17 BlockSpan 18 TypeMismatch 19 NullReference 20 ReferenceCount
+        21 NoMinimum 22 ChildNullable 23 ChildLength 24 RangeBeyondChild 25 RunIndexType
+        26 RunOffsets 27 RunIndex 28 TooManyWidths 29 NotGlobal 30 IndexOutOfBounds
+        31 RangeOutOfBounds 32 MaskLength 33 CastNull 34 CastOutOfRange 35 UnknownId
+        36 BadMetadata 37 UnknownType 38 BufferCount 39 ChildCount 40 ChildMismatch
+    )
+}
+
+impl From<FastLanesError> for Fault {
+    ghost from_gives = { λ error fault. fault ≡ faults.Refused error };
+
+    fn from(error: FastLanesError) -> Fault {
+        Fault::Refused(error)
+    }
+}
+
 impl From<AllocError> for Fault {
-    ghost from_gives = { λ _ fault. fault ≡ faults.OutOfMemory };
+    ghost from_gives = { λ _ fault. fault ≡ faults.Refused OutOfMemory };
 
     fn from(_e: AllocError) -> Fault {
-        Fault::OutOfMemory
+        Fault::Refused(FastLanesError::OutOfMemory)
     }
 }
 
 impl<T: Drop> From<AllocFailed<T>> for Fault {
-    ghost from_gives = { λ _ fault. fault ≡ faults.OutOfMemory };
+    ghost from_gives = { λ _ fault. fault ≡ faults.Refused OutOfMemory };
 
     fn from(_e: AllocFailed<T>) -> Fault {
-        Fault::OutOfMemory
+        Fault::Refused(FastLanesError::OutOfMemory)
     }
 }
 

@@ -4,8 +4,6 @@
 pub mod ends;
 pub mod engine;
 pub mod fault;
-pub mod native;
-mod packing;
 pub mod start;
 pub mod text;
 mod transfer;

@@ -3,7 +3,7 @@
 ghost use Rattle.std.specs.Prelude.{◌≡◌, false, map, string_bytes, Result, IfSome, OnOk, IfNone, is_ok, OnErr};
 ghost use Rattle.flcol_engine.specs.declared.fault.Fault.{Fault};
 ghost use Rattle.flcol_engine.specs.Ends.{AppendsUnless};
-ghost use Rattle.flcol_engine.specs.Refusals.{line_of};
+ghost use Rattle.flcol_engine.specs.Faults.{fault_line};
 ghost use Rattle.flcol_engine.specs.Command.{command_of, usage_line, status_of, report_of, IsRun};
 
 use crate::ends::{Sink, Source};
@@ -26,7 +26,7 @@ pub fn usage<E: Sink>(errors: &mut E) -> u8
 pub fn refuse<E: Sink>(errors: &mut E, fault: Fault) -> u8
     requires { E.has_failed errors.old ≡ false }
     ensures status { result ≡ 1 }
-    ensures said { AppendsUnless (E.has_failed errors.new) (E.written errors.old) (E.written errors.new) (line_of fault) }
+    ensures said { AppendsUnless (E.has_failed errors.new) (E.written errors.old) (E.written errors.new) (fault_line fault) }
 {
     let _ = write_all(errors, fault.line().as_bytes());
     1

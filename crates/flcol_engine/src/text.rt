@@ -1,13 +1,21 @@
-//! A column as text: a line for each item.
+//! A column as text: a line for each item, a number or `null`.
 
-ghost use Rattle.std.specs.Prelude.{◌≡◌, ◌-◌, ◌^◌, ◌<◌, ◌≤◌, ◌≢◌, ◌∷◌, ◌++◌, [], List, ℕ, Some, length, map, ok_or, IfSome};
+ghost use Rattle.std.specs.Prelude.{◌≡◌, ◌<◌, ◌≢◌, ◌∷◌, ◌++◌, [], ℕ, ℤ, Bool, IfErr, IfOk, IsTrue, List, OnOk, Option, Some, not, length, map, ok_or, option_map, replicate};
 ghost use Rattle.std.specs.List.{AllByRecursion};
-ghost use Rattle.flcol_engine.specs.Text.{lines_of, number_up_to, item_of, column_of, text_of};
-ghost use Rattle.flcol_engine.specs.Engine.{Gives};
+ghost use Rattle.fl_types.specs.declared.dtype.DType.TheVariants.{Primitive};
+ghost use Rattle.fl_types.specs.declared.dtype.Nullability.{Nullability};
+ghost use Rattle.fl_types.specs.declared.dtype.Nullability.TheVariants.{Nullable};
+ghost use Rattle.fl_types.specs.declared.error.FastLanesError.TheVariants.{OutOfMemory};
+ghost use Rattle.fl_column.specs.Columns.{Column, column_of_primitive, is_column};
+ghost use Rattle.flcol_engine.specs.Text.{AreParts, column_in_text, integer_of_64_bits, integer_of_type, item_in_line, items_text, lines_of, number_up_to, primitive_of_column, validity_of_bits};
+ghost use Rattle.flcol_engine.specs.Engine.{IsOutcome};
 
 use crate::fault::Fault;
-use crate::native::Native;
+use fl_types::match_each_integer_ptype;
 use std::alloc::Global;
+use vortex_fastlanes::{
+    BitList, FastLanesError, NativePType, Nullability, PType, PrimitiveArray, Validity,
+};
 
 /// The first line, without its line feed, and what comes behind it.
 fn first_line(text: &[u8]) -> (&[u8], &[u8])
@@ -35,44 +43,151 @@ pub fn number(digits: &[u8], max: u64) -> Option<u64>
         if !c.is_ascii_digit() {
             return None;
         }
-        let digit = u64::from(*c - b'0');
-        if digit > max || value > (max - digit) / 10 {
+        if value > max / 10 {
             return None;
         }
-        value = value * 10 + digit;
+        let tens = value * 10;
+        let digit = u64::from(*c - b'0');
+        if digit > max - tens {
+            return None;
+        }
+        value = tens + digit;
     }
     Some(value)
 }
 
-/// The number that a line says, where it says one that is at most `max`.
-fn item(line: &[u8], max: u64) -> Option<u64>
-    ensures is { result ≡ item_of max line.now }
-    ensures fits { IfSome result (λ n. n ≤ max) }
+/// The integer that digits write, with a minus before them or not, where it lies between -2^64 and 2^64.
+fn integer(text: &[u8]) -> Option<i128>
+    ensures { result ≡ integer_of_64_bits text.now }
 {
-    match line {
-        [] => None,
-        [b'-', digits @ ..] => number(digits, 0),
-        _ => number(line, max),
+    match text {
+        [b'-', digits @ ..] => Some(-i128::from(number(digits, u64::MAX)?)),
+        _ => Some(i128::from(number(text, u64::MAX)?)),
     }
 }
 
-/// The column that a text says. Refused with `BadColumn` where it says none.
-pub fn parse<W: Native>(alloc: Global, text: &[u8]) -> Result<Vec<W>, Fault>
-    ensures { Gives (λ items v. map W.pattern v.items ≡ items) result
-        (ok_or (column_of (2 ^ W.T - 1) text.now) Fault.BadColumn) }
+/// The same where it is one of the type.
+fn typed_integer<T: NativePType>(text: &[u8]) -> Option<T>
+    ensures { option_map T.value result ≡ integer_of_type T.PTYPE text.now }
 {
-    let max = W::max();
-    let mut items = Vec::new(alloc);
+    let value = integer(text)?;
+    T::from_i128(value)
+}
+
+/// The item that a line says: a null where one may stand, else an integer of the type.
+fn item<T: NativePType>(nullability: Nullability, line: &[u8]) -> Option<Option<T>>
+    ensures { option_map (option_map T.value) result ≡ item_in_line T.PTYPE nullability line.now }
+{
+    if nullability == Nullability::Nullable && line == b"null".as_slice() {
+        return Some(None);
+    }
+    let value = typed_integer(line)?;
+    Some(Some(value))
+}
+
+/// The validity of `len` items that are all null or all not, and of one more that is not as they are.
+fn differing_last(alloc: Global, len: usize, is_valid: bool) -> Result<Validity, FastLanesError>
+    ensures validity { IfOk result (λ v. v ≡ validity_of_bits Nullable (replicate len (not is_valid) ++ is_valid ∷ [])) }
+    ensures memory { IfErr result (λ e. e ≡ OutOfMemory) }
+{
+    if len == 0 {
+        return match is_valid {
+            true => Ok(Validity::AllValid),
+            false => Ok(Validity::AllInvalid),
+        };
+    }
+    let mut bits = BitList::from_fn(alloc, len, |_| !is_valid)?;
+    bits.push(is_valid)?;
+    Ok(Validity::Array(bits))
+}
+
+/// Makes the validity of `len` items that of these and one more.
+#[inline(never)]
+fn extend_bits(
+    alloc: Global,
+    validity: &mut Validity,
+    len: usize,
+    is_valid: bool,
+) -> Result<(), FastLanesError>
+    ensures one_more { OnOk result ((nullability : Nullability) (bits : List Bool) → length bits ≡ len
+        → validity.old ≡ validity_of_bits nullability bits → validity.new ≡ validity_of_bits nullability (bits ++ is_valid ∷ [])) }
+    ensures memory { IfErr result (λ e. e ≡ OutOfMemory) }
+{
+    match validity {
+        Validity::Array(bits) => bits.push(is_valid)?,
+        Validity::AllValid if !is_valid => *validity = differing_last(alloc, len, is_valid)?,
+        Validity::AllInvalid if is_valid => *validity = differing_last(alloc, len, is_valid)?,
+        _ => {}
+    }
+    Ok(())
+}
+
+/// The same, where mostly no item is null.
+fn extend_validity(
+    alloc: Global,
+    validity: &mut Validity,
+    len: usize,
+    is_valid: bool,
+) -> Result<(), FastLanesError>
+    ensures one_more { OnOk result ((nullability : Nullability) (bits : List Bool) → length bits ≡ len
+        → validity.old ≡ validity_of_bits nullability bits → validity.new ≡ validity_of_bits nullability (bits ++ is_valid ∷ [])) }
+    ensures memory { IfErr result (λ e. e ≡ OutOfMemory) }
+{
+    match validity {
+        Validity::NonNullable | Validity::AllValid if is_valid => Ok(()),
+        _ => extend_bits(alloc, validity, len, is_valid),
+    }
+}
+
+/// Adds an item to the slots and the validity of a plain array.
+fn push_item<T: NativePType>(
+    alloc: Global,
+    slots: &mut Vec<T>,
+    validity: &mut Validity,
+    item: Option<T>,
+) -> Result<(), FastLanesError>
+    ensures one_more { OnOk result ((nullability : Nullability) (items : List (Option ℤ)) → AreParts nullability items (map T.value slots.old.items) validity.old
+        → AreParts nullability (items ++ option_map T.value item ∷ []) (map T.value slots.new.items) validity.new) }
+    ensures memory { IfErr result (λ e. e ≡ OutOfMemory) }
+{
+    extend_validity(alloc, validity, slots.len(), item.is_some())?;
+    slots.push(item.unwrap_or(T::zero()))?;
+    Ok(())
+}
+
+#[inline(never)]
+fn parse_typed<T: NativePType>(
+    alloc: Global,
+    nullability: Nullability,
+    text: &[u8],
+) -> Result<PrimitiveArray, Fault>
+    ensures { IsOutcome (λ c array. array ≡ primitive_of_column c) result (ok_or (column_in_text T.PTYPE nullability text.now) Fault.BadColumn) }
+{
+    let mut slots = Vec::new(alloc);
+    let mut validity = Validity::from(nullability);
     let mut rest = text;
     while !rest.is_empty() {
         let (line, next) = first_line(rest);
-        let Some(number) = item(line, max) else {
+        let Some(item) = item::<T>(nullability, line) else {
             return Err(Fault::BadColumn);
         };
-        items.push(W::from_number(number))?;
+        push_item(alloc, &mut slots, &mut validity, item)?;
         rest = next;
     }
-    Ok(items)
+    Ok(PrimitiveArray::new(slots, validity).unwrap())
+}
+
+/// The plain array of the column that a text says: 0 under a null, and validity bits only where some
+/// items are null and some are not. Refused with `BadColumn` where the text says no column of the type.
+pub fn parse(
+    alloc: Global,
+    ptype: PType,
+    nullability: Nullability,
+    text: &[u8],
+) -> Result<PrimitiveArray, Fault>
+    ensures { IsOutcome (λ c array. array ≡ primitive_of_column c) result (ok_or (column_in_text ptype nullability text.now) Fault.BadColumn) }
+{
+    match_each_integer_ptype!(ptype, parse_typed(alloc, nullability, text))
 }
 
 /// A line feed ends a line, and so does the end.
@@ -81,7 +196,14 @@ pub fn line_ends()
     ensures last { (line : List ℕ) → AllByRecursion (λ b. b ≢ 10) line → 0 < length line → lines_of line ≡ line ∷ [] }
 {}
 
-/// A column is read back from its text, whatever its items are.
-pub fn printed_is_read()
-    ensures { (max : ℕ) (items : List ℕ) → max < 2 ^ 64 → AllByRecursion (λ n. n ≤ max) items → column_of max (text_of items) ≡ Some items }
+/// A column of integers that is printed, nulls too, is read back from its text.
+pub fn printed_is_read(ptype: PType, nullability: Nullability)
+    ensures { (items : List (Option ℤ)) → let c : Column = record { dtype = Primitive ptype nullability; items = items } in
+        IsTrue (is_column c) → column_in_text ptype nullability (items_text items) ≡ Some c }
+{}
+
+/// The plain array that a column of integers is read into has this column.
+pub fn read_has_column(ptype: PType, nullability: Nullability)
+    ensures { (items : List (Option ℤ)) → let c : Column = record { dtype = Primitive ptype nullability; items = items } in
+        IsTrue (is_column c) → column_of_primitive (primitive_of_column c) ≡ c }
 {}

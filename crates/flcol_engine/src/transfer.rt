@@ -3,6 +3,7 @@
 ghost use Rattle.std.specs.Prelude.{◌≡◌, ◌↔◌, false, true, IfOk, OnOk, OnErr, IfSome, IsErrOf, IfErr, ◌⊎◌, vec_len};
 ghost use Rattle.std.specs.Io.KnownBytes.{Appends, IsAtEnd};
 ghost use Rattle.flcol_engine.specs.Ends.{Marks, AppendsFront, MarksWhere};
+ghost use Rattle.flcol_engine.specs.Faults.{out_of_memory};
 
 use crate::ends::{Sink, Source, WriteFault};
 use crate::fault::Fault;
@@ -21,7 +22,7 @@ pub fn read_all<S: Source>(alloc: Global, source: &mut S) -> Result<Vec<u8>, Fau
     ensures bytes { IfOk result (λ v. IfSome (S.left source.old) (λ input. v.items ≡ input)) }
     ensures end { OnOk result (IsAtEnd (S.left source.new)) }
     ensures mark { MarksWhere Fault.ReadFault (S.has_failed source.old) (S.has_failed source.new) result }
-    ensures causes { IfErr result (λ e. (e ≡ Fault.ReadFault) ⊎ (e ≡ Fault.OutOfMemory)) }
+    ensures causes { IfErr result (λ e. (e ≡ Fault.ReadFault) ⊎ (e ≡ out_of_memory)) }
 {
     let mut chunk = zeros(alloc, CHUNK)?;
     let mut all = Vec::new(alloc);

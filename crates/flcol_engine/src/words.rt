@@ -1,10 +1,10 @@
 //! The words of a run: `pack TYPE WIDTH`.
 
 ghost use Rattle.std.specs.Prelude.{◌≡◌, map, string_bytes};
-ghost use Rattle.flcol_engine.specs.Text.{number_up_to};
-ghost use Rattle.flcol_engine.specs.Command.{type_of, width_of, command_of, usage_line};
+ghost use Rattle.flcol_engine.specs.Command.{column_type_in_word, command_of, ptype_in_word, usage_line, width_in_word};
 
 use crate::text;
+use vortex_fastlanes::{Nullability, PType};
 
 /// The line that says how the program is called.
 pub fn usage() -> &'static str
@@ -13,47 +13,54 @@ pub fn usage() -> &'static str
     "usage: flcol pack TYPE WIDTH | encode TYPE ENCODING | run OP.. QUERY\n"
 }
 
-/// The type of a column's items.
-#[derive(Clone, Copy, Debug, PartialEq, Eq)]
-pub enum ColumnType {
-    /// Whole numbers below 2^8.
-    U8,
-    /// Whole numbers below 2^16.
-    U16,
-    /// Whole numbers below 2^32.
-    U32,
-    /// Whole numbers below 2^64.
-    U64,
-}
-
 /// The command `pack`: the type of the column, and the bits that are kept of each item.
 #[derive(Clone, Copy, Debug, PartialEq, Eq)]
 pub struct Pack {
-    /// The type of the column's items.
-    pub column_type: ColumnType,
+    /// The integer type of the column's items.
+    pub ptype: PType,
+    /// Whether nulls may stand in the column.
+    pub nullability: Nullability,
     /// The bits that are kept of each item, as the word says; whether the type has as many is judged
     /// when the column has been read.
     pub width: u8,
 }
 
-fn column_type(word: &[u8]) -> Option<ColumnType>
-    ensures { result ≡ type_of word.now }
+fn ptype(word: &[u8]) -> Option<PType>
+    ensures { result ≡ ptype_in_word word.now }
 {
     if word == b"u8".as_slice() {
-        Some(ColumnType::U8)
+        Some(PType::U8)
     } else if word == b"u16".as_slice() {
-        Some(ColumnType::U16)
+        Some(PType::U16)
     } else if word == b"u32".as_slice() {
-        Some(ColumnType::U32)
+        Some(PType::U32)
     } else if word == b"u64".as_slice() {
-        Some(ColumnType::U64)
+        Some(PType::U64)
+    } else if word == b"i8".as_slice() {
+        Some(PType::I8)
+    } else if word == b"i16".as_slice() {
+        Some(PType::I16)
+    } else if word == b"i32".as_slice() {
+        Some(PType::I32)
+    } else if word == b"i64".as_slice() {
+        Some(PType::I64)
     } else {
         None
     }
 }
 
+/// The type of a column: an integer type, and a question mark behind it where nulls may stand.
+fn column_type(word: &[u8]) -> Option<(PType, Nullability)>
+    ensures { result ≡ column_type_in_word word.now }
+{
+    match word {
+        [name @ .., b'?'] => Some((ptype(name)?, Nullability::Nullable)),
+        _ => Some((ptype(word)?, Nullability::NonNullable)),
+    }
+}
+
 fn width(word: &[u8]) -> Option<u8>
-    ensures { result ≡ width_of word.now }
+    ensures { result ≡ width_in_word word.now }
 {
     let width = text::number(word, 255)?;
     Some(width as u8)
@@ -63,13 +70,17 @@ fn width(word: &[u8]) -> Option<u8>
 pub fn command(words: &[String]) -> Option<Pack>
     ensures { result ≡ command_of (map string_bytes words.now) }
 {
-    let [word, kind, size] = words else {
+    let [name, kind, size] = words else {
         return None;
     };
-    if word.as_bytes() != b"pack".as_slice() {
+    if name.as_bytes() != b"pack".as_slice() {
         return None;
     }
-    let column_type = column_type(kind.as_bytes())?;
+    let (ptype, nullability) = column_type(kind.as_bytes())?;
     let width = width(size.as_bytes())?;
-    Some(Pack { column_type, width })
+    Some(Pack {
+        ptype,
+        nullability,
+        width,
+    })
 }

@@ -8,6 +8,7 @@ use flcol_engine::fault::Fault;
 use flcol_engine::start::start;
 use std::alloc::Global;
 use std::io::{Read, Write};
+use vortex_fastlanes::FastLanesError;
 
 const USAGE: &[u8] = b"usage: flcol pack TYPE WIDTH | encode TYPE ENCODING | run OP.. QUERY\n";
 
@@ -49,7 +50,7 @@ impl Outcome {
         self.status == status && self.errors.bytes.as_slice() == line
     }
 
-    /// It wrote so many bytes, of which all are 0 but these.
+    /// It wrote this many bytes, of which all are 0 but these.
     fn has_written(&self, len: usize, others: &[(usize, u8)]) -> bool {
         self.sink.bytes.len() == len && are_zeros_but(&self.sink.bytes, others)
     }
@@ -60,7 +61,7 @@ impl Outcome {
     }
 }
 
-/// Runs the program on these words and this input, so many bytes a call at most.
+/// Runs the program on these words and this input, this many bytes a call at most.
 ///
 /// `failing` has the calls that fail, counted from 0: of the source, of the sink, and of the sink for errors.
 fn run_words(
@@ -120,7 +121,7 @@ fn are_zeros_but(bytes: &[u8], others: &[(usize, u8)]) -> bool {
     true
 }
 
-/// A run packs this input into so many bytes, of which all are 0 but these.
+/// A run packs this input into this many bytes, of which all are 0 but these.
 fn packs(alloc: Global, line: &[&str], input: &[u8], len: usize, others: &[(usize, u8)]) -> bool {
     match run(alloc, line, input, 100, SOUND) {
         Some(got) => got.has_ended(0, b"") && got.has_written(len, others),
@@ -136,7 +137,7 @@ fn refuses(alloc: Global, line: &[&str], input: &[u8], refusal: &[u8]) -> bool {
     }
 }
 
-/// So many lines `0`, and then these, where there is memory for them.
+/// This many lines `0`, and then these, where there is memory for them.
 fn zeros_then(alloc: Global, zeros: usize, lines: &[u8]) -> Option<Vec<u8>> {
     let mut text = Vec::new(alloc);
     for _ in 0..zeros {
@@ -179,9 +180,52 @@ const PACKED: &[Packed] = &[
     ("u64", "1", 16, b"1\n", 128, &[(4, 1)]),
     ("u64", "1", 1, b"1\n", 128, &[(8, 1)]),
     ("u64", "1", 0, b"18446744073709551615\n", 128, &[(0, 1)]),
+    ("i8", "8", 0, b"-1\n-128\n", 1024, &[(0, 255), (1, 128)]),
+    ("i8", "3", 256, b"-1\n", 384, &[(0, 192), (128, 1)]),
+    (
+        "i16",
+        "16",
+        0,
+        b"-2\n127",
+        2048,
+        &[(0, 254), (1, 255), (2, 127)],
+    ),
+    (
+        "i32",
+        "4",
+        0,
+        b"-1\n5\n-8\n",
+        512,
+        &[(0, 15), (4, 5), (8, 8)],
+    ),
+    ("i64", "1", 16, b"-1\n", 128, &[(4, 1)]),
+    ("i64", "64", 0, b"-9223372036854775808", 8192, &[(7, 128)]),
 ];
 
-/// A column of bytes at width 8, whose one number has this value.
+/// Nulls, which pack as 0.
+const NULLS: &[Packed] = &[
+    ("u8?", "1", 0, b"1\nnull\n1\n", 128, &[(0, 1), (2, 1)]),
+    ("u8?", "8", 0, b"", 0, &[]),
+    ("u8?", "8", 0, b"null", 1024, &[]),
+    ("u8?", "8", 0, b"null\nnull\n7\n", 1024, &[(2, 7)]),
+    (
+        "u16?",
+        "16",
+        0,
+        b"65535\nnull\n",
+        2048,
+        &[(0, 255), (1, 255)],
+    ),
+    ("u32?", "2", 0, b"1\nnull\n3\n", 256, &[(0, 1), (8, 3)]),
+    ("u64?", "1", 16, b"1\nnull\n", 128, &[(4, 1)]),
+    ("i8?", "8", 0, b"null\n-1\n", 1024, &[(1, 255)]),
+    ("i16?", "1", 1023, b"-1\nnull\n", 256, &[(127, 128)]),
+    ("i32?", "4", 0, b"-1\nnull\n-8\n", 512, &[(0, 15), (8, 8)]),
+    ("i64?", "1", 0, b"null\n-1\n", 128, &[(8, 1)]),
+    ("i64?", "64", 0, b"null\nnull", 8192, &[]),
+];
+
+/// A column at width 8, whose one number has this value.
 const NUMBERS: &[Packed] = &[
     ("u8", "8", 0, b"1", 1024, &[(0, 1)]),
     ("u8", "8", 0, b"1\n", 1024, &[(0, 1)]),
@@ -205,6 +249,10 @@ const NUMBERS: &[Packed] = &[
     ("u8", "8", 0, b"-0\n", 1024, &[]),
     ("u8", "8", 0, b"-00", 1024, &[]),
     ("u8", "8", 0, b"255", 1024, &[(0, 255)]),
+    ("i8", "8", 0, b"127", 1024, &[(0, 127)]),
+    ("i8", "8", 0, b"-0", 1024, &[]),
+    ("i8", "8", 0, b"-0000128\n", 1024, &[(0, 128)]),
+    ("i8?", "8", 0, b"-007\n", 1024, &[(0, 249)]),
 ];
 
 /// No items, which take no bytes at any width.
@@ -245,6 +293,11 @@ fn packs_blocks(rt: HostRuntime) {
 }
 
 #[test]
+fn packs_nulls(rt: HostRuntime) {
+    assert!(rt; packs_all(rt.alloc(), NULLS));
+}
+
+#[test]
 fn reads_numbers(rt: HostRuntime) {
     assert!(rt; packs_all(rt.alloc(), NUMBERS));
 }
@@ -282,6 +335,49 @@ const COLUMNS: &[Refused] = &[
     ("u16", &["0", "255"], b"65536\n"),
     ("u8", &["0", "255"], b"256\n"),
     ("u8", &["0", "255"], b"0\n1\n-2"),
+    ("i8", &["0", "255"], b"128\n"),
+    ("i8", &["0", "255"], b"-129\n"),
+    ("i16", &["0", "255"], b"32768\n"),
+    ("i16", &["0", "255"], b"-32769\n"),
+    ("i32", &["0", "255"], b"2147483648\n"),
+    ("i32", &["0", "255"], b"-2147483649\n"),
+    ("i64", &["0", "255"], b"9223372036854775808\n"),
+    ("i64", &["0", "255"], b"-9223372036854775809\n"),
+    ("i64", &["0", "255"], b"-18446744073709551616\n"),
+    (
+        "i64",
+        &["0", "255"],
+        b"-1234567890123456789012345678901234567890\n",
+    ),
+    ("i64", &["0", "255"], b"+5\n"),
+    ("i64", &["0", "255"], b"-\n"),
+    ("i64", &["0", "255"], b"--5\n"),
+    ("i64", &["0", "255"], b"-+5\n"),
+    ("i64", &["0", "255"], b"- 5\n"),
+    ("i64", &["0", "255"], b"5-\n"),
+];
+
+/// `null` is read in a nullable type alone, and spelled in one way.
+const NO_NULLS: &[Refused] = &[
+    ("u8", &["1"], b"1\nnull\n"),
+    ("u16", &["1"], b"null"),
+    ("u32", &["1"], b"null"),
+    ("u64", &["1"], b"null"),
+    ("i8", &["1"], b"null"),
+    ("i16", &["1"], b"null"),
+    ("i32", &["1"], b"null"),
+    ("i64", &["1"], b"null"),
+    ("u8?", &["1"], b"NULL\n"),
+    ("u8?", &["1"], b"null \n"),
+    ("u8?", &["1"], b" null\n"),
+    ("u8?", &["1"], b"null\r\n"),
+    ("u8?", &["1"], b"-null\n"),
+    ("u8?", &["1"], b"nul"),
+    ("u8?", &["1"], b"nulll"),
+    ("u8?", &["1"], b"null0"),
+    ("u8?", &["1"], b"null\n\n"),
+    ("u8?", &["1"], b"null\n256"),
+    ("i8?", &["1"], b"null\n-129"),
 ];
 
 const WIDE: &[Refused] = &[
@@ -293,6 +389,11 @@ const WIDE: &[Refused] = &[
     ("u32", &["33"], b""),
     ("u64", &["65"], b"0\n1\n"),
     ("u64", &["65"], b""),
+    ("u8?", &["9"], b"null\n"),
+    ("i8", &["9", "255"], b"-1\n"),
+    ("i16?", &["17"], b""),
+    ("i32", &["33"], b"0\n"),
+    ("i64?", &["65"], b"null\n1\n"),
 ];
 
 fn refuses_row(alloc: Global, row: &Refused, refusal: &[u8]) -> bool {
@@ -320,6 +421,11 @@ fn refuses_bad_columns(rt: HostRuntime) {
 }
 
 #[test]
+fn refuses_other_nulls(rt: HostRuntime) {
+    assert!(rt; refuses_all(rt.alloc(), NO_NULLS, BAD_COLUMN));
+}
+
+#[test]
 fn refuses_wide_widths(rt: HostRuntime) {
     assert!(rt; refuses_all(rt.alloc(), WIDE, TOO_LARGE));
 }
@@ -344,8 +450,11 @@ const NO_COMMANDS: &[&[&str]] = &[
     &["pack", "u8", ""],
     &["pack", "u8", " 1"],
     &["pack", "u8", "one"],
-    &["pack", "u8?", "1"],
-    &["pack", "i8", "1"],
+    &["pack", "u8??", "1"],
+    &["pack", "?u8", "1"],
+    &["pack", "?", "1"],
+    &["pack", "u8 ?", "1"],
+    &["pack", "I8", "1"],
     &["pack", "U8", "1"],
     &["pack", "u128", "1"],
     &["pack", "", "1"],
@@ -353,6 +462,7 @@ const NO_COMMANDS: &[&[&str]] = &[
     &["Pack", "u8", "1"],
     &["encode", "u8", "for"],
     &["run", "decode"],
+    &["run", "migrate"],
 ];
 
 #[test]
@@ -522,9 +632,11 @@ fn is_named(alloc: Global, fault: Fault) -> bool {
 #[test]
 fn faults_are_named(rt: HostRuntime) {
     for fault in [
-        Fault::OutOfMemory,
-        Fault::WidthTooLarge,
+        Fault::Refused(FastLanesError::OutOfMemory),
+        Fault::Refused(FastLanesError::WidthTooLarge),
+        Fault::Refused(FastLanesError::ChildMismatch),
         Fault::BadColumn,
+        Fault::BadContainer,
         Fault::ReadFault,
         Fault::WriteFault,
     ] {

@@ -7,27 +7,27 @@ use Rattle.fl_types.specs.declared.dtype.DType.TheVariants as dtypes
 use Rattle.fl_types.specs.declared.dtype.Nullability.TheVariants.{NonNullable, Nullable}
 use Rattle.fl_types.specs.declared.validity.Validity.TheVariants as valid
 use Rattle.fl_types.specs.Bits.{table}
-use Rattle.fl_types.specs.Values.{Cell}
-use Rattle.fl_plain.specs.Columns.{Column, Plain}
-use Rattle.fl_plain.specs.Operations.{slice_of}
-use Rattle.fl_patches.specs.PatchMaps.{PatchMap}
+use Rattle.fl_types.specs.Values.{ScalarParts}
+use Rattle.fl_column.specs.Columns.{Column, PrimitiveParts}
+use Rattle.fl_column.specs.Operations.{slice_of}
+use Rattle.fl_patches.specs.PatchMaps.{PatchesParts}
 use Rattle.fl_codec.specs.Deltas.{block_integer, lane_sum}
-use Rattle.fl_packed.specs.Blocks.{block_item, item_of_blocks}
-use Rattle.fl_packed.specs.Columns.{PackedParts, packed_item}
+use Rattle.fl_bitpacking.specs.Blocks.{block_item, item_of_blocks}
+use Rattle.fl_bitpacking.specs.Columns.{BitPackedParts, packed_item}
 use Rattle.fl_array.specs.Trees.{Tree, column, height}
 use Rattle.fl_array.specs.Trees as tree
 use Rattle.fl_array.specs.Kinds.{IsBitPackedBlocked, IsBool, IsDelta, IsFoR, IsFoRChunked, IsPrimitive, IsRLE, has_delta, kind, plain_kind, slice_kind}
 
 -- a plain array without nulls
-abbrev solid : PType → List ℤ → Plain
-solid ptype slots = record { ptype = ptype; slots = slots; validity = valid.NonNullable }
+abbrev non_nullable : PType → List ℤ → PrimitiveParts
+non_nullable ptype slots = record { ptype = ptype; slots = slots; validity = valid.NonNullable }
 
 -- the same as a tree
 abbrev plain : PType → List ℤ → Tree
-plain ptype slots = tree.Primitive (solid ptype slots)
+plain ptype slots = tree.Primitive (non_nullable ptype slots)
 
 -- a reference of a type
-abbrev reference : PType → ℤ → Cell
+abbrev reference : PType → ℤ → ScalarParts
 reference ptype z = record { dtype = dtypes.Primitive ptype NonNullable; value = Some z }
 
 -- ---- packed items
@@ -36,11 +36,11 @@ abbrev four_ones : List ℕ
 four_ones = table (λ i. if i == 0 then 1 else if i == 16 then 1 else if i == 32 then 1 else if i == 48 then 1 else 0) 128
 
 -- the patch of seven items of u64 at position 6
-abbrev last_of_seven : PatchMap
-last_of_seven = record { array_len = 7; offset = 0; indices = solid U8 (pos 6 ∷ []); values = record { ptype = U64; slots = pos 18446744073709551615 ∷ []; validity = valid.AllValid }; chunk_offsets = Some (solid U64 (pos 0 ∷ [])) }
+abbrev last_of_seven : PatchesParts
+last_of_seven = record { array_len = 7; offset = 0; indices = non_nullable U8 (pos 6 ∷ []); values = record { ptype = U64; slots = pos 18446744073709551615 ∷ []; validity = valid.AllValid }; chunk_offsets = Some (non_nullable U64 (pos 0 ∷ [])) }
 
 -- 1, null, 1, null, 1, null and the greatest u64 at width 1, the last one patched
-abbrev ones_and_nulls : List Bool → PackedParts
+abbrev ones_and_nulls : List Bool → BitPackedParts
 ones_and_nulls bits = record { packed = four_ones; ptype = U64; validity = valid.Array bits; patches = Some last_of_seven; offset = 0; len = 7 }
 
 patched : (column (tree.BitPackedGlobal (ones_and_nulls (true ∷ false ∷ true ∷ false ∷ true ∷ false ∷ true ∷ [])) 1)).items ≡ Some (pos 1) ∷ None ∷ Some (pos 1) ∷ None ∷ Some (pos 1) ∷ None ∷ Some (pos 18446744073709551615) ∷ []
@@ -67,17 +67,17 @@ unfolding packed_item item_of_blocks block_item unpacked_item unpacked_bits from
 signed_bytes = refl
 
 -- a block of threes at width 2 and one of nothing, from an offset on, with a patch in the second
-abbrev threes : PackedParts
-threes = record { packed = replicate 256 255; ptype = U16; validity = valid.NonNullable; patches = Some (record { array_len = 5; offset = 1020; indices = solid U16 (pos 1024 ∷ []); values = solid U16 (pos 1000 ∷ []); chunk_offsets = None }); offset = 1020; len = 5 }
+abbrev threes : BitPackedParts
+threes = record { packed = replicate 256 255; ptype = U16; validity = valid.NonNullable; patches = Some (record { array_len = 5; offset = 1020; indices = non_nullable U16 (pos 1024 ∷ []); values = non_nullable U16 (pos 1000 ∷ []); chunk_offsets = None }); offset = 1020; len = 5 }
 
-bounded : (column (tree.BitPackedBlocked threes (plain U16 (pos 0 ∷ pos 256 ∷ pos 256 ∷ [])))).items ≡ Some (pos 3) ∷ Some (pos 3) ∷ Some (pos 3) ∷ Some (pos 3) ∷ Some (pos 1000) ∷ []
+boundaries : (column (tree.BitPackedBlocked threes (plain U16 (pos 0 ∷ pos 256 ∷ pos 256 ∷ [])))).items ≡ Some (pos 3) ∷ Some (pos 3) ∷ Some (pos 3) ∷ Some (pos 3) ∷ Some (pos 1000) ∷ []
 unfolding packed_item item_of_blocks block_item unpacked_item unpacked_bits from_bits packed_bit row_of
-bounded = refl
+boundaries = refl
 
 -- the first boundary need not be 0
-bounded_later : (column (tree.BitPackedBlocked threes (plain U16 (pos 10 ∷ pos 266 ∷ pos 266 ∷ [])))).items ≡ Some (pos 3) ∷ Some (pos 3) ∷ Some (pos 3) ∷ Some (pos 3) ∷ Some (pos 1000) ∷ []
+boundary_later : (column (tree.BitPackedBlocked threes (plain U16 (pos 10 ∷ pos 266 ∷ pos 266 ∷ [])))).items ≡ Some (pos 3) ∷ Some (pos 3) ∷ Some (pos 3) ∷ Some (pos 3) ∷ Some (pos 1000) ∷ []
 unfolding packed_item item_of_blocks block_item unpacked_item unpacked_bits from_bits packed_bit row_of
-bounded_later = refl
+boundary_later = refl
 
 -- ---- frames of reference
 wrapped : (column (tree.FoRGlobal (plain U8 (pos 0 ∷ pos 100 ∷ pos 200 ∷ [])) (reference U8 (pos 100)))).items ≡ Some (pos 100) ∷ Some (pos 200) ∷ Some (pos 44) ∷ []
@@ -107,7 +107,7 @@ nested = refl
 
 -- ---- runs
 -- the chunk's indices 0, 0, 1, null and 1, and nulls behind
-abbrev few_indices : Plain
+abbrev few_indices : PrimitiveParts
 few_indices = record { ptype = U16; slots = pos 0 ∷ pos 0 ∷ replicate 1022 (pos 1); validity = valid.Array (true ∷ true ∷ true ∷ false ∷ true ∷ replicate 1019 false) }
 
 runs : (column (tree.RLE (plain U8 (pos 5 ∷ pos 7 ∷ [])) (tree.Primitive few_indices) (plain U64 (pos 0 ∷ [])) (record { offset = 0; len = 5 }))).items ≡ Some (pos 5) ∷ Some (pos 5) ∷ Some (pos 7) ∷ None ∷ Some (pos 7) ∷ []
@@ -141,7 +141,7 @@ unfolding block_integer lane_sum segment segment_lane place
 part_in_turn = refl
 
 -- ---- kinds and heights
--- a frame over packed blocks of widths of their own, whose boundaries are kept as differences
+-- a FoR array over blocks of widths of their own, whose boundaries are a delta array
 abbrev deep : Tree
 deep = tree.FoRGlobal (tree.BitPackedBlocked threes (tree.Delta (plain U16 []) (plain U16 []) (record { validity = valid.NonNullable; offset = 0; len = 0 }))) (reference U16 (pos 1))
 
@@ -151,8 +151,8 @@ deep_kind = refl
 deep_height : height deep ≡ 3
 deep_height = refl
 
--- its slice decodes the blocks and keeps the frame
-deep_slice : slice_kind (kind deep) ≡ IsFoR IsPrimitive
+-- its slice keeps all kinds
+deep_slice : slice_kind (kind deep) ≡ IsFoR (IsBitPackedBlocked (IsDelta IsPrimitive IsPrimitive))
 deep_slice = refl
 
 deep_sums : has_delta (kind deep) ≡ true
@@ -161,19 +161,19 @@ deep_sums = refl
 deep_decoded : plain_kind (kind deep) ≡ IsPrimitive
 deep_decoded = refl
 
--- runs of plain values, whose indices are a chunked frame
-abbrev framed_runs : Tree
-framed_runs = tree.RLE (plain U8 []) two_chunks (plain U64 []) (record { offset = 0; len = 0 })
+-- a run-length encoded array, whose indices are a chunked FoR array
+abbrev rle_over_for : Tree
+rle_over_for = tree.RLE (plain U8 []) two_chunks (plain U64 []) (record { offset = 0; len = 0 })
 
-framed_runs_slice : slice_kind (kind framed_runs) ≡ IsRLE IsPrimitive (IsFoRChunked IsPrimitive IsPrimitive) IsPrimitive
-framed_runs_slice = refl
+rle_over_for_slice : slice_kind (kind rle_over_for) ≡ IsRLE IsPrimitive (IsFoRChunked IsPrimitive IsPrimitive) IsPrimitive
+rle_over_for_slice = refl
 
-framed_runs_height : height framed_runs ≡ 2
-framed_runs_height = refl
+rle_over_for_height : height rle_over_for ≡ 2
+rle_over_for_height = refl
 
-framed_runs_sum_nothing : has_delta (kind framed_runs) ≡ false
-framed_runs_sum_nothing = refl
+rle_over_for_sum_nothing : has_delta (kind rle_over_for) ≡ false
+rle_over_for_sum_nothing = refl
 
 -- truth values stay such
-truths_decoded : plain_kind (kind (tree.Bool (record { bits = true ∷ []; validity = valid.NonNullable }))) ≡ IsBool
-truths_decoded = refl
+bools_decoded : plain_kind (kind (tree.Bool (record { bits = true ∷ []; validity = valid.NonNullable }))) ≡ IsBool
+bools_decoded = refl

@@ -6,10 +6,10 @@ use Rattle.fl_types.specs.declared.dtype.DType.TheVariants.{Primitive}
 use Rattle.fl_types.specs.declared.dtype.Nullability.TheVariants.{NonNullable}
 use Rattle.fl_types.specs.Bits.{table}
 use Rattle.fl_types.specs.Integers.{pattern_of}
-use Rattle.fl_plain.specs.Columns.{Column}
+use Rattle.fl_column.specs.Columns.{Column}
 use Rattle.fl_codec.specs.Deltas.{delta_bases, delta_deltas, delta_of}
-use Rattle.fl_codec.specs.Filling.{Carry, Reset, filled}
-use Rattle.fl_codec.specs.Frames.{chunk_references, chunked_frame, global_frame, least_valid, minus_reference}
+use Rattle.fl_codec.specs.ForwardFill.{Carry, Reset, fill_forward}
+use Rattle.fl_codec.specs.FoRColumns.{chunk_references, chunked_for, global_for, least_valid, minus_reference}
 use Rattle.fl_codec.specs.RunColumns.{are_run_offsets, chunk_start, run_item}
 use Rattle.fl_codec.specs.Runs.{chunk_values, offsets_to, values_to}
 
@@ -28,11 +28,11 @@ child_of_bytes : map (λ item. pattern_of I8 (minus_reference I8 (negsuc 127) it
 child_of_bytes = refl
 
 -- 0, 100, 200 plus 100
-wrapped_sums : (global_frame (pos 100) (column_of_bytes (Some (pos 0) ∷ Some (pos 100) ∷ Some (pos 200) ∷ []))).items ≡ Some (pos 100) ∷ Some (pos 200) ∷ Some (pos 44) ∷ []
+wrapped_sums : (global_for (pos 100) (column_of_bytes (Some (pos 0) ∷ Some (pos 100) ∷ Some (pos 200) ∷ []))).items ≡ Some (pos 100) ∷ Some (pos 200) ∷ Some (pos 44) ∷ []
 wrapped_sums = refl
 
 -- -10, -5, 0 plus -100
-signed_sums : (global_frame (negsuc 99) (record { dtype = Primitive I8 NonNullable; items = Some (negsuc 9) ∷ Some (negsuc 4) ∷ Some (pos 0) ∷ [] })).items ≡ Some (negsuc 109) ∷ Some (negsuc 104) ∷ Some (negsuc 99) ∷ []
+signed_sums : (global_for (negsuc 99) (record { dtype = Primitive I8 NonNullable; items = Some (negsuc 9) ∷ Some (negsuc 4) ∷ Some (pos 0) ∷ [] })).items ≡ Some (negsuc 109) ∷ Some (negsuc 104) ∷ Some (negsuc 99) ∷ []
 signed_sums = refl
 
 -- a chunk of 5 and a chunk of -7
@@ -47,7 +47,7 @@ nulls_between : chunk_references (replicate 1024 (Some (pos 9)) ++ replicate 102
 nulls_between = refl
 
 -- thirty items from position 1000 on
-across_chunks : (chunked_frame (pos 5 ∷ negsuc 6 ∷ []) 1000 (record { dtype = Primitive I16 NonNullable; items = replicate 30 (Some (pos 0)) })).items ≡ replicate 24 (Some (pos 5)) ++ replicate 6 (Some (negsuc 6))
+across_chunks : (chunked_for (pos 5 ∷ negsuc 6 ∷ []) 1000 (record { dtype = Primitive I16 NonNullable; items = replicate 30 (Some (pos 0)) })).items ≡ replicate 24 (Some (pos 5)) ++ replicate 6 (Some (negsuc 6))
 across_chunks = refl
 
 -- ---- deltas
@@ -80,7 +80,7 @@ bases_of_one : delta_bases U32 one_valid ≡ replicate 32 (pos 0) ++ replicate 3
 unfolding segment
 bases_of_one = refl
 
-deltas_of_one : map (delta_of U32 (filled Carry one_valid) 0) (0 ∷ 511 ∷ 895 ∷ 1022 ∷ 1023 ∷ []) ≡ pos 0 ∷ pos 0 ∷ pos 0 ∷ pos 0 ∷ pos 42 ∷ []
+deltas_of_one : map (delta_of U32 (fill_forward Carry one_valid) 0) (0 ∷ 511 ∷ 895 ∷ 1022 ∷ 1023 ∷ []) ≡ pos 0 ∷ pos 0 ∷ pos 0 ∷ pos 0 ∷ pos 42 ∷ []
 unfolding delta_of segment row_of
 deltas_of_one = refl
 
@@ -95,10 +95,10 @@ values_of_five = refl
 offsets_of_five : offsets_to five_items 1 ≡ 0 ∷ []
 offsets_of_five = refl
 
-values_of_one : chunk_values (filled Reset one_valid) 0 ≡ pos 0 ∷ pos 42 ∷ []
+values_of_one : chunk_values (fill_forward Reset one_valid) 0 ≡ pos 0 ∷ pos 42 ∷ []
 values_of_one = refl
 
-later_values_of_one : chunk_values (filled Reset one_valid) 1 ≡ pos 0 ∷ []
+later_values_of_one : chunk_values (fill_forward Reset one_valid) 1 ≡ pos 0 ∷ []
 later_values_of_one = refl
 
 -- starts are counted from the first offset

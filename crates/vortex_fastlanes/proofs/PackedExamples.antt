@@ -4,8 +4,8 @@ use Rattle.fl_types.specs.declared.dtype.PType.TheVariants.{I8, U16, U8}
 use Rattle.fl_types.specs.declared.error.FastLanesError.TheVariants.{LengthOverflow, OffsetTooLarge, PackedLength}
 use Rattle.fl_types.specs.declared.validity.Validity.TheVariants as valid
 use Rattle.fastlanes.specs.Layout.{from_bits, packed_bit, row_of, unpacked_bits, unpacked_item}
-use Rattle.fl_packed.specs.Blocks.{are_blocks, block_item, boundary_array}
-use Rattle.fl_packed.specs.Readers.{Reader, initial_items, new_reader, trailer_items, whole_blocks}
+use Rattle.fl_bitpacking.specs.Blocks.{are_blocks, block_item, boundary_array}
+use Rattle.fl_bitpacking.specs.Readers.{Reader, initial_items, new_reader, trailer_items, whole_blocks}
 
 -- ---- boundaries
 -- a block of width 2, and one of width 0

@@ -9,9 +9,9 @@ use Rattle.fl_types.specs.declared.query.CompareOperator.TheVariants.{NotEq}
 use Rattle.fl_types.specs.declared.query.StrictComparison.TheVariants.{Strict, NonStrict}
 use Rattle.fl_types.specs.declared.validity.Validity.TheVariants as valid
 use Rattle.fl_types.specs.Integers.{fits, pattern_of, read_as}
-use Rattle.fl_plain.specs.Columns.{Column, column_of_plain, is_column}
-use Rattle.fl_plain.specs.Operations.{cast_column, filter_column, ranges_column, slice_column, take_column}
-use Rattle.fl_plain.specs.Questions.{are_constant, are_sorted, are_strictly_sorted, between_column, compare_column}
+use Rattle.fl_column.specs.Columns.{Column, column_of_primitive, is_column}
+use Rattle.fl_column.specs.Operations.{cast_column, filter_column, ranges_column, slice_column, take_column}
+use Rattle.fl_column.specs.Questions.{are_constant, are_sorted, are_strictly_sorted, between_column, compare_column}
 
 abbrev bytes : List (Option ℤ) → Column
 bytes items = record { dtype = dtypes.Primitive U8 Nullable; items = items }
@@ -22,8 +22,8 @@ indices items = record { dtype = dtypes.Primitive I8 Nullable; items = items }
 abbrev words : List (Option ℤ) → Column
 words items = record { dtype = dtypes.Primitive U16 Nullable; items = items }
 
-abbrev truths : List (Option ℤ) → Column
-truths items = record { dtype = dtypes.Bool Nullable; items = items }
+abbrev bools : List (Option ℤ) → Column
+bools items = record { dtype = dtypes.Bool Nullable; items = items }
 
 -- items 10, null, 30 at 2, null, 0 are 30, null, 10
 taken : take_column (bytes (Some (pos 2) ∷ None ∷ Some (pos 0) ∷ [])) (bytes (Some (pos 10) ∷ None ∷ Some (pos 30) ∷ [])) ≡ Ok (bytes (Some (pos 30) ∷ None ∷ Some (pos 10) ∷ []))
@@ -71,8 +71,8 @@ cast_null = refl
 cast_large : cast_column (dtypes.Primitive U8 NonNullable) (words (Some (pos 300) ∷ [])) ≡ Err CastOutOfRange
 cast_large = refl
 
-cast_truths : cast_column (dtypes.Primitive U8 Nullable) (truths (Some (pos 1) ∷ [])) ≡ Err NotInteger
-cast_truths = refl
+cast_bools : cast_column (dtypes.Primitive U8 Nullable) (bools (Some (pos 1) ∷ [])) ≡ Err NotInteger
+cast_bools = refl
 
 -- a null, 1, 1: sorted, not strictly, not constant; nulls alone: constant
 rising : are_sorted (None ∷ Some (pos 1) ∷ Some (pos 1) ∷ []) ≡ true
@@ -94,13 +94,13 @@ null_last : are_sorted (Some (pos 1) ∷ None ∷ []) ≡ false
 null_last = refl
 
 -- comparisons leave a null; no item lies between reversed bounds
-compared : compare_column NotEq (pos 2) (bytes (Some (pos 2) ∷ None ∷ Some (pos 3) ∷ [])) ≡ Ok (truths (Some (pos 0) ∷ None ∷ Some (pos 1) ∷ []))
+compared : compare_column NotEq (pos 2) (bytes (Some (pos 2) ∷ None ∷ Some (pos 3) ∷ [])) ≡ Ok (bools (Some (pos 0) ∷ None ∷ Some (pos 1) ∷ []))
 compared = refl
 
-between_strict : between_column (pos 1) (pos 3) (record { lower_strict = Strict; upper_strict = NonStrict }) (bytes (Some (pos 1) ∷ Some (pos 2) ∷ Some (pos 3) ∷ None ∷ [])) ≡ Ok (truths (Some (pos 0) ∷ Some (pos 1) ∷ Some (pos 1) ∷ None ∷ []))
+between_strict : between_column (pos 1) (pos 3) (record { lower_strict = Strict; upper_strict = NonStrict }) (bytes (Some (pos 1) ∷ Some (pos 2) ∷ Some (pos 3) ∷ None ∷ [])) ≡ Ok (bools (Some (pos 0) ∷ Some (pos 1) ∷ Some (pos 1) ∷ None ∷ []))
 between_strict = refl
 
-between_reversed : between_column (pos 3) (pos 1) (record { lower_strict = NonStrict; upper_strict = NonStrict }) (bytes (Some (pos 1) ∷ Some (pos 2) ∷ Some (pos 3) ∷ [])) ≡ Ok (truths (Some (pos 0) ∷ Some (pos 0) ∷ Some (pos 0) ∷ []))
+between_reversed : between_column (pos 3) (pos 1) (record { lower_strict = NonStrict; upper_strict = NonStrict }) (bytes (Some (pos 1) ∷ Some (pos 2) ∷ Some (pos 3) ∷ [])) ≡ Ok (bools (Some (pos 0) ∷ Some (pos 0) ∷ Some (pos 0) ∷ []))
 between_reversed = refl
 
 -- patterns of 8 bits
@@ -114,7 +114,7 @@ beyond_a_byte : fits U8 (pos 256) ≡ false
 beyond_a_byte = refl
 
 -- a slot under a null is no item, and no number beyond the type is one
-hidden : column_of_plain (record { ptype = U8; slots = pos 7 ∷ pos 9 ∷ []; validity = valid.Array (true ∷ false ∷ []) }) ≡ bytes (Some (pos 7) ∷ None ∷ [])
+hidden : column_of_primitive (record { ptype = U8; slots = pos 7 ∷ pos 9 ∷ []; validity = valid.Array (true ∷ false ∷ []) }) ≡ bytes (Some (pos 7) ∷ None ∷ [])
 hidden = refl
 
 no_column : is_column (bytes (Some (pos 256) ∷ [])) ≡ false

@@ -5,11 +5,11 @@ use Rattle.fl_types.specs.declared.error.FastLanesError.TheVariants.{NegativeVal
 use Rattle.fl_types.specs.declared.validity.Validity.TheVariants as valid
 use Rattle.fl_types.specs.Bits.{table}
 use Rattle.fl_types.specs.Integers.{smallest_type}
-use Rattle.fl_plain.specs.Columns.{Plain}
+use Rattle.fl_column.specs.Columns.{PrimitiveParts}
 use Rattle.fl_patches.specs.PatchMaps.{places_from}
-use Rattle.fl_widths.specs.Costs.{best_width, best_widths, block_histogram, choose_width, choose_widths, cost_of, first_widths}
-use Rattle.fl_widths.specs.Exceptions.{bit_count, count_with_bits, exceptions_of, histogram_of, width_of_block}
-use Rattle.fl_widths.specs.PatchParts.{chunk_offsets_of, global_patches}
+use Rattle.fl_bit_widths.specs.Costs.{best_width, best_widths, block_histogram, choose_width, choose_widths, cost_of, first_widths}
+use Rattle.fl_bit_widths.specs.Exceptions.{bit_count, count_with_bits, exceptions_of, histogram_of, width_of_block}
+use Rattle.fl_bit_widths.specs.PatchParts.{chunk_offsets_of, global_patches}
 
 bits : map bit_count (0 ∷ 1 ∷ 2 ∷ 3 ∷ 255 ∷ 256 ∷ 9223372036854775808 ∷ 18446744073709551615 ∷ []) ≡ 0 ∷ 1 ∷ 2 ∷ 2 ∷ 8 ∷ 9 ∷ 64 ∷ 64 ∷ []
 unfolding bit_count
@@ -57,7 +57,7 @@ unfolding bit_count exceptions_of
 one_exception = refl
 
 -- an empty column
-abbrev empty : Plain
+abbrev empty : PrimitiveParts
 empty = record { ptype = U32; slots = []; validity = valid.NonNullable }
 
 no_widths : choose_widths empty ≡ Ok (record { widths = []; exceptions = 0 })
@@ -69,7 +69,7 @@ refused : choose_widths (record { ptype = I8; slots = negsuc 0 ∷ []; validity 
 refused = refl
 
 -- 1, null, 1, null, 1, null, 18446744073709551615 at width 1: one patch at 6
-abbrev seven : Plain
+abbrev seven : PrimitiveParts
 seven = record { ptype = U64; slots = pos 1 ∷ pos 0 ∷ pos 1 ∷ pos 0 ∷ pos 1 ∷ pos 0 ∷ pos 18446744073709551615 ∷ []; validity = valid.Array (true ∷ false ∷ true ∷ false ∷ true ∷ false ∷ true ∷ []) }
 
 patched : global_patches 1 seven ≡ Some (record {

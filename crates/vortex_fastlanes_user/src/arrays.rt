@@ -20,7 +20,7 @@ fn sevens() -> Built {
 }
 
 /// True, false and true.
-fn truths(alloc: Global) -> Built {
+fn bools(alloc: Global) -> Built {
     let bits = BitList::from_fn(alloc, 3, |i| i != 1)?;
     Ok(BoolArray::new(bits, Validity::NonNullable)?.into_array())
 }
@@ -31,7 +31,7 @@ fn item_at(array: &ArrayRef, alloc: Global, i: usize) -> Option<PValue> {
         return None;
     }
     match item_of_decoded(array, alloc, i) {
-        Ok(item) => item.as_pvalue(),
+        Ok((_, item)) => item.as_pvalue(),
         Err(_) => None,
     }
 }
@@ -63,7 +63,7 @@ fn runs_operations_in_order(rt: HostRuntime) {
     let alloc = rt.alloc();
     assert!(rt; first(run(three(alloc), alloc), alloc) == Ok(Some(PValue::I64(10))));
     assert!(rt; first(run(sevens(), alloc), alloc) == Ok(Some(PValue::I64(7))));
-    assert!(rt; first(run(truths(alloc), alloc), alloc) == Err(FastLanesError::NotInteger));
+    assert!(rt; first(run(bools(alloc), alloc), alloc) == Err(FastLanesError::NotInteger));
 }
 
 /// The last of the last two items, by a slice of a slice.
@@ -72,7 +72,8 @@ fn sliced_twice(array: Built, alloc: Global) -> Built {
     if array.len() != 3 {
         return Err(FastLanesError::RangeOutOfBounds);
     }
-    slice_of_slice(&array, alloc, 1..3, 1..2)
+    let (_, part) = slice_of_slice(&array, alloc, 1..3, 1..2)?;
+    Ok(part)
 }
 
 #[test]
@@ -81,7 +82,7 @@ fn slices_slices(rt: HostRuntime) {
     assert!(rt; first(sliced_twice(three(alloc), alloc), alloc) == Ok(Some(PValue::U8(30))));
 }
 
-/// The first and the last of three truth values with a null between them.
+/// The first and the last of three booleans with a null between them.
 fn ends(tests: &BoolArray) -> Option<(bool, bool)> {
     if tests.len() != 3 || tests.get(1).is_some() {
         return None;
@@ -135,7 +136,7 @@ fn tests_each_item(rt: HostRuntime) {
 }
 
 #[test]
-fn truth_values_have_no_copies(rt: HostRuntime) {
+fn bools_have_no_constant(rt: HostRuntime) {
     let truth = Scalar::bool(true, Nullability::NonNullable);
     assert!(rt; ConstantArray::new(truth, 1).err() == Some(FastLanesError::NotInteger));
 }

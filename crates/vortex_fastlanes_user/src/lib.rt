@@ -1,6 +1,7 @@
-//! The library as its users call it, by its public names alone: arrays of each plain kind. What each call
-//! makes of them, and packing, row by row, is asked by `worked_rows`.
+//! The library as its users call it, by its public names alone: the README's example, and arrays of each plain kind.
+//! What each call makes of them, and packing, row by row, is asked by `worked_rows`.
 #![tactic(auto)]
 
 #[cfg(test)]
 mod arrays;
+pub mod readme;

@@ -2,18 +2,19 @@
 
 ghost use Rattle.std.specs.Prelude.{◌≡◌, ◌+◌, IsTrue, length};
 ghost use Rattle.fl_types.specs.Integers.{bits_of_type};
-ghost use Rattle.fl_patches.specs.PatchMaps.{chunk_count, numbers};
-ghost use Rattle.fl_packed.specs.Blocks.{are_blocks};
+ghost use Rattle.fl_column.specs.Chunks.{chunk_count};
+ghost use Rattle.fl_column.specs.Numbers.{numbers};
+ghost use Rattle.fl_bitpacking.specs.Blocks.{are_blocks};
 
 use crate::packing::{show, width_of};
 use crate::shown;
 use crate::text::Text;
-use fl_packed::decoding::{PackedColumn, unpack_bounded};
-use fl_packed::packing::bitpack_blocked_unchecked;
+use fl_bit_widths::gather_blocked_patches;
+use fl_bitpacking::decoding::{PackedColumn, unpack_blocked};
+use fl_bitpacking::packing::bitpack_blocked_unchecked;
+use fl_column::PrimitiveArray;
 use fl_patches::Patches;
-use fl_plain::PrimitiveArray;
 use fl_types::*;
-use fl_widths::gather_blocked_patches;
 use std::alloc::Global;
 
 /// Adds the column that comes back from blocks which lie between boundaries.
@@ -41,7 +42,7 @@ fn unpack<'a>(
         offset: 0,
         len: array.len(),
     };
-    shown::made(answer, unpack_bounded(alloc, &column, boundaries));
+    shown::made(answer, unpack_blocked(alloc, &column, boundaries));
 }
 
 /// Adds blocks: their bytes, their boundaries, and the column that comes back.

@@ -1,7 +1,7 @@
 //! Columns from text: a type, and items behind it.
 
 use crate::names::named;
-use fl_plain::PrimitiveArray;
+use fl_column::PrimitiveArray;
 use fl_types::*;
 use std::alloc::Global;
 

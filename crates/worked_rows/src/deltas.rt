@@ -5,7 +5,7 @@ use crate::parts::{back, part};
 use crate::shown;
 use crate::text::Text;
 use fl_codec::delta::delta_decompress;
-use fl_plain::PrimitiveArray;
+use fl_column::PrimitiveArray;
 use fl_types::*;
 use std::alloc::Global;
 use vortex_fastlanes::delta_compress;

@@ -5,10 +5,10 @@ use crate::packing::width_of;
 use crate::parts::part;
 use crate::shown;
 use crate::text::Text;
+use fl_bit_widths::gather_blocked_patches;
+use fl_column::PrimitiveArray;
 use fl_patches::Patches;
-use fl_plain::PrimitiveArray;
 use fl_types::*;
-use fl_widths::gather_blocked_patches;
 use std::alloc::Global;
 use vortex_fastlanes::bitpack_compress::gather_patches;
 

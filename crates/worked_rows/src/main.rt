@@ -9,7 +9,7 @@ mod bits;
 mod blocks;
 mod columns;
 mod deltas;
-mod frames;
+mod for_;
 mod gathering;
 mod messages;
 mod names;
@@ -25,7 +25,7 @@ mod types;
 mod widths;
 
 use crate::text::Text;
-use fl_plain::PrimitiveArray;
+use fl_column::PrimitiveArray;
 use std::alloc::Global;
 use std::{env, fs, io};
 
@@ -34,7 +34,7 @@ fn ask(alloc: Global, question: &[&str], columns: &[PrimitiveArray], answer: &mu
     let known = arrays::ask(alloc, question, columns, answer)
         || bits::ask(alloc, question, columns, answer)
         || types::ask(alloc, question, columns, answer)
-        || frames::ask(alloc, question, columns, answer)
+        || for_::ask(alloc, question, columns, answer)
         || deltas::ask(alloc, question, columns, answer)
         || runs::ask(alloc, question, columns, answer)
         || widths::ask(alloc, question, columns, answer)

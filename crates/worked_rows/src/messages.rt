@@ -2,7 +2,7 @@
 
 use crate::columns::type_of;
 use crate::text::Text;
-use fl_messages::messages::*;
+use fl_metadata::*;
 use fl_types::{FastLanesError, PType};
 use std::alloc::Global;
 use std::fmt::Debug;
@@ -101,8 +101,8 @@ fn is_none(bytes: &[u8]) -> bool {
 
 fn ask_of(alloc: Global, kind: &str, bytes: &[u8], answer: &mut Text) {
     match kind {
-        "any" => answer.truth(is_message(bytes)),
-        "none" => answer.truth(is_none(bytes)),
+        "any" => answer.bool_answer(is_message(bytes)),
+        "none" => answer.bool_answer(is_none(bytes)),
         "bit_packed" => bit_packed(alloc, bytes, answer),
         "blocked" => blocked(alloc, bytes, answer),
         "patches" => patches(alloc, bytes, answer),

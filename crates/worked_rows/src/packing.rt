@@ -3,9 +3,9 @@
 use crate::columns::{count, type_of};
 use crate::text::Text;
 use crate::{readers, shown};
-use fl_packed::decoding::{PackedColumn, unpack_block_item, unpack_even};
+use fl_bitpacking::decoding::{PackedColumn, unpack_block_item, unpack_global};
+use fl_column::PrimitiveArray;
 use fl_patches::Patches;
-use fl_plain::PrimitiveArray;
 use fl_types::*;
 use std::alloc::Global;
 use vortex_fastlanes::bitpack_compress::{bitpack_into, bitpack_unchecked, gather_patches};
@@ -45,7 +45,7 @@ fn unpack(
             return Err(FastLanesError::PatchLength);
         }
     }
-    unpack_even(alloc, column, width)
+    unpack_global(alloc, column, width)
 }
 
 /// Adds the column of these parts, without patches.
@@ -193,8 +193,17 @@ fn block_item_of(bytes: &[u8], name: &str, width: usize, index: usize, answer: &
 /// Adds the column of bytes, by the name of its type, without nulls.
 fn unpack_of(alloc: Global, bytes: &[u8], name: &str, numbers: [usize; 3], answer: &mut Text) {
     let [width, offset, len] = numbers;
-    let (ptype, solid) = (type_of(name), Validity::NonNullable);
-    unpack_bytes(alloc, bytes, &solid, ptype, width, offset, len, answer);
+    let (ptype, non_nullable) = (type_of(name), Validity::NonNullable);
+    unpack_bytes(
+        alloc,
+        bytes,
+        &non_nullable,
+        ptype,
+        width,
+        offset,
+        len,
+        answer,
+    );
 }
 
 /// Asks a question of bytes.

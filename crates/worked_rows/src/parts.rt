@@ -3,7 +3,7 @@
 use crate::columns::Made;
 use crate::shown;
 use crate::text::Text;
-use fl_plain::PrimitiveArray;
+use fl_column::PrimitiveArray;
 
 /// Adds a part behind another.
 pub(crate) fn part(answer: &mut Text, column: &PrimitiveArray) {

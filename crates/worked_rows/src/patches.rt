@@ -3,8 +3,8 @@
 use crate::columns::{Made, count};
 use crate::shown;
 use crate::text::Text;
-use fl_patches::{Patches, index_array};
-use fl_plain::PrimitiveArray;
+use fl_column::{PrimitiveArray, index_array};
+use fl_patches::Patches;
 use fl_types::*;
 use std::alloc::Global;
 

@@ -3,7 +3,7 @@
 use crate::columns::{Made, count, type_of};
 use crate::text::Text;
 use crate::{shown, types};
-use fl_plain::PrimitiveArray;
+use fl_column::PrimitiveArray;
 use fl_types::*;
 use std::alloc::Global;
 

@@ -30,7 +30,7 @@ fn write<T: BitPacked>(
 
 /// Adds all items of a packed column, at most 1024 of them.
 fn read<T: BitPacked>(bytes: &[u8], width: usize, offset: usize, len: usize, answer: &mut Text) {
-    T::fits_in_memory();
+    T::prove_fits_in_memory();
     if width > T::PTYPE.bit_width() {
         return;
     }

@@ -5,9 +5,9 @@ use crate::columns::{Made, count};
 use crate::parts::{back, part};
 use crate::shown;
 use crate::text::Text;
-use fl_codec::run_checks::runs_refusal;
-use fl_codec::runs::{self, Runs};
-use fl_plain::PrimitiveArray;
+use fl_codec::rle::refusals::runs_refusal;
+use fl_codec::rle::{self, Runs};
+use fl_column::PrimitiveArray;
 use std::alloc::Global;
 
 /// The column of run values, indices and run offsets, or why there is none.
@@ -22,7 +22,7 @@ fn unrolled(
     if let Some(refusal) = runs_refusal(values, indices, offsets, offset, len) {
         return Err(refusal);
     }
-    runs::decode(alloc, values, indices, offsets, offset, len)
+    rle::decode(alloc, values, indices, offsets, offset, len)
 }
 
 /// So many items from the offset on, which the runs of a column show.
@@ -61,7 +61,7 @@ fn ask_runs(
 
 /// Answers a question about one column, if it is about its runs.
 fn ask_one(alloc: Global, question: &[&str], array: &PrimitiveArray, answer: &mut Text) -> bool {
-    match runs::encode(alloc, array) {
+    match rle::encode(alloc, array) {
         Ok(runs) => return ask_runs(alloc, question, &runs, array, answer),
         Err(refusal) => answer.refusal(refusal),
     }

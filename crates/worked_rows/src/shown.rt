@@ -1,7 +1,7 @@
 //! Text of columns and values.
 
 use crate::text::Text;
-use fl_plain::{BoolArray, PrimitiveArray};
+use fl_column::{BoolArray, PrimitiveArray};
 use fl_types::*;
 
 /// The integer that a value is.
@@ -37,7 +37,7 @@ pub(crate) fn dtype(answer: &mut Text, dtype: DType) {
 /// The integer that a scalar is, or its truth value as 1 or 0.
 pub(crate) fn integer_in(scalar: Scalar) -> Option<i128> {
     match scalar.as_bool() {
-        Some(truth) => Some(i128::from(truth)),
+        Some(bool_answer) => Some(i128::from(bool_answer)),
         None => scalar.as_pvalue().map(integer),
     }
 }
@@ -86,7 +86,7 @@ pub(crate) fn slots(answer: &mut Text, array: &PrimitiveArray) {
 }
 
 /// Adds truth values, as 1 and 0.
-pub(crate) fn truths(answer: &mut Text, array: &BoolArray) {
+pub(crate) fn bools(answer: &mut Text, array: &BoolArray) {
     dtype(answer, array.dtype());
     for i in 0..array.len() {
         answer.item(array.get(i).map(i128::from));
@@ -94,9 +94,9 @@ pub(crate) fn truths(answer: &mut Text, array: &BoolArray) {
 }
 
 /// Adds truth values that were made, or why none were.
-pub(crate) fn made_truths(answer: &mut Text, made: Result<BoolArray, FastLanesError>) {
+pub(crate) fn made_bools(answer: &mut Text, made: Result<BoolArray, FastLanesError>) {
     match made {
-        Ok(array) => truths(answer, &array),
+        Ok(array) => bools(answer, &array),
         Err(refusal) => answer.refusal(refusal),
     }
 }

@@ -146,8 +146,8 @@ impl Text {
     }
 
     /// Adds `yes` or `no`.
-    pub(crate) fn truth(&mut self, truth: bool) {
-        if truth {
+    pub(crate) fn bool_answer(&mut self, bool_answer: bool) {
+        if bool_answer {
             self.word("yes");
         } else {
             self.word("no");

@@ -6,7 +6,7 @@ ghost use Rattle.fl_types.specs.Values.{ptype_of_value};
 use crate::columns::{count, dtype_of, number};
 use crate::text::Text;
 use crate::{bits, shown};
-use fl_plain::PrimitiveArray;
+use fl_column::PrimitiveArray;
 use fl_types::*;
 use std::alloc::Global;
 use std::fmt::Debug;
@@ -65,8 +65,8 @@ fn refusal(refusals: &[FastLanesError], number: usize, answer: &mut Text) {
 /// Answers whether two values are equal, or differ, or how the first is shown.
 fn compare<T: PartialEq + Debug>(question: &str, left: &T, right: &T, answer: &mut Text) {
     match question {
-        "equal" => answer.truth(*left == *right),
-        "differ" => answer.truth(*left != *right),
+        "equal" => answer.bool_answer(*left == *right),
+        "differ" => answer.bool_answer(*left != *right),
         "debug" => answer.debug(left),
         _ => answer.word("no such question"),
     }
@@ -139,16 +139,16 @@ fn made_validity(made: Result<Validity, FastLanesError>, len: usize, answer: &mu
 fn typed_slots<T: NativePType>(
     alloc: Global,
     column: &PrimitiveArray,
-) -> Result<Slots, FastLanesError> {
+) -> Result<PrimitiveBuffer, FastLanesError> {
     let mut integers = Vec::new(alloc);
     for i in 0..column.len() {
         integers.push(typed_item(column.get(i)).unwrap_or(T::zero()))?;
     }
-    Ok(T::into_slots(integers))
+    Ok(T::into_buffer(integers))
 }
 
 /// The integers of a column, by its type; 0 for a null.
-fn slots_of(alloc: Global, column: &PrimitiveArray) -> Result<Slots, FastLanesError> {
+fn slots_of(alloc: Global, column: &PrimitiveArray) -> Result<PrimitiveBuffer, FastLanesError> {
     match_each_integer_ptype!(column.ptype(), typed_slots(alloc, column))
 }
 
@@ -200,7 +200,7 @@ fn show_scalar(answer: &mut Text, scalar: Scalar) {
     shown::dtype(answer, scalar.dtype());
     show_value(answer, scalar.as_pvalue());
     answer.item(scalar.as_bool().map(i128::from));
-    answer.truth(scalar.is_null());
+    answer.bool_answer(scalar.is_null());
 }
 
 /// Answers a question of the validity of a column, or of those of two.

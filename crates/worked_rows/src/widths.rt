@@ -1,13 +1,13 @@
 //! Histograms of bits, the widths of least cost, and the exceptions above a width.
 
 ghost use Rattle.std.specs.Prelude.{◌≡◌, IfSome};
-ghost use Rattle.fl_widths.specs.Costs.{count_above};
+ghost use Rattle.fl_bit_widths.specs.Costs.{count_above};
 
 use crate::columns::type_of;
 use crate::packing::width_of;
 use crate::shown;
 use crate::text::Text;
-use fl_plain::PrimitiveArray;
+use fl_column::PrimitiveArray;
 use fl_types::*;
 use std::alloc::Global;
 use vortex_fastlanes::bitpack_compress::{

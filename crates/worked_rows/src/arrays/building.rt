@@ -7,7 +7,7 @@ use vortex_fastlanes::array::IntoArray;
 use vortex_fastlanes::{BoolArray, ConstantArray, PrimitiveArray, Scalar};
 
 /// So many copies of a column's first item.
-fn copies(column: &PrimitiveArray) -> Built {
+fn constant(column: &PrimitiveArray) -> Built {
     let scalar = if column.len() > 0 {
         column.scalar_at(0)
     } else {
@@ -17,7 +17,7 @@ fn copies(column: &PrimitiveArray) -> Built {
 }
 
 /// A column's items as truth values.
-fn truths(alloc: Global, column: &PrimitiveArray) -> Built {
+fn bools(alloc: Global, column: &PrimitiveArray) -> Built {
     let validity = column.validity().try_clone(alloc)?;
     Ok(BoolArray::new(bits::ones(alloc, column)?, validity)?.into_array())
 }
@@ -25,8 +25,8 @@ fn truths(alloc: Global, column: &PrimitiveArray) -> Built {
 /// An array of a kind: copies, truth values, or the plain column.
 pub(super) fn array(alloc: Global, kind: &str, column: &PrimitiveArray) -> Built {
     match kind {
-        "copies" => copies(column),
-        "truths" => truths(alloc, column),
+        "constant" => constant(column),
+        "bools" => bools(alloc, column),
         _ => Ok(column.try_clone(alloc)?.into_array()),
     }
 }

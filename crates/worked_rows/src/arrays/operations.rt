@@ -30,8 +30,8 @@ fn slice(rest: &str) -> Op {
 fn with_column(alloc: Global, name: &str, column: &PrimitiveArray) -> Read {
     match name {
         "take" => Ok(Op::Take(building::array(alloc, "plain", column)?)),
-        "take_copies" => Ok(Op::Take(building::array(alloc, "copies", column)?)),
-        "take_truths" => Ok(Op::Take(building::array(alloc, "truths", column)?)),
+        "take_constant" => Ok(Op::Take(building::array(alloc, "constant", column)?)),
+        "take_bools" => Ok(Op::Take(building::array(alloc, "bools", column)?)),
         _ => Ok(Op::Filter(types::mask_of(alloc, column)?)),
     }
 }

@@ -1,7 +1,7 @@
 //! Questions to arrays.
 
 ghost use Rattle.std.specs.Prelude.{IsTrue};
-ghost use Rattle.fl_types.specs.Values.{cell_of};
+ghost use Rattle.fl_types.specs.Values.{scalar_parts};
 ghost use Rattle.fl_array.specs.Trees.{column};
 ghost use Rattle.fl_ops.specs.Questions.{is_comparable, may_ask};
 
@@ -20,7 +20,7 @@ use vortex_fastlanes::{
 
 /// An integer of an array's type.
 fn constant(array: &ArrayRef, integer: &str) -> Scalar
-    ensures { IsTrue (is_comparable (column array.now) (cell_of result)) }
+    ensures { IsTrue (is_comparable (column array.now) (scalar_parts result)) }
 {
     match array.dtype().ptype() {
         Some(ptype) => Scalar::primitive(types::value_of(ptype, integer), Nullability::NonNullable),
@@ -32,8 +32,8 @@ fn constant(array: &ArrayRef, integer: &str) -> Scalar
 fn reply(made: &Result<Answer, FastLanesError>, answer: &mut Text) {
     match made {
         Ok(Answer::Scalar(item)) => shown::scalar(answer, *item),
-        Ok(Answer::Bools(tests)) => shown::truths(answer, tests),
-        Ok(Answer::Bool(truth)) => answer.truth(*truth),
+        Ok(Answer::Bools(tests)) => shown::bools(answer, tests),
+        Ok(Answer::Bool(bool_answer)) => answer.bool_answer(*bool_answer),
         Err(refusal) => answer.refusal(*refusal),
     }
 }
@@ -78,7 +78,7 @@ fn options(lower: &str, upper: &str) -> BetweenOptions {
 
 fn compare(alloc: Global, array: &ArrayRef, name: &str, integer: &str, answer: &mut Text) {
     let (operator, constant) = (operator(name), constant(array, integer));
-    shown::made_truths(answer, array.compare(alloc, operator, &constant));
+    shown::made_bools(answer, array.compare(alloc, operator, &constant));
     ask_again(alloc, array, &Query::Compare(operator, constant), answer);
 }
 
@@ -91,24 +91,24 @@ fn between(
     answer: &mut Text,
 ) {
     let (lower, upper) = (constant(array, bounds.0), constant(array, bounds.1));
-    shown::made_truths(answer, array.between(alloc, &lower, &upper, &options));
+    shown::made_bools(answer, array.between(alloc, &lower, &upper, &options));
     ask_again(alloc, array, &Query::Between(lower, upper, options), answer);
 }
 
-fn truth(made: Result<bool, FastLanesError>, answer: &mut Text) {
+fn bool_answer(made: Result<bool, FastLanesError>, answer: &mut Text) {
     match made {
-        Ok(truth) => answer.truth(truth),
+        Ok(bool_answer) => answer.bool_answer(bool_answer),
         Err(refusal) => answer.refusal(refusal),
     }
 }
 
 fn sorted(alloc: Global, array: &ArrayRef, strict: bool, answer: &mut Text) {
-    truth(array.is_sorted(alloc, strict), answer);
+    bool_answer(array.is_sorted(alloc, strict), answer);
     ask_again(alloc, array, &Query::IsSorted(strict), answer);
 }
 
 fn constancy(alloc: Global, array: &ArrayRef, answer: &mut Text) {
-    truth(array.is_constant(alloc), answer);
+    bool_answer(array.is_constant(alloc), answer);
     ask_again(alloc, array, &Query::IsConstant, answer);
 }
 
@@ -118,7 +118,7 @@ enum Question {
     Items,
     Copy,
     Decode,
-    Plain,
+    PrimitiveParts,
     Validity,
     Item,
     Slices,
@@ -134,7 +134,7 @@ const QUESTIONS: &[(&str, Question)] = &[
     ("items", Question::Items),
     ("copy", Question::Copy),
     ("decode", Question::Decode),
-    ("plain", Question::Plain),
+    ("plain", Question::PrimitiveParts),
     ("validity", Question::Validity),
     ("item", Question::Item),
     ("slices", Question::Slices),
@@ -173,9 +173,9 @@ fn kind_of(array: &ArrayRef) -> &'static str {
     if array.as_primitive().is_some() {
         "plain"
     } else if array.as_constant().is_some() {
-        "copies"
+        "constant"
     } else if array.as_bool().is_some() {
-        "truths"
+        "bools"
     } else {
         "none"
     }
@@ -218,7 +218,7 @@ fn validity(alloc: Global, array: &ArrayRef, answer: &mut Text) {
 fn item_decoded(alloc: Global, array: &ArrayRef, i: usize, answer: &mut Text) {
     if i < array.len() {
         match item_of_decoded(array, alloc, i) {
-            Ok(item) => shown::scalar(answer, item),
+            Ok((_, item)) => shown::scalar(answer, item),
             Err(refusal) => answer.refusal(refusal),
         }
     }
@@ -235,7 +235,8 @@ fn sliced_twice(
     if !within || inner.1 > outer.1 - outer.0 {
         return Err(FastLanesError::RangeOutOfBounds);
     }
-    slice_of_slice(array, alloc, outer.0..outer.1, inner.0..inner.1)
+    let (_, part) = slice_of_slice(array, alloc, outer.0..outer.1, inner.0..inner.1)?;
+    Ok(part)
 }
 
 /// Answers a question that looks at an array's parts, or asks a query.
@@ -250,7 +251,7 @@ fn answer_asked(
         (Question::Items, []) => array_read(alloc, array, answer),
         (Question::Copy, []) => array_made(alloc, &array.try_clone(alloc), answer),
         (Question::Decode, []) => array_made(alloc, &array.decode(alloc), answer),
-        (Question::Plain, []) => shown::made(answer, array.to_primitive(alloc)),
+        (Question::PrimitiveParts, []) => shown::made(answer, array.to_primitive(alloc)),
         (Question::Validity, []) => validity(alloc, array, answer),
         (Question::Item, [i]) => item_decoded(alloc, array, count(i), answer),
         (Question::Slices, [a, b, c, d]) => {

@@ -5,5 +5,5 @@ use Rattle.fastlanes.proofs.deltas.delta.Given as goal
 
 abbrev pub invariant-loop-g : goal.invariant-loop-g
 invariant-loop-g g l = record {
-  filled : (s m : ℕ) → s < g.W.FastLanes.T → m < 16 * l.g → pattern_at g.W.FastLanes.pattern l.deltas (place s m) ≡ item_delta g.W.FastLanes.T (pattern_at g.W.FastLanes.pattern l.bases) (pattern_at g.W.FastLanes.pattern l.items) s m;
+  written : (s m : ℕ) → s < g.W.FastLanes.T → m < 16 * l.g → pattern_at g.W.FastLanes.pattern l.deltas (place s m) ≡ item_delta g.W.FastLanes.T (pattern_at g.W.FastLanes.pattern l.bases) (pattern_at g.W.FastLanes.pattern l.items) s m;
 }

@@ -2,7 +2,7 @@ use Rattle.std.proofs.Common.{◌+◌, ◌*◌, ◌∙◌, sym, arith, rules}
 use Rattle.fastlanes.specs.Layout.{pattern_at}
 use Rattle.fastlanes.specs.Delta.{item_delta}
 use Rattle.fastlanes.proofs.RowBits.{row_room}
-use Rattle.fastlanes.proofs.Fillings.{row_filled, item_here}
+use Rattle.fastlanes.proofs.RowWrites.{row_written, item_here}
 use Rattle.fastlanes.proofs.DeltaRows.{before_more, delta_here}
 use Rattle.fastlanes.proofs.deltas.delta_row.Goals as goal
 
@@ -11,9 +11,9 @@ returns-clause-before g c j h =
     c.load-row.ensures.lanes j h ∙ (item_here (pattern_at g.W.FastLanes.pattern c.args.items.now) c.args.r c.args.g j _ c.pos-at.ensures
     ∙ sym (before_more (pattern_at g.W.FastLanes.pattern c.args.bases.now) (pattern_at g.W.FastLanes.pattern c.args.items.now) c.args.r (16 * c.args.g + j)))
 
-pub returns-clause-filled : goal.returns-clause-filled
-returns-clause-filled g c =
-    row_filled g.W.FastLanes.T g.W.FastLanes.LANES (item_delta g.W.FastLanes.T (pattern_at g.W.FastLanes.pattern c.args.bases.now) (pattern_at g.W.FastLanes.pattern c.args.items.now)) c.args.g c.args.r _
+pub returns-clause-written : goal.returns-clause-written
+returns-clause-written g c =
+    row_written g.W.FastLanes.T g.W.FastLanes.LANES (item_delta g.W.FastLanes.T (pattern_at g.W.FastLanes.pattern c.args.bases.now) (pattern_at g.W.FastLanes.pattern c.args.items.now)) c.args.g c.args.r _
     (pattern_at g.W.FastLanes.pattern c.args.deltas.now) (pattern_at g.W.FastLanes.pattern c.store.new.words) (g.W.FastLanes.lane c.subtract.result)
     g.met.W.FastLanes.shape c.requires.row c.requires.group c.pos-at.ensures c.store.ensures.lanes c.store.ensures.others
     (λ j h. delta_here g.W.FastLanes.T (pattern_at g.W.FastLanes.pattern c.args.bases.now) (pattern_at g.W.FastLanes.pattern c.args.items.now) c.args.r c.args.g j _ _ _ _

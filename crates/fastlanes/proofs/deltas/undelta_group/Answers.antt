@@ -1,14 +1,14 @@
 use Rattle.std.proofs.Common.{◌≡◌, ◌+◌, ◌*◌, arith, refl}
 use Rattle.fastlanes.specs.Layout.{place, pattern_at}
 use Rattle.fastlanes.specs.Delta.{summed_item}
-use Rattle.fastlanes.proofs.Fillings.{filled_none, filled_more, filled_all, whole_eights}
+use Rattle.fastlanes.proofs.RowWrites.{written_none, written_more, written_all, whole_eights}
 use Rattle.fastlanes.proofs.DeltaRows.{sums_begin}
 use Rattle.fastlanes.proofs.deltas.undelta_group.Goals as goal
 
 pub loop-q-init : goal.loop-q-init
 loop-q-init g c = record {
   sums = λ j h. sums_begin g.W.FastLanes.T (pattern_at g.W.FastLanes.pattern c.args.bases.now) (pattern_at g.W.FastLanes.pattern c.args.deltas.now) (16 * c.args.g + j) _ _ (omega arith) (c.bases_of-sums.ensures.lanes j h) (c.bases_of-sums.ensures.small j h);
-  filled = filled_none g.W.FastLanes.T g.W.FastLanes.LANES place (summed_item g.W.FastLanes.T (pattern_at g.W.FastLanes.pattern c.args.bases.now) (pattern_at g.W.FastLanes.pattern c.args.deltas.now)) c.args.g 0 _ _ (omega arith);
+  written = written_none g.W.FastLanes.T g.W.FastLanes.LANES place (summed_item g.W.FastLanes.T (pattern_at g.W.FastLanes.pattern c.args.bases.now) (pattern_at g.W.FastLanes.pattern c.args.deltas.now)) c.args.g 0 _ _ (omega arith);
 }
 
 pub loop-q-preserved : goal.loop-q-preserved
@@ -17,13 +17,13 @@ loop-q-preserved g c =
     let next : 8 * (c.loop-q.q + 1) ≡ 8 * c.loop-q.q + 8 = omega arith in
     record {
       sums = rw next c.undelta_8-sums.ensures.sums;
-      filled = filled_more g.W.FastLanes.T g.W.FastLanes.LANES place (summed_item g.W.FastLanes.T (pattern_at g.W.FastLanes.pattern c.args.bases.now) (pattern_at g.W.FastLanes.pattern c.args.deltas.now)) c.args.g 0 (8 * c.loop-q.q) (8 * c.loop-q.q) (8 * c.loop-q.q + 8) (8 * (c.loop-q.q + 1)) _ _ _
-          c.requires.group (omega arith) (omega arith) (omega arith) refl next c.loop-q.invariant.filled c.undelta_8-sums.ensures.filled;
+      written = written_more g.W.FastLanes.T g.W.FastLanes.LANES place (summed_item g.W.FastLanes.T (pattern_at g.W.FastLanes.pattern c.args.bases.now) (pattern_at g.W.FastLanes.pattern c.args.deltas.now)) c.args.g 0 (8 * c.loop-q.q) (8 * c.loop-q.q) (8 * c.loop-q.q + 8) (8 * (c.loop-q.q + 1)) _ _ _
+          c.requires.group (omega arith) (omega arith) (omega arith) refl next c.loop-q.invariant.written c.undelta_8-sums.ensures.written;
     }
 
 pub returns : goal.returns
 returns g c = record {
-  filled =
+  written =
       let eights = whole_eights g.W.FastLanes.T g.W.FastLanes.LANES g.met.W.FastLanes.shape in
-      filled_all g.W.FastLanes.T g.W.FastLanes.LANES place (summed_item g.W.FastLanes.T (pattern_at g.W.FastLanes.pattern c.args.bases.now) (pattern_at g.W.FastLanes.pattern c.args.deltas.now)) c.args.g (8 * c.loop-q.q) _ _ (omega arith) c.loop-q.invariant.filled;
+      written_all g.W.FastLanes.T g.W.FastLanes.LANES place (summed_item g.W.FastLanes.T (pattern_at g.W.FastLanes.pattern c.args.bases.now) (pattern_at g.W.FastLanes.pattern c.args.deltas.now)) c.args.g (8 * c.loop-q.q) _ _ (omega arith) c.loop-q.invariant.written;
 }

@@ -1,11 +1,11 @@
 use Rattle.std.proofs.Common.{◌≡◌, ◌+◌, arith}
 use Rattle.fastlanes.specs.Layout.{pattern_at}
-use Rattle.fastlanes.specs.Filled.{word_of}
-use Rattle.fastlanes.proofs.Fillings.{words_more}
+use Rattle.fastlanes.specs.Rows.{packed_word}
+use Rattle.fastlanes.proofs.RowWrites.{words_more}
 use Rattle.fastlanes.proofs.packing.pack_8.Goals as goal
 
 pub returns-clause-words : goal.returns-clause-words
 returns-clause-words g c =
     let last : c.args.r + 8 ≡ c.args.r + 4 + 4 = omega arith in
-    rw last (words_more g.W.FastLanes.T g.W.FastLanes.LANES c.args.width (word_of g.W.FastLanes.T c.args.width (pattern_at g.W.FastLanes.pattern c.args.items.now)) c.args.g c.args.r (c.args.r + 4) (c.args.r + 4) (c.args.r + 4 + 4) _ _ _ g.met.W.FastLanes.shape c.requires.group.inside (omega arith) (omega arith) (omega arith) (omega arith)
+    rw last (words_more g.W.FastLanes.T g.W.FastLanes.LANES c.args.width (packed_word g.W.FastLanes.T c.args.width (pattern_at g.W.FastLanes.pattern c.args.items.now)) c.args.g c.args.r (c.args.r + 4) (c.args.r + 4) (c.args.r + 4 + 4) _ _ _ g.met.W.FastLanes.shape c.requires.group.inside (omega arith) (omega arith) (omega arith) (omega arith)
     c.pack_4-begun.ensures.words c.pack_4.ensures.words)

@@ -1,9 +1,9 @@
 use Rattle.std.proofs.Common.{◌+◌, ◌*◌, arith, rules, ◌∙◌, sym, refl}
 use Rattle.fastlanes.specs.Layout.{pattern_at}
-use Rattle.fastlanes.specs.Filled.{word_of}
+use Rattle.fastlanes.specs.Rows.{packed_word}
 use Rattle.fastlanes.proofs.RowBits.{row_room}
 use Rattle.fastlanes.proofs.Packings.{row_stays, row_fills, row_ends, row_goes_on, next_word_moves, next_word_stays}
-use Rattle.fastlanes.proofs.Fillings.{filled_none, words_filled, item_here}
+use Rattle.fastlanes.proofs.RowWrites.{written_none, words_written, item_here}
 use Rattle.fastlanes.proofs.packing.pack_row.Goals as goal
 
 pub load-requires : goal.load-requires
@@ -18,7 +18,7 @@ returns-then-shift-width-clause-begun g c j h =
 
 pub returns-then-shift-width-clause-words : goal.returns-then-shift-width-clause-words
 returns-then-shift-width-clause-words g c =
-    filled_none c.args.width g.W.FastLanes.LANES _ (word_of g.W.FastLanes.T c.args.width (pattern_at g.W.FastLanes.pattern c.args.items.now)) c.args.g _ _ (g.S.Storage.word c.args.packed.now)
+    written_none c.args.width g.W.FastLanes.LANES _ (packed_word g.W.FastLanes.T c.args.width (pattern_at g.W.FastLanes.pattern c.args.items.now)) c.args.g _ _ (g.S.Storage.word c.args.packed.now)
     (next_word_stays g.W.FastLanes.T g.W.FastLanes.LANES c.args.width c.args.r _ g.met.W.FastLanes.shape c.begin-k.ensures.bit (rw c.bits-t.ensures at c.if-shift-width.true))
 
 pub returns-then-shift-width-2-clause-begun : goal.returns-then-shift-width-2-clause-begun
@@ -27,7 +27,7 @@ returns-then-shift-width-2-clause-begun g c j h =
 
 pub returns-then-shift-width-2-clause-words : goal.returns-then-shift-width-2-clause-words
 returns-then-shift-width-2-clause-words g c =
-    words_filled g.W.FastLanes.T g.W.FastLanes.LANES c.args.width (word_of g.W.FastLanes.T c.args.width (pattern_at g.W.FastLanes.pattern c.args.items.now)) c.args.g c.begin-k.result.0 _ _ _ (g.S.Storage.word c.args.packed.now) (g.S.Storage.word c.store.new.units) (g.W.FastLanes.lane c.or-both.result)
+    words_written g.W.FastLanes.T g.W.FastLanes.LANES c.args.width (packed_word g.W.FastLanes.T c.args.width (pattern_at g.W.FastLanes.pattern c.args.items.now)) c.args.g c.begin-k.result.0 _ _ _ (g.S.Storage.word c.args.packed.now) (g.S.Storage.word c.store.new.units) (g.W.FastLanes.lane c.or-both.result)
     g.met.W.FastLanes.shape c.requires.group.inside (sym c.begin-k.ensures.word) (next_word_moves g.W.FastLanes.T g.W.FastLanes.LANES c.args.width c.args.r _ g.met.W.FastLanes.shape c.requires.group.fits c.begin-k.ensures.bit (omega arith) ∙ rw c.begin-k.ensures.word refl) c.group_at.ensures.place
     c.store.ensures.lanes c.store.ensures.others
     (λ j h. row_fills g.W.FastLanes.T g.W.FastLanes.LANES c.args.width (pattern_at g.W.FastLanes.pattern c.args.items.now) c.args.r (16 * c.args.g + j) _ _ _ _ _ _ _ g.met.W.FastLanes.shape c.begin-k.ensures.word c.begin-k.ensures.bit (omega arith)
@@ -40,7 +40,7 @@ returns-else-shift-width-2-clause-begun g c j h =
 
 pub returns-else-shift-width-2-clause-words : goal.returns-else-shift-width-2-clause-words
 returns-else-shift-width-2-clause-words g c =
-    words_filled g.W.FastLanes.T g.W.FastLanes.LANES c.args.width (word_of g.W.FastLanes.T c.args.width (pattern_at g.W.FastLanes.pattern c.args.items.now)) c.args.g c.begin-k.result.0 _ _ _ (g.S.Storage.word c.args.packed.now) (g.S.Storage.word c.store.new.units) (g.W.FastLanes.lane c.or-both.result)
+    words_written g.W.FastLanes.T g.W.FastLanes.LANES c.args.width (packed_word g.W.FastLanes.T c.args.width (pattern_at g.W.FastLanes.pattern c.args.items.now)) c.args.g c.begin-k.result.0 _ _ _ (g.S.Storage.word c.args.packed.now) (g.S.Storage.word c.store.new.units) (g.W.FastLanes.lane c.or-both.result)
     g.met.W.FastLanes.shape c.requires.group.inside (sym c.begin-k.ensures.word) (next_word_moves g.W.FastLanes.T g.W.FastLanes.LANES c.args.width c.args.r _ g.met.W.FastLanes.shape c.requires.group.fits c.begin-k.ensures.bit (omega arith) ∙ rw c.begin-k.ensures.word refl) c.group_at.ensures.place
     c.store.ensures.lanes c.store.ensures.others
     (λ j h. row_fills g.W.FastLanes.T g.W.FastLanes.LANES c.args.width (pattern_at g.W.FastLanes.pattern c.args.items.now) c.args.r (16 * c.args.g + j) _ _ _ _ _ _ _ g.met.W.FastLanes.shape c.begin-k.ensures.word c.begin-k.ensures.bit (omega arith)

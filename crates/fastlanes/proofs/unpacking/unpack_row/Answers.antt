@@ -1,8 +1,8 @@
 use Rattle.std.proofs.Common.{◌+◌, ◌*◌, arith, rules}
 use Rattle.fastlanes.specs.Layout.{pattern_at}
-use Rattle.fastlanes.specs.Filled.{sum_of}
+use Rattle.fastlanes.specs.Rows.{item_with_reference}
 use Rattle.fastlanes.proofs.RowBits.{row_room}
-use Rattle.fastlanes.proofs.Fillings.{row_filled, sum_here}
+use Rattle.fastlanes.proofs.RowWrites.{row_written, sum_here}
 use Rattle.fastlanes.proofs.Steps.{item_small}
 use Rattle.fastlanes.proofs.unpacking.unpack_row.Goals as goal
 
@@ -11,10 +11,10 @@ store-requires g c = let within = row_room g.W.FastLanes.T g.W.FastLanes.LANES c
 
 pub returns : goal.returns
 returns g c = record {
-  filled = row_filled g.W.FastLanes.T g.W.FastLanes.LANES (sum_of g.W.FastLanes.T g.W.FastLanes.LANES c.args.width (g.S.Storage.word c.args.words.now) (g.W.FastLanes.lane c.args.reference)) c.args.g c.args.r _ (pattern_at g.W.FastLanes.pattern c.args.items.now) (pattern_at g.W.FastLanes.pattern c.store.new.words) (g.W.FastLanes.lane c.framed-row.result)
+  written = row_written g.W.FastLanes.T g.W.FastLanes.LANES (item_with_reference g.W.FastLanes.T g.W.FastLanes.LANES c.args.width (g.S.Storage.word c.args.words.now) (g.W.FastLanes.lane c.args.reference)) c.args.g c.args.r _ (pattern_at g.W.FastLanes.pattern c.args.items.now) (pattern_at g.W.FastLanes.pattern c.store.new.words) (g.W.FastLanes.lane c.add_reference-row.result)
       g.met.W.FastLanes.shape c.requires.row c.requires.group.inside c.pos.ensures c.store.ensures.lanes c.store.ensures.others
-      (λ j h. sum_here g.W.FastLanes.T g.W.FastLanes.LANES c.args.width (g.S.Storage.word c.args.words.now) (g.W.FastLanes.lane c.args.reference) c.args.r c.args.g j _ _ h (c.items_of_row.ensures.items j h) (c.framed-row.ensures.lanes j h));
+      (λ j h. sum_here g.W.FastLanes.T g.W.FastLanes.LANES c.args.width (g.S.Storage.word c.args.words.now) (g.W.FastLanes.lane c.args.reference) c.args.r c.args.g j _ _ h (c.items_of_row.ensures.items j h) (c.add_reference-row.ensures.lanes j h));
 }
 
-pub framed-row-requires : goal.framed-row-requires
-framed-row-requires g c = (search rules, (c.requires.reference, λ j h. rw (c.items_of_row.ensures.items j h) (item_small g.W.FastLanes.T g.W.FastLanes.LANES c.args.width (g.S.Storage.word c.args.words.now) c.args.r (16 * c.args.g + j) c.requires.group.fits)))
+pub add_reference-row-requires : goal.add_reference-row-requires
+add_reference-row-requires g c = (search rules, (c.requires.reference, λ j h. rw (c.items_of_row.ensures.items j h) (item_small g.W.FastLanes.T g.W.FastLanes.LANES c.args.width (g.S.Storage.word c.args.words.now) c.args.r (16 * c.args.g + j) c.requires.group.fits)))

@@ -1,7 +1,7 @@
 use Rattle.std.proofs.Common.{◌+◌, ◌*◌, None, map, arith, sym, ◌∙◌}
 use Rattle.std.proofs.lemmas.List.{get_or_past}
 use Rattle.fl_types.specs.Validities.{items_of}
-use Rattle.fl_codec.proofs.FillingLaws.{get_or-chunk}
+use Rattle.fl_codec.proofs.ForwardFillLaws.{get_or-chunk}
 use Rattle.fl_codec.proofs.ReferenceLaws.{length-items_read}
 use Rattle.fl_codec.proofs.chunks.item_in_chunk.Goals as goal
 

@@ -1,7 +1,7 @@
 use Rattle.std.proofs.Common.{◌≡◌, Ok, length, map, arith, rules, ap}
 use Rattle.std.proofs.lemmas.Result.{err_from_is_err_and}
 use Rattle.fl_codec.specs.Chunks.{chunks_of}
-use Rattle.fl_codec.specs.Parts.{items_of_plain}
+use Rattle.fl_codec.specs.Parts.{items_of_primitive}
 use Rattle.fl_codec.proofs.DeltaLaws.{compressed}
 use Rattle.fl_codec.proofs.delta.compress_typed.Goals as goal
 
@@ -19,8 +19,8 @@ returns g c =
     let ended = c.chunk_count-chunks.ensures in
     let reached = c.loop-k.auto.k-end in
     let long = c.len.ensures.items in
-    let all : c.loop-k.k ≡ chunks_of (length (items_of_plain c.args.array.now)) = omega arith in
-    ap (λ p. Ok p) (compressed c.args.array.now g.T.NativePType.PTYPE c.loop-k.k (map value c.loop-k.bases.items) (map value c.loop-k.deltas.items) c.solid.result c.solid-2.result c.requires all c.loop-k.invariant.bases c.loop-k.invariant.deltas c.solid.ensures c.solid-2.ensures)
+    let all : c.loop-k.k ≡ chunks_of (length (items_of_primitive c.args.array.now)) = omega arith in
+    ap (λ p. Ok p) (compressed c.args.array.now g.T.NativePType.PTYPE c.loop-k.k (map value c.loop-k.bases.items) (map value c.loop-k.deltas.items) c.non_nullable.result c.non_nullable-2.result c.requires all c.loop-k.invariant.bases c.loop-k.invariant.deltas c.non_nullable.ensures c.non_nullable-2.ensures)
 
 pub returns-in_err-bases : goal.returns-in_err-bases
 returns-in_err-bases g c = let failed = err_from_is_err_and c.from_residual.result c.from_residual.ensures.1 in rw (failed.1, failed.2) tt

@@ -5,7 +5,7 @@ use Rattle.fastlanes.proofs.Patterns.{pattern_at_take, pattern_at_drop}
 use Rattle.fl_types.specs.Bits.{table}
 use Rattle.fl_types.specs.Integers.{read_as}
 use Rattle.fl_codec.proofs.DeltaLaws.{values_table}
-use Rattle.fl_codec.proofs.FillingLaws.{table_append}
+use Rattle.fl_codec.proofs.ForwardFillLaws.{table_append}
 use Rattle.fl_codec.proofs.delta.push_block.Goals as goal
 
 on_ok : {T E A B : Type 0} (r : Result T E) → (A → B) → OnOk r A → OnOk r B

@@ -1,16 +1,12 @@
-use Rattle.std.proofs.Common.{◌+◌, ◌*◌, ◌-◌, ◌<◌, get_or, arith, sym, ◌∙◌}
+use Rattle.std.proofs.Common.{arith, sym, ◌∙◌}
 use Rattle.flcol_engine.proofs.TextLemmas.{next_digit, not_digit, number_read, too_large}
 use Rattle.flcol_engine.proofs.text.number.Goals as goal
-use Rattle.flcol_engine.proofs.text.number.Goals.{then-digit-max-via-then-digit-max, then-digit-max-via-else-digit-max+then-value-max}
+
+pub returns-then-value-max : goal.returns-then-value-max
+returns-then-value-max c = sym (too_large _ _ _ _ c.loop-c-test.true (sym c.if-not-is_ascii_digit.ensures.value) (omega arith) c.loop-c.invariant.reading)
 
 pub returns-then-digit-max : goal.returns-then-digit-max
-returns-then-digit-max c =
-    let large : c.args.max < c.loop-c.value * 10 + (get_or c.args.digits.now c.loop-c.c-index 0 - 48) =
-    elim c.then-digit-max.branch [
-      | then-digit-max-via-then-digit-max w ↦ omega arith
-      | then-digit-max-via-else-digit-max+then-value-max w ↦ omega arith
-    ] in
-    sym (too_large _ _ _ _ c.loop-c-test.true (sym c.if-not-is_ascii_digit.ensures.value) large c.loop-c.invariant.reading)
+returns-then-digit-max c = sym (too_large _ _ _ _ c.loop-c-test.true (sym c.if-not-is_ascii_digit.ensures.value) (omega arith) c.loop-c.invariant.reading)
 
 pub returns-then-not-is_ascii_digit : goal.returns-then-not-is_ascii_digit
 returns-then-not-is_ascii_digit c = sym (not_digit _ _ _ _ c.loop-c-test.true (sym c.if-not-is_ascii_digit.ensures.value) c.loop-c.invariant.reading)

@@ -4,7 +4,8 @@ use Rattle.std.specs.Prelude.{Result}
 use Rattle.std.proofs.lemmas.List.{take_at, append-nil}
 use Rattle.std.proofs.KnownBytes.{Consumes-nil, Consumes-trans, Consumes-whole}
 use Rattle.flcol_engine.specs.declared.fault.Fault.{Fault}
-use Rattle.flcol_engine.specs.declared.fault.Fault.TheVariants.{OutOfMemory, ReadFault}
+use Rattle.flcol_engine.specs.declared.fault.Fault.TheVariants.{ReadFault}
+use Rattle.flcol_engine.specs.Faults.{out_of_memory}
 use Rattle.flcol_engine.specs.Ends.{MarksWhere}
 use Rattle.flcol_engine.proofs.transfer.read_all.Goals as goal
 
@@ -12,7 +13,7 @@ no_value : {X E : Type 0} (P : X → Type 0) (Q : E → Type 0) (r : Result X E)
 no_value P Q (Ok x) h = absurd h
 no_value P Q (Err e) h = tt
 
-no_memory_marks : {X : Type 0} (r : Result X Fault) (old new : Bool) → IsErrAnd r (λ e. e ≡ OutOfMemory) → new ≡ old → MarksWhere ReadFault old new r
+no_memory_marks : {X : Type 0} (r : Result X Fault) (old new : Bool) → IsErrAnd r (λ e. e ≡ out_of_memory) → new ≡ old → MarksWhere ReadFault old new r
 no_memory_marks (Ok x) old new h same = absurd h
 no_memory_marks (Err e) old new h same = (λ is. absurd cc, λ _. same)
 

@@ -1,6 +1,7 @@
 use Rattle.std.proofs.Common.{◌≡◌, ◌+◌, ◌∙◌, pos, get_or, Some, option_map, sym, arith, ap, unsigned_abs}
 use Rattle.std.proofs.lemmas.List.{length-map}
-use Rattle.fl_patches.specs.PatchMaps.{PatchMap, numbers, rank_of}
+use Rattle.fl_column.specs.Numbers.{numbers}
+use Rattle.fl_patches.specs.PatchMaps.{PatchesParts, rank_of}
 use Rattle.fl_patches.proofs.Parts.{sound}
 use Rattle.fl_patches.proofs.Rising.{rank_at}
 use Rattle.fl_patches.proofs.patches.Patches.get_patched.Goals as goal
@@ -8,19 +9,19 @@ use Rattle.fl_patches.proofs.patches.Patches.get_patched.Goals as goal
 pub rank_in-requires : goal.rank_in-requires
 rank_in-requires c =
     let f = c.self.inside in
-    let p : PatchMap = record { array_len = f.array_len; offset = f.offset; indices = f.indices; values = f.values; chunk_offsets = f.chunk_offsets } in
+    let p : PatchesParts = record { array_len = f.array_len; offset = f.offset; indices = f.indices; values = f.values; chunk_offsets = f.chunk_offsets } in
     (sound p c.self.invariant).rising
 
 pub value_in-requires-clause-valued : goal.value_in-requires-clause-valued
 value_in-requires-clause-valued c =
     let f = c.self.inside in
-    let p : PatchMap = record { array_len = f.array_len; offset = f.offset; indices = f.indices; values = f.values; chunk_offsets = f.chunk_offsets } in
+    let p : PatchesParts = record { array_len = f.array_len; offset = f.offset; indices = f.indices; values = f.values; chunk_offsets = f.chunk_offsets } in
     (sound p c.self.invariant).valued
 
 pub value_in-requires-clause-range : goal.value_in-requires-clause-range
 value_in-requires-clause-range c =
     let f = c.self.inside in
-    let p : PatchMap = record { array_len = f.array_len; offset = f.offset; indices = f.indices; values = f.values; chunk_offsets = f.chunk_offsets } in
+    let p : PatchesParts = record { array_len = f.array_len; offset = f.offset; indices = f.indices; values = f.values; chunk_offsets = f.chunk_offsets } in
     let s = sound p c.self.invariant in
     let at = rank_at (numbers p.indices) (p.offset + c.args.i) c.in_ok-rank.rank (sym c.rank_in.ensures ∙ c.in_ok-rank.was) in
     omega (arith, length-map p.indices.slots unsigned_abs)

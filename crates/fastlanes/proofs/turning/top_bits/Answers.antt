@@ -1,5 +1,0 @@
-use Rattle.fastlanes.proofs.Turns.{top_bit}
-use Rattle.fastlanes.proofs.turning.top_bits.Goals as goal
-
-pub returns : goal.returns
-returns c m h = top_bit c.args.vector m c.requires h

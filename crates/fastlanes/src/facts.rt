@@ -1,0 +1,43 @@
+//! Facts for the proofs of callers. These functions do nothing of use when they run: the contract of
+//! each says what holds of its arguments, and a call brings that into its caller's proof.
+#![tactic(auto)]
+
+ghost use Rattle.std.specs.Prelude.{◌≡◌, ℕ, ◌^◌, ◌<◌, ◌≤◌, length, slice_index};
+ghost use Rattle.fastlanes.specs.Layout.{pattern_at};
+
+use crate::counts::Work;
+use crate::layout::FL_CHUNK_SIZE;
+use crate::words::FastLanes;
+
+/// The pattern of each word of a slice is below 2 to the number of bits.
+pub fn prove_all_in_range<W: FastLanes>(words: &[W])
+    ensures { (i : ℕ) → i < length words.now → pattern_at W.pattern words.now i < 2 ^ W.T }
+{
+    for i in 0..words.len() {
+        words[i].prove_in_range();
+    }
+}
+
+/// A block has 1024 items.
+#[inline(always)]
+pub(crate) fn prove_whole_block<W: Copy>(block: &[W; FL_CHUNK_SIZE])
+    ensures { length block.now ≡ 1024 }
+{
+    let _count = block.len();
+}
+
+/// A byte is below 256.
+#[inline(always)]
+pub(crate) fn prove_bytes_fit(bytes: &[u8])
+    ensures { (i : ℕ) → slice_index bytes.now i < 256 }
+{
+    let _count = bytes.len();
+}
+
+/// A count of words is at most `u64::MAX`.
+#[inline(always)]
+pub(crate) fn prove_count_fits(work: &Work)
+    ensures { work.now.words ≤ u64.MAX }
+{
+    let _words = work.words();
+}

@@ -1,0 +1,575 @@
+//! Bit-packed arrays, at one width or at a width for each block.
+
+ghost use Rattle.std.specs.Prelude.{◌≡◌, ◌+◌, ◌-◌, ◌*◌, ◌/◌, ◌^◌, ◌<◌, ◌≤◌, IfErr, IfOk, IsTrue, None, Ok, length};
+ghost use Rattle.std.specs.Option.{option_copied};
+ghost use Rattle.fl_types.specs.declared.error.FastLanesError.TheVariants.{OutOfMemory};
+ghost use Rattle.fl_types.specs.Refusals.{Answers};
+ghost use Rattle.fl_types.specs.Values.{scalar_parts};
+ghost use Rattle.fl_column.specs.Columns.{column_of_primitive};
+ghost use Rattle.fl_column.specs.Operations.{slice_of};
+ghost use Rattle.fl_column.specs.Questions.{scalar_in};
+ghost use Rattle.fl_bitpacking.specs.Parts.{parts_of};
+ghost use Rattle.fl_bitpacking.specs.Refusals.{accepted, blocked_refusal, global_refusal};
+ghost use Rattle.fl_bitpacking.specs.SlicedParts.{end_block, first_block, sliced_boundaries};
+ghost use Rattle.fl_array.specs.Trees.{column, height};
+ghost use Rattle.fl_array.specs.BitPackedArrays.{BlockBoundaries, GlobalWidth, new_bitpacked, refusal_before_boundaries, refusal_of_bitpacked, size_of_widths, tree_of_bitpacked};
+ghost use Rattle.fl_array.specs.Kinds.{has_delta, kind, slice_kind};
+ghost use Rattle.fl_array.specs.Reads.{IsValidityOf, integer_column};
+ghost use Rattle.fl_array.specs.Views.{HasLowerBoundaries, HasSmallerBoundaries, widths_of_view, widths_of_owned};
+
+use crate::array::ArrayRef;
+use crate::numbers::number_of_scalar;
+use bytes::Bytes;
+use fastlanes::Work;
+use fl_bitpacking::decoding::PackedColumn;
+use fl_bitpacking::packed_data::PackedData;
+use fl_bitpacking::refusals::{
+    block_offsets_refusal, blocked_refusal, global_refusal, positions_refusal,
+};
+use fl_column::{DType, FastLanesError, PType, PrimitiveArray, Scalar, Validity, chunk_count};
+use fl_patches::Patches;
+use std::alloc::Global;
+use std::marker::Model;
+
+/// A bit-packed array: the packed blocks of its items, all at one width or each at its own; the patches of
+/// the items that have more bits; and which items are null.
+#[cycle(array)]
+#[derive(Drop)]
+pub struct BitPackedArray {
+    parts: PackedData,
+    widths: StoredWidths,
+}
+
+#[cycle(array)]
+#[derive(Drop)]
+enum StoredWidths {
+    Global(u8),
+    Blocked(Box<ArrayRef>),
+}
+
+/// The widths of an array's blocks.
+#[derive(Clone, Copy)]
+pub enum BitWidthsView<'a> {
+    /// All blocks have this width.
+    Global(u8),
+    /// Block `j` lies between the boundaries `j` and `j + 1`, counted from the first one.
+    Blocked(&'a ArrayRef),
+}
+
+impl Model for BitPackedArray {
+    ghost use Rattle.std.specs.Prelude.{◌≡◌, None};
+    ghost use Rattle.std.proofs.Common.{arith};
+    ghost use Rattle.fl_array.specs.BitPackedArrays.{BitPackedArrayParts, bit_widths_refusal, size_of_widths};
+    ghost use Rattle.fl_array.specs.ArrayCodes.{coded_bitpacked};
+
+    ghost Value = { BitPackedArrayParts };
+
+    ghost coded = { coded_bitpacked };
+
+    ghost use Rattle.fl_array.specs.Shown.{stored_widths};
+
+    ghost view = { λ a. record { parts = a.parts; widths = stored_widths a.widths } };
+
+    ghost invariant = { λ a. bit_widths_refusal a.parts (stored_widths a.widths) ≡ None };
+
+    ghost size = { λ a. size_of_widths a.widths };
+
+    ghost size_decreases = { λ a h. Prim.grind arith };
+}
+
+/// The widths of an array's blocks, owned.
+#[derive(Drop)]
+pub enum BitWidths {
+    /// All blocks have this width.
+    Global(u8),
+    /// Block `j` lies between the boundaries `j` and `j + 1`, counted from the first one.
+    Blocked(ArrayRef),
+}
+
+/// The bit-packed encoding: its constructors.
+#[derive(Clone, Copy, Debug)]
+pub struct BitPacked;
+
+impl BitPacked {
+    /// The parts of an array. It takes no memory.
+    pub fn into_parts(array: BitPackedArray) -> (PackedData, BitWidths)
+        ensures parts { result.0 ≡ array.parts }
+        ensures widths { widths_of_owned result.1 ≡ array.widths }
+    {
+        let BitPackedArray { parts, widths } = array;
+        match widths {
+            StoredWidths::Global(width) => (parts, BitWidths::Global(width)),
+            StoredWidths::Blocked(boundaries) => {
+                (parts, BitWidths::Blocked(Box::into_inner(boundaries)))
+            }
+        }
+    }
+
+    /// An array whose blocks all have one width. The position of its first item in the first block is `offset`.
+    ///
+    /// # Errors
+    /// The first of `OffsetTooLarge`, `LengthOverflow`, `WidthTooLarge`, `ValidityLength`, `PatchType`,
+    /// `PatchLength` and `PackedLength` that holds.
+    pub fn try_new(
+        packed: Bytes,
+        ptype: PType,
+        validity: Validity,
+        patches: Option<Patches>,
+        bit_width: u8,
+        len: usize,
+        offset: u16,
+    ) -> Result<BitPackedArray, FastLanesError>
+        ensures { result ≡ new_bitpacked (record { packed = packed; ptype = ptype; validity = validity; patches = patches; offset = offset; len = len }) (GlobalWidth bit_width) }
+    {
+        let offset = usize::from(offset);
+        match refusal_at_width(&packed, ptype, &validity, &patches, offset, len, bit_width) {
+            Some(refusal) => Err(refusal),
+            None => Ok(BitPackedArray {
+                parts: PackedData::new(packed, ptype, validity, patches, offset, len),
+                widths: StoredWidths::Global(bit_width),
+            }),
+        }
+    }
+
+    /// An array whose blocks lie between boundaries: block `j` from `block_offsets[j]` to
+    /// `block_offsets[j + 1]`, in bytes counted from `block_offsets[0]`. The boundaries are decoded at once,
+    /// into memory that is asked for by one allocation.
+    ///
+    /// # Errors
+    /// The first of `OffsetTooLarge`, `LengthOverflow`, `BlockOffsetsType`, `BlockOffsetsCount`,
+    /// `BlockBoundary`, `BlockSpan`, `ValidityLength`, `PatchType` and `PatchLength` that holds.
+    pub fn try_new_with_block_offsets(
+        alloc: Global,
+        packed: Bytes,
+        ptype: PType,
+        validity: Validity,
+        patches: Option<Patches>,
+        block_offsets: ArrayRef,
+        len: usize,
+        offset: u16,
+    ) -> Result<BitPackedArray, FastLanesError>
+        ensures { Answers (λ a. a) result (new_bitpacked (record { packed = packed; ptype = ptype; validity = validity; patches = patches; offset = offset; len = len }) (BlockBoundaries block_offsets)) }
+    {
+        let offset = usize::from(offset);
+        accept_blocked(
+            alloc,
+            &packed,
+            ptype,
+            &validity,
+            &patches,
+            &block_offsets,
+            offset,
+            len,
+        )?;
+        let boundaries = Box::new(alloc, block_offsets)?;
+        Ok(BitPackedArray {
+            parts: PackedData::new(packed, ptype, validity, patches, offset, len),
+            widths: StoredWidths::Blocked(boundaries),
+        })
+    }
+}
+
+/// Why these parts make no array of blocks of one width, if they make none.
+fn refusal_at_width(
+    packed: &Bytes,
+    ptype: PType,
+    validity: &Validity,
+    patches: &Option<Patches>,
+    offset: usize,
+    len: usize,
+    width: u8,
+) -> Option<FastLanesError>
+    ensures { result ≡ global_refusal (record { packed = packed.now; ptype = ptype; validity = validity.now; patches = patches.now; offset = offset; len = len }) width }
+{
+    let held = patches.as_ref();
+    let parts = PackedColumn {
+        packed: packed.as_slice(),
+        ptype,
+        validity,
+        patches: held,
+        offset,
+        len,
+    };
+    global_refusal(&parts, usize::from(width))
+}
+
+/// Accepts parts whose blocks lie between the boundaries, or says why they make no array.
+fn accept_blocked(
+    alloc: Global,
+    packed: &Bytes,
+    ptype: PType,
+    validity: &Validity,
+    patches: &Option<Patches>,
+    boundaries: &ArrayRef,
+    offset: usize,
+    len: usize,
+) -> Result<(), FastLanesError>
+    ensures { Answers (λ u. u) result (accepted tt (blocked_refusal (record { packed = packed.now; ptype = ptype; validity = validity.now; patches = patches.now; offset = offset; len = len }) (column boundaries.now))) }
+{
+    let held = patches.as_ref();
+    let parts = PackedColumn {
+        packed: packed.as_slice(),
+        ptype,
+        validity,
+        patches: held,
+        offset,
+        len,
+    };
+    accept_boundaries(alloc, &parts, boundaries)
+}
+
+/// Why these parts make no array whatever the boundaries are, if they make none.
+fn refusal_before_boundaries(parts: &PackedColumn, boundaries: &ArrayRef) -> Option<FastLanesError>
+    ensures { result ≡ refusal_before_boundaries (parts_of parts.now) (column boundaries.now) }
+{
+    if let Some(refusal) = positions_refusal(parts.offset, parts.len) {
+        return Some(refusal);
+    }
+    let blocks = chunk_count(parts.offset + parts.len);
+    block_offsets_refusal(blocks, boundaries.dtype(), boundaries.len())
+}
+
+/// Accepts parts whose blocks lie between the boundaries, or says why they make no array. The boundaries are
+/// decoded at once, into memory that is asked for by one allocation.
+fn accept_boundaries(
+    alloc: Global,
+    parts: &PackedColumn,
+    boundaries: &ArrayRef,
+) -> Result<(), FastLanesError>
+    ensures { Answers (λ u. u) result (accepted tt (blocked_refusal (parts_of parts.now) (column boundaries.now))) }
+{
+    if let Some(refusal) = refusal_before_boundaries(parts, boundaries) {
+        return Err(refusal);
+    }
+    let plain = boundaries.to_primitive(alloc)?;
+    match blocked_refusal(parts, &plain) {
+        Some(refusal) => Err(refusal),
+        None => Ok(()),
+    }
+}
+
+impl BitPackedArray {
+    /// The constructors refuse these parts in nothing.
+    pub fn prove_well_formed(&self)
+        ensures { refusal_of_bitpacked self.now ≡ None }
+    {
+        let _ = &self.parts;
+    }
+
+    /// The array is smaller than one that holds it.
+    #[tactic(auto, using(crate::proofs::Sizes::bitpacked_size))]
+    pub(crate) fn prove_smaller(&self)
+        ensures { size_of_widths self.now.widths < 2 * height (tree_of_bitpacked self.now) }
+    {
+        let _ = &self.parts;
+    }
+
+    /// The parts, without the widths.
+    pub fn data(&self) -> &PackedData
+        ensures { result.now ≡ self.now.parts }
+    {
+        &self.parts
+    }
+
+    /// The widths of the blocks.
+    pub fn bit_widths(&self) -> BitWidthsView<'_>
+        ensures widths { widths_of_view result ≡ self.now.widths }
+        ensures depth { HasLowerBoundaries result (height (tree_of_bitpacked self.now)) }
+        ensures size { HasSmallerBoundaries result (size_of_widths self.now.widths) }
+    {
+        match &self.widths {
+            StoredWidths::Global(width) => BitWidthsView::Global(*width),
+            StoredWidths::Blocked(boundaries) => BitWidthsView::Blocked(boundaries),
+        }
+    }
+
+    /// How many items there are.
+    #[tactic(auto, using(crate::proofs::BitPackedLaws::bitpacked_len))]
+    pub fn len(&self) -> usize
+        ensures len { result ≡ self.now.parts.len }
+        ensures items { result ≡ length (column (tree_of_bitpacked self.now)).items }
+    {
+        self.data().len()
+    }
+
+    /// The type of the column.
+    #[tactic(auto, using(crate::proofs::BitPackedLaws::bitpacked_dtype))]
+    pub fn dtype(&self) -> DType
+        ensures { result ≡ (column (tree_of_bitpacked self.now)).dtype }
+    {
+        self.data().dtype()
+    }
+
+    /// The validity of the column.
+    #[tactic(auto, using(crate::proofs::BitPackedLaws::bitpacked_validity))]
+    pub(crate) fn column_validity(&self, alloc: Global) -> Result<Validity, FastLanesError>
+        ensures validity { IfOk result (λ v. IsValidityOf v (column (tree_of_bitpacked self.now))) }
+        ensures memory { IfErr result (λ e. e ≡ OutOfMemory) }
+    {
+        let data = self.data();
+        data.prove_well_formed();
+        data.validity().try_clone(alloc)
+    }
+
+    /// The column is of integers.
+    #[tactic(auto, using(crate::proofs::BitPackedLaws::bitpacked_integers))]
+    pub(crate) fn prove_integers(&self)
+        ensures { integer_column (column (tree_of_bitpacked self.now)) ≡ Ok (column (tree_of_bitpacked self.now)) }
+    {
+        let _ = &self.parts;
+    }
+
+    /// The boundaries are integers.
+    pub(crate) fn prove_boundaries_are_integers(&self, boundaries: &ArrayRef)
+        requires { BlockBoundaries boundaries.now ≡ self.now.widths }
+        ensures { integer_column (column boundaries.now) ≡ Ok (column boundaries.now) }
+    {
+        self.prove_well_formed();
+    }
+
+    /// The column in a primitive array, where all blocks have this width.
+    pub(crate) fn decode_global(
+        &self,
+        alloc: Global,
+        width: u8,
+    ) -> Result<PrimitiveArray, FastLanesError>
+        requires { GlobalWidth width ≡ self.now.widths }
+        ensures { Answers column_of_primitive result (integer_column (column (tree_of_bitpacked self.now))) }
+    {
+        self.prove_well_formed();
+        self.data().decode_global(alloc, usize::from(width))
+    }
+
+    /// The column in a primitive array, where the blocks lie between these boundaries, which `plain` has decoded.
+    pub(crate) fn decode_blocked(
+        &self,
+        alloc: Global,
+        boundaries: &ArrayRef,
+        plain: &PrimitiveArray,
+    ) -> Result<PrimitiveArray, FastLanesError>
+        requires same { BlockBoundaries boundaries.now ≡ self.now.widths }
+        requires plain { column_of_primitive plain.now ≡ column boundaries.now }
+        ensures { Answers column_of_primitive result (integer_column (column (tree_of_bitpacked self.now))) }
+    {
+        self.prove_well_formed();
+        let _len = plain.len();
+        self.data().decode_blocked(alloc, plain)
+    }
+
+    /// An item, where all blocks have this width.
+    pub(crate) fn item_global(&self, width: u8, i: usize) -> Scalar
+        requires same { GlobalWidth width ≡ self.now.widths }
+        requires range { i < length (column (tree_of_bitpacked self.now)).items }
+        ensures { scalar_parts result ≡ scalar_in (column (tree_of_bitpacked self.now)) i }
+    {
+        self.prove_well_formed();
+        let _len = self.len();
+        let mut work = Work::new();
+        self.data().item_global(usize::from(width), i, &mut work)
+    }
+
+    /// The block of an item, where the blocks lie between these boundaries.
+    pub(crate) fn block_of(&self, boundaries: &ArrayRef, i: usize) -> usize
+        requires same { BlockBoundaries boundaries.now ≡ self.now.widths }
+        requires range { i < length (column (tree_of_bitpacked self.now)).items }
+        ensures block { result ≡ (self.now.parts.offset + i) / 1024 }
+        ensures within { result + 1 < length (column boundaries.now).items }
+        ensures few { result + 1 < 2 ^ 64 }
+    {
+        self.prove_well_formed();
+        let _len = self.len();
+        self.data().block_of(i)
+    }
+
+    /// An item, by the first boundary and the two of its block.
+    pub(crate) fn item_blocked(
+        &self,
+        boundaries: &ArrayRef,
+        first: Scalar,
+        start: Scalar,
+        end: Scalar,
+        i: usize,
+    ) -> Scalar
+        requires same { BlockBoundaries boundaries.now ≡ self.now.widths }
+        requires first { scalar_parts first ≡ scalar_in (column boundaries.now) 0 }
+        requires start { scalar_parts start ≡ scalar_in (column boundaries.now) ((self.now.parts.offset + i) / 1024) }
+        requires end { scalar_parts end ≡ scalar_in (column boundaries.now) ((self.now.parts.offset + i) / 1024 + 1) }
+        requires range { i < length (column (tree_of_bitpacked self.now)).items }
+        ensures { scalar_parts result ≡ scalar_in (column (tree_of_bitpacked self.now)) i }
+    {
+        self.prove_well_formed();
+        let _len = self.len();
+        let mut work = Work::new();
+        let (first, start, end) = (
+            number_of_scalar(first),
+            number_of_scalar(start),
+            number_of_scalar(end),
+        );
+        self.data().item_blocked(first, start, end, i, &mut work)
+    }
+
+    /// A copy, where all blocks have this width.
+    pub(crate) fn clone_global(
+        &self,
+        alloc: Global,
+        width: u8,
+    ) -> Result<BitPackedArray, FastLanesError>
+        requires { GlobalWidth width ≡ self.now.widths }
+        ensures { Answers (λ a. a) result (Ok self.now) }
+    {
+        self.prove_well_formed();
+        let parts = self.data().try_clone(alloc)?;
+        Ok(BitPackedArray {
+            parts,
+            widths: StoredWidths::Global(width),
+        })
+    }
+
+    /// A copy over a copy of the boundaries.
+    pub(crate) fn clone_blocked(
+        &self,
+        alloc: Global,
+        boundaries: ArrayRef,
+    ) -> Result<BitPackedArray, FastLanesError>
+        requires { BlockBoundaries boundaries ≡ self.now.widths }
+        ensures { Answers (λ a. a) result (Ok self.now) }
+    {
+        self.prove_well_formed();
+        let parts = self.data().try_clone(alloc)?;
+        let boundaries = Box::new(alloc, boundaries)?;
+        Ok(BitPackedArray {
+            parts,
+            widths: StoredWidths::Blocked(boundaries),
+        })
+    }
+
+    /// The items from `start` to below `end`, where all blocks have this width.
+    pub(crate) fn slice_global(
+        &self,
+        alloc: Global,
+        width: u8,
+        start: usize,
+        end: usize,
+    ) -> Result<BitPackedArray, FastLanesError>
+        requires same { GlobalWidth width ≡ self.now.widths }
+        requires order { start ≤ end }
+        requires range { end ≤ length (column (tree_of_bitpacked self.now)).items }
+        ensures column { Answers (λ a. column (tree_of_bitpacked a)) result (Ok (slice_of start end (column (tree_of_bitpacked self.now)))) }
+        ensures widths { IfOk result (λ a. a.widths ≡ GlobalWidth width) }
+    {
+        self.prove_well_formed();
+        let _len = self.len();
+        let parts = self
+            .data()
+            .slice_global(alloc, usize::from(width), start, end)?;
+        Ok(BitPackedArray {
+            parts,
+            widths: StoredWidths::Global(width),
+        })
+    }
+
+    /// The item at an index, with the column's type.
+    #[cycle(reading)]
+    pub(crate) fn scalar_at(&self, alloc: Global, i: usize) -> Result<Scalar, FastLanesError>
+        requires { i < length (column (tree_of_bitpacked self.now)).items }
+        ensures item { Answers scalar_parts result (Ok (scalar_in (column (tree_of_bitpacked self.now)) i)) }
+        ensures memory { IfErr result (λ e. IsTrue (has_delta (kind (tree_of_bitpacked self.now)))) }
+    {
+        match self.bit_widths() {
+            BitWidthsView::Global(width) => Ok(self.item_global(width, i)),
+            BitWidthsView::Blocked(boundaries) => {
+                let j = self.block_of(boundaries, i);
+                let first = boundaries.scalar_at(alloc, 0)?;
+                let start = boundaries.scalar_at(alloc, j)?;
+                let end = boundaries.scalar_at(alloc, j + 1)?;
+                Ok(self.item_blocked(boundaries, first, start, end, i))
+            }
+        }
+    }
+
+    /// The items of a range, in an array of the same kind.
+    #[cycle(reading)]
+    pub(crate) fn slice(
+        &self,
+        alloc: Global,
+        start: usize,
+        end: usize,
+    ) -> Result<BitPackedArray, FastLanesError>
+        requires order { start ≤ end }
+        requires range { end ≤ length (column (tree_of_bitpacked self.now)).items }
+        ensures column { Answers (λ a. column (tree_of_bitpacked a)) result (Ok (slice_of start end (column (tree_of_bitpacked self.now)))) }
+        ensures kind { IfOk result (λ a. kind (tree_of_bitpacked a) ≡ slice_kind (kind (tree_of_bitpacked self.now))) }
+    {
+        match self.bit_widths() {
+            BitWidthsView::Global(width) => self.slice_global(alloc, width, start, end),
+            BitWidthsView::Blocked(boundaries) => {
+                let (kept, last) = self.block_range(boundaries, start, end);
+                let first = boundaries.scalar_at(alloc, 0)?;
+                let from = boundaries.scalar_at(alloc, kept)?;
+                let to = boundaries.scalar_at(alloc, last)?;
+                let part = boundaries.slice(alloc, kept..last + 1)?;
+                self.slice_blocked(alloc, boundaries, part, first, from, to, start, end)
+            }
+        }
+    }
+
+    /// The blocks that a slice keeps, where the blocks lie between these boundaries.
+    pub(crate) fn block_range(
+        &self,
+        boundaries: &ArrayRef,
+        start: usize,
+        end: usize,
+    ) -> (usize, usize)
+        requires same { BlockBoundaries boundaries.now ≡ self.now.widths }
+        requires order { start ≤ end }
+        requires range { end ≤ length (column (tree_of_bitpacked self.now)).items }
+        ensures first { result.0 ≡ first_block self.now.parts.offset start }
+        ensures last { result.1 ≡ end_block self.now.parts.offset end }
+        ensures order { result.0 ≤ result.1 }
+        ensures within { result.1 < length (column boundaries.now).items }
+        ensures few { result.1 + 1 < 2 ^ 64 }
+    {
+        self.prove_well_formed();
+        let _len = self.len();
+        (self.data().first_block(start), self.data().end_block(end))
+    }
+
+    /// The items from `start` to below `end`, over the boundaries that are kept.
+    pub(crate) fn slice_blocked(
+        &self,
+        alloc: Global,
+        boundaries: &ArrayRef,
+        part: ArrayRef,
+        first: Scalar,
+        from: Scalar,
+        to: Scalar,
+        start: usize,
+        end: usize,
+    ) -> Result<BitPackedArray, FastLanesError>
+        requires same { BlockBoundaries boundaries.now ≡ self.now.widths }
+        requires part { column part ≡ sliced_boundaries self.now.parts.offset start end (column boundaries.now) }
+        requires first { scalar_parts first ≡ scalar_in (column boundaries.now) 0 }
+        requires from { scalar_parts from ≡ scalar_in (column boundaries.now) (first_block self.now.parts.offset start) }
+        requires to { scalar_parts to ≡ scalar_in (column boundaries.now) (end_block self.now.parts.offset end) }
+        requires order { start ≤ end }
+        requires range { end ≤ length (column (tree_of_bitpacked self.now)).items }
+        ensures column { Answers (λ a. column (tree_of_bitpacked a)) result (Ok (slice_of start end (column (tree_of_bitpacked self.now)))) }
+        ensures widths { IfOk result (λ a. a.widths ≡ BlockBoundaries part) }
+    {
+        self.prove_well_formed();
+        let _len = self.len();
+        let (first, from, to) = (
+            number_of_scalar(first),
+            number_of_scalar(from),
+            number_of_scalar(to),
+        );
+        let parts = self
+            .data()
+            .slice_blocked(alloc, first, from, to, start, end)?;
+        let boundaries = Box::new(alloc, part)?;
+        Ok(BitPackedArray {
+            parts,
+            widths: StoredWidths::Blocked(boundaries),
+        })
+    }
+}

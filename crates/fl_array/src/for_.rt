@@ -1,0 +1,578 @@
+//! FoR arrays (frame of reference): an encoded array, and a reference that is added to its items, one for all
+//! of them or one for each chunk of 1024.
+
+ghost use Rattle.std.specs.Prelude.{◌≡◌, ◌+◌, ◌*◌, ◌%◌, ◌/◌, ◌<◌, ◌≤◌, IfErr, IfOk, IsTrue, None, Ok, Some, length, option_map};
+ghost use Rattle.fl_types.specs.Refusals.{Answers};
+ghost use Rattle.fl_types.specs.Values.{scalar_parts};
+ghost use Rattle.fl_column.specs.Columns.{column_of_primitive};
+ghost use Rattle.fl_column.specs.Operations.{slice_of};
+ghost use Rattle.fl_column.specs.Questions.{scalar_in};
+ghost use Rattle.fl_codec.specs.ChunkSlices.{end_chunk, first_chunk};
+ghost use Rattle.fl_array.specs.Trees.{column, height};
+ghost use Rattle.fl_array.specs.FoRArrays.{ChunkReferences, FoRArrayParts, GlobalReference, for_chunked_refusal, new_for, new_for_chunked, offset_of_references, reference_count_refusal, reference_refusal, reference_type_refusal, references_of, refusal_of_for, size_of_references, tree_of_for};
+ghost use Rattle.fl_array.specs.Kinds.{has_delta, kind, slice_kind};
+ghost use Rattle.fl_array.specs.Reads.{IsValidityOf, constant_in, integer_column};
+ghost use Rattle.fl_array.specs.Shown.{stored_references};
+ghost use Rattle.fl_array.specs.Views.{HasLowerReferences, HasSmallerReferences, references_of_view};
+
+use crate::array::ArrayRef;
+use fastlanes::FL_CHUNK_SIZE;
+use fl_bitpacking::refusals::positions_refusal;
+use fl_codec::for_::single_items::plus_reference;
+use fl_codec::for_::{decode, decode_chunked};
+use fl_column::{
+    DType, FastLanesError, Nullability, PrimitiveArray, Scalar, Validity, chunk_count,
+};
+use std::alloc::Global;
+use std::marker::Model;
+
+/// A FoR array: item `i` is the encoded item plus its reference, modulo 2 to the type's bits, and null where
+/// the encoded item is.
+#[cycle(array)]
+#[derive(Drop)]
+pub struct FoRArray {
+    encoded: Box<ArrayRef>,
+    references: StoredReferences,
+}
+
+#[cycle(array)]
+#[derive(Drop)]
+enum StoredReferences {
+    Global(Scalar),
+    Blocked(Box<ArrayRef>, usize),
+}
+
+/// The references of a FoR array.
+#[derive(Clone, Copy)]
+pub enum FoRReferences<'a> {
+    /// All items have this reference.
+    Global(&'a Scalar),
+    /// Each chunk of 1024 has one of these references.
+    Blocked(&'a ArrayRef),
+}
+
+impl Model for FoRArray {
+    ghost use Rattle.std.specs.Prelude.{◌≡◌, None};
+    ghost use Rattle.std.proofs.Common.{arith};
+    ghost use Rattle.fl_array.specs.Trees.{column, height};
+    ghost use Rattle.fl_array.specs.FoRArrays.{FoRArrayParts, for_refusal, size_of_references};
+    ghost use Rattle.fl_array.specs.ArrayCodes.{coded_for};
+
+    ghost Value = { FoRArrayParts };
+
+    ghost coded = { coded_for };
+
+    ghost use Rattle.fl_array.specs.Shown.{stored_references};
+
+    ghost view = { λ a. record { encoded = a.encoded.value; references = stored_references a.references } };
+
+    ghost invariant = { λ a. for_refusal (column a.encoded.value) (stored_references a.references) ≡ None };
+
+    ghost size = { λ a. size_of_references (height a.encoded) a.references };
+
+    ghost size_decreases = { λ a h. Prim.grind arith };
+}
+
+/// Why a scalar is no reference of items of a type, if it is none.
+fn reference_refusal(dtype: DType, reference: Scalar) -> Option<FastLanesError>
+    ensures { result ≡ reference_refusal dtype (scalar_parts reference) }
+{
+    let Some(ptype) = dtype.ptype() else {
+        return Some(FastLanesError::NotInteger);
+    };
+    if reference.is_null() {
+        return Some(FastLanesError::NullReference);
+    }
+    if reference.dtype().ptype() != Some(ptype) {
+        return Some(FastLanesError::TypeMismatch);
+    }
+    None
+}
+
+/// Why this many references are not one for each chunk of `len` items from `offset` on, if they are not.
+fn reference_count_refusal(
+    offset: usize,
+    len: usize,
+    dtype: DType,
+    count: usize,
+) -> Option<FastLanesError>
+    ensures { result ≡ reference_count_refusal offset len dtype count }
+{
+    if let Some(refusal) = positions_refusal(offset, len) {
+        return Some(refusal);
+    }
+    if dtype.ptype().is_none() {
+        return Some(FastLanesError::NotInteger);
+    }
+    if count != chunk_count(offset + len) {
+        return Some(FastLanesError::ReferenceCount);
+    }
+    None
+}
+
+/// Why references of a type are not those of items of a type, if they are not.
+fn reference_type_refusal(dtype: DType, references: DType) -> Option<FastLanesError>
+    ensures { result ≡ reference_type_refusal dtype references }
+{
+    match (dtype, references) {
+        (DType::Primitive(ptype, _), DType::Primitive(other, Nullability::NonNullable)) => {
+            if ptype == other {
+                None
+            } else {
+                Some(FastLanesError::TypeMismatch)
+            }
+        }
+        (DType::Bool(_), DType::Bool(Nullability::NonNullable)) => None,
+        _ => Some(FastLanesError::TypeMismatch),
+    }
+}
+
+/// The one reference that a constant array has.
+fn one_reference(references: &ArrayRef) -> Option<Scalar>
+    ensures { option_map scalar_parts result ≡ option_map (λ constant. constant.scalar) (constant_in references.now) }
+{
+    match references.as_constant() {
+        Some(constant) => Some(constant.scalar()),
+        None => None,
+    }
+}
+
+/// Why items and references of their chunks make no array, if they make none.
+#[tactic(auto, using(crate::proofs::FoRSound::references_by_constant))]
+fn for_chunked_refusal(
+    encoded: &ArrayRef,
+    references: &ArrayRef,
+    offset: usize,
+) -> Option<FastLanesError>
+    ensures { result ≡ for_chunked_refusal (column encoded.now) references.now offset }
+{
+    let (len, count) = (encoded.len(), references.len());
+    if let Some(refusal) = reference_count_refusal(offset, len, encoded.dtype(), count) {
+        return Some(refusal);
+    }
+    match one_reference(references) {
+        Some(reference) => reference_refusal(encoded.dtype(), reference),
+        None => reference_type_refusal(encoded.dtype(), references.dtype()),
+    }
+}
+
+/// The references as an array stores them: those of a constant array are one.
+#[tactic(auto, using(crate::proofs::FoRSound::references_by_constant))]
+fn store_references(
+    alloc: Global,
+    references: ArrayRef,
+    offset: usize,
+) -> Result<StoredReferences, FastLanesError>
+    ensures { Answers stored_references result (Ok (references_of references offset)) }
+{
+    match one_reference(&references) {
+        Some(reference) => Ok(StoredReferences::Global(reference)),
+        None => {
+            let references = Box::new(alloc, references)?;
+            Ok(StoredReferences::Blocked(references, offset))
+        }
+    }
+}
+
+/// The FoR encoding (frame of reference): its constructors.
+#[derive(Clone, Copy, Debug)]
+pub struct FoR;
+
+impl FoR {
+    /// The array of one reference.
+    ///
+    /// # Errors
+    /// The first of `NotInteger`, `NullReference` and `TypeMismatch` that holds.
+    pub fn try_new(
+        alloc: Global,
+        encoded: ArrayRef,
+        reference: Scalar,
+    ) -> Result<FoRArray, FastLanesError>
+        ensures { Answers (λ a. a) result (new_for encoded (scalar_parts reference)) }
+    {
+        match reference_refusal(encoded.dtype(), reference) {
+            Some(refusal) => Err(refusal),
+            None => {
+                let encoded = Box::new(alloc, encoded)?;
+                Ok(FoRArray {
+                    encoded,
+                    references: StoredReferences::Global(reference),
+                })
+            }
+        }
+    }
+
+    /// The array of a reference for each chunk of 1024, where item 0 stands at `offset` in its chunk. Constant
+    /// references are one reference for all items.
+    ///
+    /// # Errors
+    /// The first of `OffsetTooLarge`, `LengthOverflow`, `NotInteger` and `ReferenceCount` that holds. Then of
+    /// constant references `NullReference` and `TypeMismatch`, of any others `TypeMismatch`.
+    pub fn try_new_chunked(
+        alloc: Global,
+        encoded: ArrayRef,
+        references: ArrayRef,
+        offset: u16,
+    ) -> Result<FoRArray, FastLanesError>
+        ensures { Answers (λ a. a) result (new_for_chunked encoded references offset) }
+    {
+        let offset = usize::from(offset);
+        match for_chunked_refusal(&encoded, &references, offset) {
+            Some(refusal) => Err(refusal),
+            None => {
+                let references = store_references(alloc, references, offset)?;
+                let encoded = Box::new(alloc, encoded)?;
+                Ok(FoRArray {
+                    encoded,
+                    references,
+                })
+            }
+        }
+    }
+}
+
+impl FoRArray {
+    /// The constructors refuse these parts in nothing.
+    pub fn prove_well_formed(&self)
+        ensures { refusal_of_for self.now ≡ None }
+    {
+        let _ = &self.references;
+    }
+
+    /// The array is smaller than one that holds it.
+    #[tactic(auto, using(crate::proofs::Sizes::for_size))]
+    pub(crate) fn prove_smaller(&self)
+        ensures { size_of_references (height self.now.encoded) self.now.references < 2 * height (tree_of_for self.now) }
+    {
+        let _ = &self.encoded;
+    }
+
+    /// The encoded items, to which the references are added.
+    pub fn encoded(&self) -> &ArrayRef
+        ensures array { result.now ≡ self.now.encoded }
+        ensures depth { height result.now < height (tree_of_for self.now) }
+        ensures size { 2 * height result.now < size_of_references (height self.now.encoded) self.now.references }
+    {
+        &self.encoded
+    }
+
+    /// The references.
+    pub fn references(&self) -> FoRReferences<'_>
+        ensures references { references_of_view result (offset_of_references self.now.references) ≡ self.now.references }
+        ensures depth { HasLowerReferences result (height (tree_of_for self.now)) }
+        ensures size { HasSmallerReferences result (size_of_references (height self.now.encoded) self.now.references) }
+    {
+        match &self.references {
+            StoredReferences::Global(reference) => FoRReferences::Global(reference),
+            StoredReferences::Blocked(references, _) => FoRReferences::Blocked(references),
+        }
+    }
+
+    /// The position of the first item in its chunk, 0 where there is one reference.
+    pub fn offset(&self) -> usize
+        ensures { result ≡ offset_of_references self.now.references }
+    {
+        match &self.references {
+            StoredReferences::Global(_) => 0,
+            StoredReferences::Blocked(_, offset) => *offset,
+        }
+    }
+
+    /// The item at an index, with the column's type.
+    #[cycle(reading)]
+    pub(crate) fn scalar_at(&self, alloc: Global, i: usize) -> Result<Scalar, FastLanesError>
+        requires { i < length (column (tree_of_for self.now)).items }
+        ensures item { Answers scalar_parts result (Ok (scalar_in (column (tree_of_for self.now)) i)) }
+        ensures memory { IfErr result (λ e. IsTrue (has_delta (kind (tree_of_for self.now)))) }
+    {
+        let i = self.index_in_encoded(i);
+        let item = self.encoded().scalar_at(alloc, i)?;
+        match self.references() {
+            FoRReferences::Global(reference) => Ok(self.item_global(item, reference, i)),
+            FoRReferences::Blocked(references) => {
+                let reference = references.scalar_at(alloc, self.chunk_of(references, i))?;
+                Ok(self.item_chunked(references, item, reference, i))
+            }
+        }
+    }
+
+    /// The items of a range, in an array of the same kind.
+    #[cycle(reading)]
+    pub(crate) fn slice(
+        &self,
+        alloc: Global,
+        start: usize,
+        end: usize,
+    ) -> Result<FoRArray, FastLanesError>
+        requires order { start ≤ end }
+        requires range { end ≤ length (column (tree_of_for self.now)).items }
+        ensures column { Answers (λ a. column (tree_of_for a)) result (Ok (slice_of start end (column (tree_of_for self.now)))) }
+        ensures kind { IfOk result (λ a. kind (tree_of_for a) ≡ slice_kind (kind (tree_of_for self.now))) }
+    {
+        let (start, end) = self.range_in_encoded(start, end);
+        let part = self.encoded().slice(alloc, start..end)?;
+        match self.references() {
+            FoRReferences::Global(reference) => self.slice_global(
+                alloc, part, *reference, start, end,
+            ),
+            FoRReferences::Blocked(references) => {
+                let (first, last) = self.chunk_range(references, start, end);
+                let kept = references.slice(alloc, first..last)?;
+                self.slice_chunked(alloc, references, part, kept, start, end)
+            }
+        }
+    }
+
+    /// How many items there are: as many as encoded ones.
+    #[tactic(auto, using(crate::proofs::FoRLaws::for_len))]
+    pub(crate) fn len_from(&self, len: usize) -> usize
+        requires { len ≡ length (column self.now.encoded).items }
+        ensures { result ≡ length (column (tree_of_for self.now)).items }
+    {
+        len
+    }
+
+    /// The type of the column: that of the encoded items.
+    #[tactic(auto, using(crate::proofs::FoRLaws::for_dtype))]
+    pub(crate) fn dtype_from(&self, dtype: DType) -> DType
+        requires { dtype ≡ (column self.now.encoded).dtype }
+        ensures { result ≡ (column (tree_of_for self.now)).dtype }
+    {
+        dtype
+    }
+
+    /// The validity of the column: that of the encoded items.
+    #[tactic(auto, using(crate::proofs::FoRLaws::for_validity))]
+    pub(crate) fn column_validity(&self, validity: Validity) -> Validity
+        requires { IsValidityOf validity (column self.now.encoded) }
+        ensures { IsValidityOf result (column (tree_of_for self.now)) }
+    {
+        validity
+    }
+
+    /// The column is of integers.
+    #[tactic(auto, using(crate::proofs::FoRSound::for_integers))]
+    pub(crate) fn prove_integers(&self)
+        ensures { integer_column (column (tree_of_for self.now)) ≡ Ok (column (tree_of_for self.now)) }
+    {
+        self.prove_well_formed();
+    }
+
+    /// The references of the chunks are integers.
+    pub(crate) fn prove_references_are_integers(&self, references: &ArrayRef)
+        requires { ChunkReferences references.now (offset_of_references self.now.references) ≡ self.now.references }
+        ensures { integer_column (column references.now) ≡ Ok (column references.now) }
+    {
+        self.prove_well_formed();
+    }
+
+    /// The column in a primitive array, from the decoded `plain` items, where there is one reference.
+    pub(crate) fn decode_global(
+        &self,
+        alloc: Global,
+        plain: &PrimitiveArray,
+        reference: &Scalar,
+    ) -> Result<PrimitiveArray, FastLanesError>
+        requires same { GlobalReference (scalar_parts reference.now) ≡ self.now.references }
+        requires plain { Ok (column_of_primitive plain.now) ≡ integer_column (column self.now.encoded) }
+        ensures { Answers column_of_primitive result (integer_column (column (tree_of_for self.now))) }
+    {
+        self.prove_well_formed();
+        match reference.as_pvalue() {
+            Some(reference) => decode(alloc, plain, reference),
+            None => unreachable!(),
+        }
+    }
+
+    /// The column in a primitive array, from the decoded items and references.
+    pub(crate) fn decode_chunked(
+        &self,
+        alloc: Global,
+        plain: &PrimitiveArray,
+        references: &ArrayRef,
+        plain_references: &PrimitiveArray,
+    ) -> Result<PrimitiveArray, FastLanesError>
+        requires same { ChunkReferences references.now (offset_of_references self.now.references) ≡ self.now.references }
+        requires plain { Ok (column_of_primitive plain.now) ≡ integer_column (column self.now.encoded) }
+        requires plain_references { Ok (column_of_primitive plain_references.now) ≡ integer_column (column references.now) }
+        ensures { Answers column_of_primitive result (integer_column (column (tree_of_for self.now))) }
+    {
+        self.prove_well_formed();
+        let (_len, _count) = (plain.len(), plain_references.len());
+        decode_chunked(alloc, plain, plain_references, self.offset())
+    }
+
+    /// An index, which is one of the encoded array too.
+    #[tactic(auto, using(crate::proofs::FoRLaws::for_len))]
+    pub(crate) fn index_in_encoded(&self, i: usize) -> usize
+        requires { i < length (column (tree_of_for self.now)).items }
+        ensures same { result ≡ i }
+        ensures range { result < length (column self.now.encoded).items }
+    {
+        i
+    }
+
+    /// A range, which is one of the encoded array too.
+    #[tactic(auto, using(crate::proofs::FoRLaws::for_len))]
+    pub(crate) fn range_in_encoded(&self, start: usize, end: usize) -> (usize, usize)
+        requires order { start ≤ end }
+        requires range { end ≤ length (column (tree_of_for self.now)).items }
+        ensures start { result.0 ≡ start }
+        ensures end { result.1 ≡ end }
+        ensures order { result.0 ≤ result.1 }
+        ensures range { result.1 ≤ length (column self.now.encoded).items }
+    {
+        (start, end)
+    }
+
+    /// An item, from the encoded one, where there is one reference.
+    pub(crate) fn item_global(&self, item: Scalar, reference: &Scalar, i: usize) -> Scalar
+        requires same { GlobalReference (scalar_parts reference.now) ≡ self.now.references }
+        requires range { i < length (column self.now.encoded).items }
+        requires item { scalar_parts item ≡ scalar_in (column self.now.encoded) i }
+        ensures { scalar_parts result ≡ scalar_in (column (tree_of_for self.now)) i }
+    {
+        self.prove_well_formed();
+        match reference.as_pvalue() {
+            Some(reference) => plus_reference(item, reference),
+            None => unreachable!(),
+        }
+    }
+
+    /// The chunk of an item.
+    pub(crate) fn chunk_of(&self, references: &ArrayRef, i: usize) -> usize
+        requires same { ChunkReferences references.now (offset_of_references self.now.references) ≡ self.now.references }
+        requires range { i < length (column self.now.encoded).items }
+        ensures chunk { result ≡ (offset_of_references self.now.references + i) / 1024 }
+        ensures range { result < length (column references.now).items }
+    {
+        self.prove_well_formed();
+        (self.offset() + i) / FL_CHUNK_SIZE
+    }
+
+    /// An item, from the encoded one and the reference of its chunk.
+    pub(crate) fn item_chunked(
+        &self,
+        references: &ArrayRef,
+        item: Scalar,
+        reference: Scalar,
+        i: usize,
+    ) -> Scalar
+        requires same { ChunkReferences references.now (offset_of_references self.now.references) ≡ self.now.references }
+        requires range { i < length (column self.now.encoded).items }
+        requires item { scalar_parts item ≡ scalar_in (column self.now.encoded) i }
+        requires reference { scalar_parts reference ≡ scalar_in (column references.now) ((offset_of_references self.now.references + i) / 1024) }
+        ensures { scalar_parts result ≡ scalar_in (column (tree_of_for self.now)) i }
+    {
+        self.prove_well_formed();
+        match reference.as_pvalue() {
+            Some(reference) => plus_reference(item, reference),
+            None => unreachable!(),
+        }
+    }
+
+    /// The same reference over other encoded items of the same type.
+    pub(crate) fn with_encoded(
+        &self,
+        alloc: Global,
+        encoded: ArrayRef,
+        reference: Scalar,
+    ) -> Result<FoRArray, FastLanesError>
+        requires same { GlobalReference (scalar_parts reference) ≡ self.now.references }
+        requires typed { (column encoded).dtype ≡ (column self.now.encoded).dtype }
+        ensures { Answers (λ a. a) result (Ok (record { encoded = encoded; references = self.now.references })) }
+    {
+        self.prove_well_formed();
+        let encoded = Box::new(alloc, encoded)?;
+        Ok(FoRArray {
+            encoded,
+            references: StoredReferences::Global(reference),
+        })
+    }
+
+    /// A copy over copies of the encoded array and the references.
+    pub(crate) fn clone_chunked(
+        &self,
+        alloc: Global,
+        encoded: ArrayRef,
+        references: ArrayRef,
+    ) -> Result<FoRArray, FastLanesError>
+        requires encoded { encoded ≡ self.now.encoded }
+        requires references { ChunkReferences references (offset_of_references self.now.references) ≡ self.now.references }
+        ensures { Answers (λ a. a) result (Ok self.now) }
+    {
+        self.prove_well_formed();
+        let offset = self.offset();
+        let encoded = Box::new(alloc, encoded)?;
+        let references = Box::new(alloc, references)?;
+        Ok(FoRArray {
+            encoded,
+            references: StoredReferences::Blocked(references, offset),
+        })
+    }
+
+    /// The items from `start` to below `end`, over the encoded ones.
+    pub(crate) fn slice_global(
+        &self,
+        alloc: Global,
+        part: ArrayRef,
+        reference: Scalar,
+        start: usize,
+        end: usize,
+    ) -> Result<FoRArray, FastLanesError>
+        requires same { GlobalReference (scalar_parts reference) ≡ self.now.references }
+        requires part { column part ≡ slice_of start end (column self.now.encoded) }
+        ensures column { Answers (λ a. column (tree_of_for a)) result (Ok (slice_of start end (column (tree_of_for self.now)))) }
+        ensures parts { IfOk result (λ a. a ≡ record { encoded = part; references = self.now.references }) }
+    {
+        self.with_encoded(alloc, part, reference)
+    }
+
+    /// The first chunk that a slice keeps, and the one behind the last.
+    pub(crate) fn chunk_range(
+        &self,
+        references: &ArrayRef,
+        start: usize,
+        end: usize,
+    ) -> (usize, usize)
+        requires same { ChunkReferences references.now (offset_of_references self.now.references) ≡ self.now.references }
+        requires order { start ≤ end }
+        requires range { end ≤ length (column self.now.encoded).items }
+        ensures first { result.0 ≡ first_chunk (offset_of_references self.now.references) start }
+        ensures last { result.1 ≡ end_chunk (offset_of_references self.now.references) end }
+        ensures order { result.0 ≤ result.1 }
+        ensures within { result.1 ≤ length (column references.now).items }
+    {
+        self.prove_well_formed();
+        let offset = self.offset();
+        ((offset + start) / FL_CHUNK_SIZE, chunk_count(offset + end))
+    }
+
+    /// The items from `start` to below `end`, over the encoded ones and the references of their chunks.
+    pub(crate) fn slice_chunked(
+        &self,
+        alloc: Global,
+        references: &ArrayRef,
+        part: ArrayRef,
+        kept: ArrayRef,
+        start: usize,
+        end: usize,
+    ) -> Result<FoRArray, FastLanesError>
+        requires same { ChunkReferences references.now (offset_of_references self.now.references) ≡ self.now.references }
+        requires order { start ≤ end }
+        requires range { end ≤ length (column self.now.encoded).items }
+        requires part { column part ≡ slice_of start end (column self.now.encoded) }
+        requires kept { column kept ≡ slice_of (first_chunk (offset_of_references self.now.references) start) (end_chunk (offset_of_references self.now.references) end) (column references.now) }
+        ensures column { Answers (λ a. column (tree_of_for a)) result (Ok (slice_of start end (column (tree_of_for self.now)))) }
+        ensures parts { IfOk result (λ a. a ≡ record { encoded = part; references = ChunkReferences kept ((offset_of_references self.now.references + start) % 1024) }) }
+    {
+        self.prove_well_formed();
+        let offset = (self.offset() + start) % FL_CHUNK_SIZE;
+        let encoded = Box::new(alloc, part)?;
+        let references = Box::new(alloc, kept)?;
+        Ok(FoRArray {
+            encoded,
+            references: StoredReferences::Blocked(references, offset),
+        })
+    }
+}

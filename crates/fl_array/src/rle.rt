@@ -1,0 +1,509 @@
+//! Run-length encoded arrays: in each chunk of 1024 items the run values, and for each position the index of
+//! its run value.
+
+ghost use Rattle.std.specs.Prelude.{◌≡◌, ◌+◌, ◌-◌, ◌*◌, ◌/◌, ◌%◌, ◌<◌, ◌≤◌, IfErr, IfOk, IsTrue, None, Ok, length, pos, unsigned_abs, unwrap_or};
+ghost use Rattle.fl_types.specs.declared.error.FastLanesError.TheVariants.{OutOfMemory};
+ghost use Rattle.fl_types.specs.Refusals.{Answers};
+ghost use Rattle.fl_types.specs.Values.{scalar_parts};
+ghost use Rattle.fl_column.specs.Columns.{column_of_primitive, numbers_of};
+ghost use Rattle.fl_column.specs.Operations.{slice_of};
+ghost use Rattle.fl_column.specs.Questions.{scalar_in};
+ghost use Rattle.fl_codec.specs.RunColumns.{chunk_start};
+ghost use Rattle.fl_bitpacking.specs.Refusals.{accepted};
+ghost use Rattle.fl_codec.specs.RunRefusals.{kept_values_end, kept_values_start, rle_refusal, rle_types_refusal};
+ghost use Rattle.fl_codec.specs.ChunkSlices.{end_chunk, first_chunk};
+ghost use Rattle.fl_array.specs.Trees.{column, height};
+ghost use Rattle.fl_array.specs.RLEArrays.{encoded_rle, new_rle, refusal_of_rle, tree_of_rle};
+ghost use Rattle.fl_array.specs.Kinds.{has_delta, kind, slice_kind};
+ghost use Rattle.fl_array.specs.Reads.{IsValidityOf, integer_column};
+
+use crate::array::{ArrayRef, IntoArray};
+use crate::numbers::number_of_scalar;
+use fastlanes::FL_CHUNK_SIZE;
+use fl_codec::laws::runs_and_back;
+use fl_codec::rle::children::{kept_values, rle_types_refusal};
+use fl_codec::rle::refusals::runs_refusal;
+use fl_codec::rle::{Runs, decode, encode};
+use fl_column::{DType, FastLanesError, PrimitiveArray, Scalar, Validity, chunk_count};
+use std::alloc::Global;
+use std::marker::Model;
+
+/// A run-length encoded array: the run values of all chunks, the index that each position has into those of
+/// its chunk, where the run values of each chunk start, and which positions the array shows.
+#[cycle(array)]
+#[derive(Drop)]
+pub struct RLEArray {
+    values: Box<ArrayRef>,
+    indices: Box<ArrayRef>,
+    offsets: Box<ArrayRef>,
+    offset: usize,
+    len: usize,
+}
+
+impl Model for RLEArray {
+    ghost use Rattle.std.specs.Prelude.{◌≡◌, ◌*◌, ◌+◌, None, max};
+    ghost use Rattle.std.proofs.Common.{arith};
+    ghost use Rattle.fl_array.specs.Trees.{column, height};
+    ghost use Rattle.fl_codec.specs.RunRefusals.{rle_refusal};
+    ghost use Rattle.fl_array.specs.RLEArrays.{RLEArrayParts};
+    ghost use Rattle.fl_array.specs.ArrayCodes.{coded_rle};
+
+    ghost Value = { RLEArrayParts };
+
+    ghost coded = { coded_rle };
+
+    ghost view = { λ a. record { values = a.values.value; indices = a.indices.value; offsets = a.offsets.value; window = record { offset = a.offset; len = a.len } } };
+
+    ghost invariant = { λ a. rle_refusal (column a.values.value) (column a.indices.value) (column a.offsets.value) a.offset a.len ≡ None };
+
+    ghost size = { λ a. 2 * max (height a.values) (max (height a.indices) (height a.offsets)) + 1 };
+
+    ghost size_decreases = { λ a h. Prim.grind arith };
+}
+
+/// Run-length encoding: its constructors.
+#[derive(Clone, Copy, Debug)]
+pub struct RLE;
+
+/// Why these arrays make none by their types and lengths, if they make none.
+fn refusal_by_types(
+    values: &ArrayRef,
+    indices: &ArrayRef,
+    offsets: &ArrayRef,
+    offset: usize,
+    len: usize,
+) -> Option<FastLanesError>
+    ensures { result ≡ rle_types_refusal (column values.now).dtype (column indices.now).dtype (column offsets.now).dtype (length (column indices.now).items) (length (column offsets.now).items) offset len }
+{
+    let (total, chunks) = (indices.len(), offsets.len());
+    rle_types_refusal(
+        values.dtype(),
+        indices.dtype(),
+        offsets.dtype(),
+        total,
+        chunks,
+        offset,
+        len,
+    )
+}
+
+/// Accepts run values, run indices and run offsets, or says why they make no array. Each is decoded for it,
+/// into memory that is asked for by one allocation.
+fn accept_children(
+    alloc: Global,
+    values: &ArrayRef,
+    indices: &ArrayRef,
+    offsets: &ArrayRef,
+    offset: usize,
+    len: usize,
+) -> Result<(), FastLanesError>
+    ensures { Answers (λ u. u) result (accepted tt (rle_refusal (column values.now) (column indices.now) (column offsets.now) offset len)) }
+{
+    if let Some(refusal) = refusal_by_types(values, indices, offsets, offset, len) {
+        return Err(refusal);
+    }
+    let named = values.to_primitive(alloc)?;
+    let names = indices.to_primitive(alloc)?;
+    let starts = offsets.to_primitive(alloc)?;
+    let (_named, _names, _starts) = (named.validity(), names.validity(), starts.validity());
+    match runs_refusal(&named, &names, &starts, offset, len) {
+        Some(refusal) => Err(refusal),
+        None => Ok(()),
+    }
+}
+
+impl RLE {
+    /// The array of these run values, run indices and run offsets, which `try_new` would not refuse.
+    pub fn new_unchecked(
+        alloc: Global,
+        values: ArrayRef,
+        indices: ArrayRef,
+        offsets: ArrayRef,
+        offset: usize,
+        len: usize,
+    ) -> Result<RLEArray, FastLanesError>
+        requires { rle_refusal (column values) (column indices) (column offsets) offset len ≡ None }
+        ensures { Answers (λ a. a) result (Ok (record { values = values; indices = indices; offsets = offsets; window = record { offset = offset; len = len } })) }
+    {
+        let values = Box::new(alloc, values)?;
+        let indices = Box::new(alloc, indices)?;
+        let offsets = Box::new(alloc, offsets)?;
+        Ok(RLEArray {
+            values,
+            indices,
+            offsets,
+            offset,
+            len,
+        })
+    }
+
+    /// The array of these run values, run indices and run offsets: `len` items from position `offset` on.
+    ///
+    /// # Errors
+    /// The first of `OffsetTooLarge`, `NotInteger`, `ChildNullable`, `RunIndexType`, `BlockOffsetsType`,
+    /// `ChildLength`, `RangeBeyondChild`, `BlockOffsetsCount`, `RunOffsets` and `RunIndex` that holds.
+    pub fn try_new(
+        alloc: Global,
+        values: ArrayRef,
+        indices: ArrayRef,
+        offsets: ArrayRef,
+        offset: usize,
+        len: usize,
+    ) -> Result<RLEArray, FastLanesError>
+        ensures { Answers (λ a. a) result (new_rle values indices offsets (record { offset = offset; len = len })) }
+    {
+        accept_children(alloc, &values, &indices, &offsets, offset, len)?;
+        let values = Box::new(alloc, values)?;
+        let indices = Box::new(alloc, indices)?;
+        let offsets = Box::new(alloc, offsets)?;
+        Ok(RLEArray {
+            values,
+            indices,
+            offsets,
+            offset,
+            len,
+        })
+    }
+
+    /// The run-length encoded array of a primitive one: in each chunk of 1024 the items that differ from the
+    /// one before, with `u16` indices and `u64` run offsets. A null counts as the last item before it in its
+    /// chunk, or as 0 where there is none; a short last chunk goes on with its last item, and its indices
+    /// behind the column are null where the column's validity has a bit for each item or no item is valid.
+    pub fn encode(alloc: Global, array: &PrimitiveArray) -> Result<RLEArray, FastLanesError>
+        ensures parts { Answers (λ a. a) result (Ok (encoded_rle array.now)) }
+        ensures column { IfOk result (λ a. column (tree_of_rle a) ≡ column_of_primitive array.now) }
+    {
+        runs_and_back(array);
+        let (len, _validity) = (array.len(), array.validity());
+        let Runs {
+            values,
+            indices,
+            offsets,
+        } = encode(alloc, array)?;
+        let (_values, _indices, _offsets) = (
+            values.validity(),
+            indices.validity(),
+            offsets.validity(),
+        );
+        RLE::new_unchecked(
+            alloc,
+            values.into_array(),
+            indices.into_array(),
+            offsets.into_array(),
+            0,
+            len,
+        )
+    }
+}
+
+impl RLEArray {
+    /// The constructor refuses these parts in nothing.
+    pub fn prove_well_formed(&self)
+        ensures { refusal_of_rle self.now ≡ None }
+    {
+        let _ = &self.offset;
+    }
+
+    /// The run values.
+    pub fn values(&self) -> &ArrayRef
+        ensures { result.now ≡ self.now.values }
+    {
+        &self.values
+    }
+
+    /// The run indices: which run value of its chunk each position has.
+    pub fn indices(&self) -> &ArrayRef
+        ensures { result.now ≡ self.now.indices }
+    {
+        &self.indices
+    }
+
+    /// The run offsets: where the run values of each chunk start.
+    pub fn offsets(&self) -> &ArrayRef
+        ensures { result.now ≡ self.now.offsets }
+    {
+        &self.offsets
+    }
+
+    /// The position of the first item in the first chunk, below 1024.
+    pub fn offset(&self) -> usize
+        ensures { result ≡ self.now.window.offset }
+    {
+        self.offset
+    }
+
+    /// How many items there are.
+    #[tactic(auto, using(crate::proofs::RLELaws::rle_len))]
+    pub fn len(&self) -> usize
+        ensures len { result ≡ self.now.window.len }
+        ensures items { result ≡ length (column (tree_of_rle self.now)).items }
+    {
+        self.len
+    }
+
+    /// The type of the column, by those of the run values and the run indices.
+    pub(crate) fn dtype_from(&self, values: DType, indices: DType) -> DType
+        requires values { values ≡ (column self.now.values).dtype }
+        requires indices { indices ≡ (column self.now.indices).dtype }
+        ensures { result ≡ (column (tree_of_rle self.now)).dtype }
+    {
+        self.prove_well_formed();
+        match values {
+            DType::Primitive(ptype, _) => DType::Primitive(ptype, indices.nullability()),
+            DType::Bool(_) => unreachable!(),
+        }
+    }
+
+    /// The validity of the column, from that of all indices.
+    pub(crate) fn column_validity(
+        &self,
+        alloc: Global,
+        indices: Validity,
+        total: usize,
+    ) -> Result<Validity, FastLanesError>
+        requires indices { IsValidityOf indices (column self.now.indices) }
+        requires total { total ≡ length (column self.now.indices).items }
+        ensures validity { IfOk result (λ v. IsValidityOf v (column (tree_of_rle self.now))) }
+        ensures memory { IfErr result (λ e. e ≡ OutOfMemory) }
+    {
+        self.prove_well_formed();
+        let (offset, len) = (self.offset(), self.len());
+        indices.slice(alloc, offset, offset + len, total)
+    }
+
+    /// The column, the run values, the run indices and the run offsets are of integers.
+    pub(crate) fn prove_integers(&self)
+        ensures items { integer_column (column (tree_of_rle self.now)) ≡ Ok (column (tree_of_rle self.now)) }
+        ensures values { integer_column (column self.now.values) ≡ Ok (column self.now.values) }
+        ensures indices { integer_column (column self.now.indices) ≡ Ok (column self.now.indices) }
+        ensures offsets { integer_column (column self.now.offsets) ≡ Ok (column self.now.offsets) }
+    {
+        self.prove_well_formed();
+    }
+
+    /// The column in a primitive array, from the decoded run values, run indices and run offsets.
+    pub(crate) fn decompress(
+        &self,
+        alloc: Global,
+        values: &PrimitiveArray,
+        indices: &PrimitiveArray,
+        offsets: &PrimitiveArray,
+    ) -> Result<PrimitiveArray, FastLanesError>
+        requires values { column_of_primitive values.now ≡ column self.now.values }
+        requires indices { column_of_primitive indices.now ≡ column self.now.indices }
+        requires offsets { column_of_primitive offsets.now ≡ column self.now.offsets }
+        ensures { Answers column_of_primitive result (integer_column (column (tree_of_rle self.now))) }
+    {
+        self.prove_well_formed();
+        let (_values, _indices, _offsets) = (
+            values.validity(),
+            indices.validity(),
+            offsets.validity(),
+        );
+        let (offset, len) = (self.offset(), self.len());
+        decode(alloc, values, indices, offsets, offset, len)
+    }
+
+    /// The position of an item, and its chunk.
+    pub(crate) fn position(&self, i: usize) -> (usize, usize)
+        requires { i < length (column (tree_of_rle self.now)).items }
+        ensures position { result.0 ≡ self.now.window.offset + i }
+        ensures chunk { result.1 ≡ (self.now.window.offset + i) / 1024 }
+        ensures range { result.0 < length (column self.now.indices).items }
+        ensures chunk_range { result.1 < length (column self.now.offsets).items }
+    {
+        self.prove_well_formed();
+        let (offset, _len, _total) = (self.offset(), self.len(), self.indices().len());
+        (offset + i, (offset + i) / FL_CHUNK_SIZE)
+    }
+
+    /// The index of an item's run value among all of them, by its run index, the first run offset and that of its
+    /// chunk.
+    pub(crate) fn value_index(&self, index: Scalar, first: Scalar, start: Scalar, i: usize) -> usize
+        requires range { i < length (column (tree_of_rle self.now)).items }
+        requires index { scalar_parts index ≡ scalar_in (column self.now.indices) (self.now.window.offset + i) }
+        requires first { scalar_parts first ≡ scalar_in (column self.now.offsets) 0 }
+        requires start { scalar_parts start ≡ scalar_in (column self.now.offsets) ((self.now.window.offset + i) / 1024) }
+        ensures place { result ≡ chunk_start (numbers_of (column self.now.offsets)) ((self.now.window.offset + i) / 1024) + unsigned_abs (unwrap_or (scalar_parts index).value (pos 0)) }
+        ensures range { result < length (column self.now.values).items }
+    {
+        self.prove_well_formed();
+        let (_len, _count) = (self.len(), self.values().len());
+        number_of_scalar(start) - number_of_scalar(first) + number_of_scalar(index)
+    }
+
+    /// An item, from its run index and its run value.
+    pub(crate) fn item_from(&self, index: Scalar, value: Scalar, i: usize) -> Scalar
+        requires range { i < length (column (tree_of_rle self.now)).items }
+        requires index { scalar_parts index ≡ scalar_in (column self.now.indices) (self.now.window.offset + i) }
+        requires value { scalar_parts value ≡ scalar_in (column self.now.values) (chunk_start (numbers_of (column self.now.offsets)) ((self.now.window.offset + i) / 1024) + unsigned_abs (unwrap_or (scalar_parts index).value (pos 0))) }
+        ensures { scalar_parts result ≡ scalar_in (column (tree_of_rle self.now)) i }
+    {
+        self.prove_well_formed();
+        let _len = self.len();
+        match value.as_pvalue() {
+            Some(integer) => {
+                if index.is_null() {
+                    Scalar::null(value.dtype())
+                } else {
+                    Scalar::primitive(integer, index.dtype().nullability())
+                }
+            }
+            None => unreachable!(),
+        }
+    }
+
+    /// The ranges of the chunks that hold the items from `start` to below `end`, of their run indices and of
+    /// their run values.
+    pub(crate) fn chunk_ranges(
+        &self,
+        offsets: &PrimitiveArray,
+        count: usize,
+        start: usize,
+        end: usize,
+    ) -> ChunkRanges
+        requires offsets { column_of_primitive offsets.now ≡ column self.now.offsets }
+        requires count { count ≡ length (column self.now.values).items }
+        requires order { start ≤ end }
+        requires range { end ≤ length (column (tree_of_rle self.now)).items }
+        ensures first { result.first ≡ first_chunk self.now.window.offset start }
+        ensures last { result.last ≡ end_chunk self.now.window.offset end }
+        ensures chunk_order { result.first ≤ result.last }
+        ensures chunk_range { result.last ≤ length (column self.now.offsets).items }
+        ensures index_first { result.index_first ≡ 1024 * first_chunk self.now.window.offset start }
+        ensures index_last { result.index_last ≡ 1024 * end_chunk self.now.window.offset end }
+        ensures index_order { result.index_first ≤ result.index_last }
+        ensures index_range { result.index_last ≤ length (column self.now.indices).items }
+        ensures from { result.from ≡ kept_values_start (numbers_of (column self.now.offsets)) (first_chunk self.now.window.offset start) (end_chunk self.now.window.offset end) }
+        ensures to { result.to ≡ kept_values_end (numbers_of (column self.now.offsets)) (length (column self.now.values).items) (first_chunk self.now.window.offset start) (end_chunk self.now.window.offset end) }
+        ensures value_order { result.from ≤ result.to }
+        ensures value_range { result.to ≤ length (column self.now.values).items }
+    {
+        self.prove_well_formed();
+        let (offset, _len, _total) = (self.offset(), self.len(), self.indices().len());
+        let _chunks = offsets.len();
+        let first = (offset + start) / FL_CHUNK_SIZE;
+        let last = chunk_count(offset + end);
+        let (from, to) = kept_values(offsets, count, first, last);
+        ChunkRanges {
+            first,
+            last,
+            index_first: FL_CHUNK_SIZE * first,
+            index_last: FL_CHUNK_SIZE * last,
+            from,
+            to,
+        }
+    }
+
+    /// The item at an index, with the column's type.
+    #[cycle(reading)]
+    pub(crate) fn scalar_at(&self, alloc: Global, i: usize) -> Result<Scalar, FastLanesError>
+        requires { i < length (column (tree_of_rle self.now)).items }
+        ensures item { Answers scalar_parts result (Ok (scalar_in (column (tree_of_rle self.now)) i)) }
+        ensures memory { IfErr result (λ e. IsTrue (has_delta (kind (tree_of_rle self.now)))) }
+    {
+        let (position, chunk) = self.position(i);
+        let index = self.indices().scalar_at(alloc, position)?;
+        let first = self.offsets().scalar_at(alloc, 0)?;
+        let start = self.offsets().scalar_at(alloc, chunk)?;
+        let place = self.value_index(index, first, start, i);
+        let value = self.values().scalar_at(alloc, place)?;
+        Ok(self.item_from(index, value, i))
+    }
+
+    /// The items of a range, in an array of the same kind.
+    #[cycle(reading)]
+    pub(crate) fn slice(
+        &self,
+        alloc: Global,
+        start: usize,
+        end: usize,
+    ) -> Result<RLEArray, FastLanesError>
+        requires order { start ≤ end }
+        requires range { end ≤ length (column (tree_of_rle self.now)).items }
+        ensures column { Answers (λ a. column (tree_of_rle a)) result (Ok (slice_of start end (column (tree_of_rle self.now)))) }
+        ensures kind { IfOk result (λ a. kind (tree_of_rle a) ≡ slice_kind (kind (tree_of_rle self.now))) }
+    {
+        self.prove_integers();
+        let _total = self.len();
+        let plain = self.offsets().to_primitive(alloc)?;
+        let kept = self.chunk_ranges(&plain, self.values().len(), start, end);
+        let values = self.values().slice(alloc, kept.from..kept.to)?;
+        let indices = self
+            .indices()
+            .slice(alloc, kept.index_first..kept.index_last)?;
+        let offsets = self.offsets().slice(alloc, kept.first..kept.last)?;
+        self.slice_chunks(alloc, values, indices, offsets, start, end)
+    }
+
+    /// The items from `start` to below `end`, over the chunks that are kept.
+    pub(crate) fn slice_chunks(
+        &self,
+        alloc: Global,
+        values: ArrayRef,
+        indices: ArrayRef,
+        offsets: ArrayRef,
+        start: usize,
+        end: usize,
+    ) -> Result<RLEArray, FastLanesError>
+        requires order { start ≤ end }
+        requires range { end ≤ length (column (tree_of_rle self.now)).items }
+        requires values { column values ≡ slice_of (kept_values_start (numbers_of (column self.now.offsets)) (first_chunk self.now.window.offset start) (end_chunk self.now.window.offset end)) (kept_values_end (numbers_of (column self.now.offsets)) (length (column self.now.values).items) (first_chunk self.now.window.offset start) (end_chunk self.now.window.offset end)) (column self.now.values) }
+        requires indices { column indices ≡ slice_of (1024 * first_chunk self.now.window.offset start) (1024 * end_chunk self.now.window.offset end) (column self.now.indices) }
+        requires offsets { column offsets ≡ slice_of (first_chunk self.now.window.offset start) (end_chunk self.now.window.offset end) (column self.now.offsets) }
+        ensures column { Answers (λ a. column (tree_of_rle a)) result (Ok (slice_of start end (column (tree_of_rle self.now)))) }
+        ensures parts { IfOk result (λ a. a ≡ record { values = values; indices = indices; offsets = offsets; window = record { offset = (self.now.window.offset + start) % 1024; len = end - start } }) }
+    {
+        self.prove_well_formed();
+        let (_len, _total) = (self.len(), self.indices().len());
+        let offset = (self.offset() + start) % FL_CHUNK_SIZE;
+        let values = Box::new(alloc, values)?;
+        let indices = Box::new(alloc, indices)?;
+        let offsets = Box::new(alloc, offsets)?;
+        Ok(RLEArray {
+            values,
+            indices,
+            offsets,
+            offset,
+            len: end - start,
+        })
+    }
+
+    /// A copy over copies of the children.
+    pub(crate) fn clone_with(
+        &self,
+        alloc: Global,
+        values: ArrayRef,
+        indices: ArrayRef,
+        offsets: ArrayRef,
+    ) -> Result<RLEArray, FastLanesError>
+        requires values { values ≡ self.now.values }
+        requires indices { indices ≡ self.now.indices }
+        requires offsets { offsets ≡ self.now.offsets }
+        ensures { Answers (λ a. a) result (Ok self.now) }
+    {
+        self.prove_well_formed();
+        let (offset, len) = (self.offset(), self.len());
+        let values = Box::new(alloc, values)?;
+        let indices = Box::new(alloc, indices)?;
+        let offsets = Box::new(alloc, offsets)?;
+        Ok(RLEArray {
+            values,
+            indices,
+            offsets,
+            offset,
+            len,
+        })
+    }
+}
+
+/// The ranges of some chunks, of their run indices and of their run values.
+#[derive(Clone, Copy)]
+pub(crate) struct ChunkRanges {
+    pub(crate) first: usize,
+    pub(crate) last: usize,
+    pub(crate) index_first: usize,
+    pub(crate) index_last: usize,
+    pub(crate) from: usize,
+    pub(crate) to: usize,
+}

@@ -1,0 +1,17 @@
+//! Widths of least cost for the bits of a column's items, and the patches of the items that a
+//! width leaves out.
+#![tactic(auto)]
+
+pub mod best_width;
+pub mod block_widths;
+pub mod gathering;
+pub mod histogram;
+pub mod laws;
+mod patterns;
+pub mod widths;
+
+pub use crate::best_width::{count_exceptions, find_best_bit_width};
+pub use crate::block_widths::find_best_bit_widths;
+pub use crate::gathering::{gather_blocked_patches, gather_patches};
+pub use crate::histogram::bit_width_histogram;
+pub use crate::widths::Widths;

@@ -1,0 +1,8 @@
+use Rattle.std.proofs.Common.{refl}
+use Rattle.fastlanes.specs.Layout.{bits_16}
+use Rattle.fl_types.specs.declared.dtype.PType.TheVariants.{U16}
+use Rattle.fl_bitpacking.proofs.Natives.{unsigned_packed}
+use Rattle.fl_bitpacking.proofs.bit_packed.U16BitPacked.pack_block.Goals as goal
+
+pub returns-in-Some : goal.returns-in-Some
+returns-in-Some c = unsigned_packed U16 16 64 c.args.width c.args.items.now c.in-Some.whole.now _ bits_16 refl refl c.in-Some.ensures.cases.enough c.in-Some.ensures.cases.same (λ i. (c.type_inv.items i).fits) c.pack_bytes.ensures

@@ -1,0 +1,14 @@
+pub mod Blocks
+pub mod BlockLends
+pub mod Columns
+pub mod Lending
+pub mod Lent
+pub mod Parts
+pub mod Placed
+pub mod Readers
+pub mod Restored
+pub mod Spans
+pub mod WholeBlocks
+pub mod Refusals
+pub mod SingleItems
+pub mod SlicedParts

@@ -1,0 +1,157 @@
+//! The blocks of a packed column: where their bytes lie, and their items.
+
+ghost use Rattle.std.specs.Prelude.{◌≡◌, ◌+◌, ◌-◌, ◌*◌, ◌<◌, ◌≤◌, ◌^◌, ℕ, length, min};
+ghost use Rattle.fl_types.specs.Bits.{between};
+ghost use Rattle.fl_types.specs.Integers.{bits_of_type};
+ghost use Rattle.fl_bitpacking.specs.Blocks.{block_item, blocks_of, bytes_of_block, global_blocks, item_of_blocks, value_at};
+ghost use Rattle.fl_bitpacking.specs.Parts.{AreReadable, blocks_in};
+
+use crate::unpack_iter::UnpackStrategy;
+use fastlanes::{FL_CHUNK_SIZE, Work};
+use fl_bit_widths::Widths;
+use fl_column::chunk_count;
+use fl_types::NativePType;
+
+/// The bytes of the block that starts there.
+fn block_at(packed: &[u8], start: usize, width: usize) -> &[u8]
+    requires { start + 128 * width ≤ length packed.now }
+    ensures bytes { result.now ≡ between start (start + 128 * width) packed.now }
+    ensures long { length result.now ≡ 128 * width }
+{
+    let size = FL_CHUNK_SIZE / 8 * width;
+    &packed[start..start + size]
+}
+
+/// The bytes of block `j`, where all blocks have one width.
+pub(crate) fn global_block(packed: &[u8], width: usize, j: usize) -> &[u8]
+    requires { 128 * width * (j + 1) ≤ length packed.now }
+    ensures bytes { result.now ≡ bytes_of_block (global_blocks width) packed.now j }
+    ensures long { length result.now ≡ 128 * width }
+{
+    block_at(packed, FL_CHUNK_SIZE / 8 * width * j, width)
+}
+
+/// Writes the items of a block from position `low` on. A whole block is unpacked straight into its
+/// place, another one by way of the scratch block.
+fn unpack_part<T: NativePType, S: UnpackStrategy<T>>(
+    strategy: &S,
+    width: usize,
+    block: &[u8],
+    low: usize,
+    items: &mut [T],
+    scratch: &mut [T; FL_CHUNK_SIZE],
+    work: &mut Work,
+)
+    requires width { width ≤ bits_of_type T.PTYPE }
+    requires block { length block.now ≡ 128 * width }
+    requires within { low + length items.old ≤ 1024 }
+    ensures items { (i : ℕ) → i < length items.old → value_at T.value items.new i ≡ block_item T.PTYPE width block.now (low + i) }
+    ensures blocks { work.new.blocks ≡ min (work.old.blocks + 1) u64.MAX }
+    ensures words { work.new.words ≡ work.old.words }
+{
+    match items.as_mut_array::<FL_CHUNK_SIZE>() {
+        Some(whole) => strategy.unpack_chunk(width, block, whole, work),
+        None => {
+            strategy.unpack_chunk(width, block, scratch, work);
+            let unpacked = &scratch[..];
+            items.copy_from_slice(&unpacked[low..low + items.len()]);
+        }
+    }
+}
+
+/// A count of blocks fits its type.
+pub(crate) fn prove_count_fits(work: &Work)
+    ensures { work.now.blocks ≤ u64.MAX }
+{
+    // For the proof: the count is a `u64`.
+    let _blocks = work.blocks();
+}
+
+/// Packed blocks, and which of their items are read.
+#[derive(Clone, Copy)]
+pub(crate) struct PackedBlocks<'a> {
+    /// The widths of the blocks.
+    pub(crate) widths: Widths<'a>,
+    /// Their bytes, one block behind the other.
+    pub(crate) packed: &'a [u8],
+    /// The position of the first item in the first block, below 1024.
+    pub(crate) offset: usize,
+    /// How many items there are.
+    pub(crate) len: usize,
+}
+
+impl PackedBlocks<'_> {
+    /// How many blocks hold the items. The first and the last one may be cut.
+    pub(crate) fn count(self) -> usize
+        requires { self.offset + self.len < 2 ^ 64 }
+        ensures { result ≡ blocks_in self.entry }
+    {
+        chunk_count(self.offset + self.len)
+    }
+
+    /// Where the items of block `j` begin and end among all items.
+    pub(crate) fn places(self, j: usize) -> (usize, usize)
+        requires offset { self.offset < 1024 }
+        requires few { self.offset + self.len < 2 ^ 64 }
+        requires some { j < blocks_in self }
+        ensures from { result.0 ≡ 1024 * j - self.entry.offset }
+        ensures to { result.1 ≡ min (1024 * (j + 1)) (self.entry.offset + self.entry.len) - self.entry.offset }
+        ensures order { result.0 ≤ result.1 }
+        ensures room { result.1 ≤ self.entry.len }
+    {
+        let start = FL_CHUNK_SIZE * j;
+        let low = self.offset.saturating_sub(start);
+        let from = start.saturating_sub(self.offset);
+        (from, from + (self.len - from).min(FL_CHUNK_SIZE - low))
+    }
+
+    /// Writes the items of block `j`, whose bytes start at `start`, and gives where those of the next
+    /// block start.
+    pub(crate) fn unpack_block<T: NativePType, S: UnpackStrategy<T>>(
+        self,
+        strategy: &S,
+        j: usize,
+        start: usize,
+        items: &mut [T],
+        scratch: &mut [T; FL_CHUNK_SIZE],
+        work: &mut Work,
+    ) -> usize
+        requires readable { AreReadable (bits_of_type T.PTYPE) self }
+        requires block { j < blocks_in self }
+        requires start { start ≡ (blocks_of self.widths).start j }
+        requires room { 1024 * j - self.offset + length items.old ≤ 1024 * (j + 1) - self.offset }
+        ensures items { (i : ℕ) → i < length items.old → value_at T.value items.new i ≡ item_of_blocks T.PTYPE (blocks_of self.entry.widths) self.entry.packed.now (self.entry.offset + (1024 * j - self.entry.offset + i)) }
+        ensures next { result ≡ (blocks_of self.entry.widths).start (j + 1) }
+        ensures blocks { work.new.blocks ≡ min (work.old.blocks + 1) u64.MAX }
+        ensures words { work.new.words ≡ work.old.words }
+    {
+        let width = self.widths.of_block(j);
+        let block = block_at(self.packed, start, width);
+        let low = self.offset.saturating_sub(FL_CHUNK_SIZE * j);
+        unpack_part(strategy, width, block, low, items, scratch, work);
+        start + block.len()
+    }
+
+    /// Writes all items, each block unpacked once.
+    pub(crate) fn unpack_into<T: NativePType, S: UnpackStrategy<T>>(
+        self,
+        strategy: &S,
+        items: &mut [T],
+        scratch: &mut [T; FL_CHUNK_SIZE],
+        work: &mut Work,
+    )
+        requires readable { AreReadable (bits_of_type T.PTYPE) self }
+        requires long { length items.old ≡ self.len }
+        ensures items { (i : ℕ) → i < length items.old → value_at T.value items.new i ≡ item_of_blocks T.PTYPE (blocks_of self.entry.widths) self.entry.packed.now (self.entry.offset + i) }
+        ensures blocks { work.new.blocks ≡ min (work.old.blocks + blocks_in self.entry) u64.MAX }
+        ensures words { work.new.words ≡ work.old.words }
+    {
+        prove_count_fits(work);
+        let mut start = 0;
+        for j in 0..self.count() {
+            let (from, to) = self.places(j);
+            let part = &mut items[from..to];
+            start = self.unpack_block(strategy, j, start, part, scratch, work);
+        }
+    }
+}

@@ -1,0 +1,465 @@
+//! The parts of a bit-packed array, without the widths of its blocks: decoding, single items and slices.
+
+ghost use Rattle.std.specs.Prelude.{◌≡◌, ◌+◌, ◌-◌, ◌*◌, ◌/◌, ◌%◌, ◌<◌, ◌≤◌, ℕ, IfOk, IfSome, IsTrue, None, Ok, length, option_and_then, option_map};
+ghost use Rattle.std.specs.Option.{option_copied};
+ghost use Rattle.fl_types.specs.declared.dtype.DType.TheVariants.{Primitive};
+ghost use Rattle.fl_types.specs.Bits.{between};
+ghost use Rattle.fl_types.specs.Integers.{bits_of_type};
+ghost use Rattle.fl_types.specs.Refusals.{Answers};
+ghost use Rattle.fl_types.specs.Validities.{nullability_of};
+ghost use Rattle.fl_types.specs.Values.{scalar_parts, integer_of, ptype_of_value};
+ghost use Rattle.fl_column.specs.Columns.{Column, column_of_primitive, numbers_of};
+ghost use Rattle.fl_column.specs.Operations.{slice_of};
+ghost use Rattle.fl_column.specs.Questions.{scalar_in};
+ghost use Rattle.fl_patches.specs.PatchMaps.{patched_in, slice_patches};
+ghost use Rattle.fl_column.specs.Numbers.{numbers};
+ghost use Rattle.fl_bitpacking.specs.Blocks.{are_blocks, block_item, boundary_blocks, global_blocks};
+ghost use Rattle.fl_bitpacking.specs.Columns.{block_count, column_of_packed};
+ghost use Rattle.fl_bitpacking.specs.Parts.{parts_of};
+ghost use Rattle.fl_bitpacking.specs.Refusals.{AreConsistent, blocked_refusal, global_refusal};
+ghost use Rattle.fl_bitpacking.specs.SingleItems.{HasBlock, item_in_block};
+ghost use Rattle.fl_bitpacking.specs.SlicedParts.{HasEnds, IsBlockedSlice, end_block, first_block, sliced_parts};
+
+use crate::decoding::{PackedColumn, unpack_block_item, unpack_blocked, unpack_global};
+use bytes::Bytes;
+use fastlanes::{FL_CHUNK_SIZE, Work};
+use fl_column::{PhysicalPType, PrimitiveArray, chunk_count};
+use fl_patches::Patches;
+use fl_types::{DType, FastLanesError, PType, PValue, Scalar, Validity, match_each_integer_ptype};
+use std::alloc::Global;
+use std::marker::Model;
+
+/// The packed bytes of a column's blocks, and what is kept beside them: its type, its validity, its patches,
+/// and the positions of the blocks that it shows.
+pub struct PackedData {
+    packed: Bytes,
+    ptype: PType,
+    validity: Validity,
+    patches: Option<Patches>,
+    offset: usize,
+    len: usize,
+}
+
+// Written out, so that letting one go is one call in each function that owns one.
+impl Drop for PackedData {
+    fn drop(self) {
+        let PackedData {
+            packed: _,
+            ptype: _,
+            validity: _,
+            patches: _,
+            offset: _,
+            len: _,
+        } = self;
+    }
+}
+
+impl Model for PackedData {
+    ghost use Rattle.fl_bitpacking.specs.Columns.{BitPackedParts};
+    ghost use Rattle.fl_bitpacking.specs.Refusals.{AreConsistent};
+
+    ghost Value = { BitPackedParts };
+
+    ghost view = { λ d. record { packed = d.packed; ptype = d.ptype; validity = d.validity; patches = d.patches; offset = d.offset; len = d.len } };
+
+    ghost invariant = { λ d. AreConsistent (record { packed = d.packed; ptype = d.ptype; validity = d.validity; patches = d.patches; offset = d.offset; len = d.len }) };
+}
+
+/// The item of a block as it is stored.
+fn stored_typed<T: PhysicalPType>(
+    width: usize,
+    block: &[u8],
+    index: usize,
+    work: &mut Work,
+) -> PValue
+    requires width { width ≤ bits_of_type T.PTYPE }
+    requires block { length block.now ≡ 128 * width }
+    requires index { index < 1024 }
+    ensures value { integer_of result ≡ block_item T.PTYPE width block.now index }
+    ensures typed { ptype_of_value result ≡ T.PTYPE }
+    ensures few { work.new.words ≤ work.old.words + 2 }
+    ensures blocks { work.new.blocks ≡ work.old.blocks }
+{
+    unpack_block_item::<T>(width, block, index, work).into_pvalue()
+}
+
+/// The item of a block of integers of a type as it is stored.
+fn stored_in(ptype: PType, width: usize, block: &[u8], index: usize, work: &mut Work) -> PValue
+    requires width { width ≤ bits_of_type ptype }
+    requires block { length block.now ≡ 128 * width }
+    requires index { index < 1024 }
+    ensures value { integer_of result ≡ block_item ptype width block.now index }
+    ensures typed { ptype_of_value result ≡ ptype }
+    ensures few { work.new.words ≤ work.old.words + 2 }
+    ensures blocks { work.new.blocks ≡ work.old.blocks }
+{
+    match_each_integer_ptype!(ptype, stored_typed(width, block, index, work))
+}
+
+/// A copy of patches, where there are some.
+fn clone_patches(
+    patches: &Option<Patches>,
+    alloc: Global,
+) -> Result<Option<Patches>, FastLanesError>
+    ensures { Answers (λ p. p) result (Ok patches.now) }
+{
+    match patches {
+        Some(patches) => Ok(Some(patches.try_clone(alloc)?)),
+        None => Ok(None),
+    }
+}
+
+/// The patches of the items from `start` to below `end`, where there are some.
+fn slice_patches(
+    patches: &Option<Patches>,
+    alloc: Global,
+    start: usize,
+    end: usize,
+) -> Result<Option<Patches>, FastLanesError>
+    requires order { start ≤ end }
+    requires range { IfSome patches.now (λ p. end ≤ p.array_len) }
+    ensures parts { Answers (λ p. p) result (Ok (option_and_then (slice_patches start end) patches.now)) }
+    ensures map { IfOk result (λ p. (i : ℕ) → i < end - start → patched_in p i ≡ patched_in patches.now (start + i)) }
+{
+    match patches {
+        Some(patches) => patches.slice(alloc, start, end),
+        None => Ok(None),
+    }
+}
+
+/// The bytes from `from` to below `to`, shared with the others.
+fn slice_bytes(packed: &Bytes, from: usize, to: usize) -> Result<Bytes, FastLanesError>
+    requires order { from ≤ to }
+    requires range { to ≤ length packed.now }
+    ensures { Answers (λ b. b) result (Ok (between from to packed.now)) }
+{
+    Ok(packed.slice(from..to)?)
+}
+
+impl PackedData {
+    /// The data of these parts, which fit each other.
+    pub fn new(
+        packed: Bytes,
+        ptype: PType,
+        validity: Validity,
+        patches: Option<Patches>,
+        offset: usize,
+        len: usize,
+    ) -> PackedData
+        requires { AreConsistent (record { packed = packed; ptype = ptype; validity = validity; patches = patches; offset = offset; len = len }) }
+        ensures { result ≡ record { packed = packed; ptype = ptype; validity = validity; patches = patches; offset = offset; len = len } }
+    {
+        PackedData {
+            packed,
+            ptype,
+            validity,
+            patches,
+            offset,
+            len,
+        }
+    }
+
+    /// The parts fit each other.
+    pub fn prove_well_formed(&self)
+        ensures { AreConsistent self.now }
+    {
+        let _ = &self.offset;
+    }
+
+    /// The bytes of the blocks.
+    pub fn packed(&self) -> &Bytes
+        ensures { result.now ≡ self.now.packed }
+    {
+        &self.packed
+    }
+
+    /// The integer type.
+    pub fn ptype(&self) -> PType
+        ensures { result ≡ self.now.ptype }
+    {
+        self.ptype
+    }
+
+    /// Which items are null.
+    pub fn validity(&self) -> &Validity
+        ensures { result.now ≡ self.now.validity }
+    {
+        &self.validity
+    }
+
+    /// The values that stand in place of packed bits.
+    pub fn patches(&self) -> Option<&Patches>
+        ensures { option_copied result ≡ self.now.patches }
+    {
+        self.patches.as_ref()
+    }
+
+    /// The position of the first item in the first block, below 1024.
+    pub fn offset(&self) -> usize
+        ensures { result ≡ self.now.offset }
+    {
+        self.offset
+    }
+
+    /// How many items there are.
+    pub fn len(&self) -> usize
+        ensures { result ≡ self.now.len }
+    {
+        self.len
+    }
+
+    /// The type of the column.
+    pub fn dtype(&self) -> DType
+        ensures { result ≡ Primitive self.now.ptype (nullability_of self.now.validity) }
+    {
+        DType::Primitive(self.ptype, self.validity.nullability())
+    }
+
+    /// How many blocks there are.
+    pub fn block_count(&self) -> usize
+        ensures { result ≡ block_count self.now }
+    {
+        chunk_count(self.offset + self.len)
+    }
+
+    /// The parts as they are read.
+    fn column(&self) -> PackedColumn<'_>
+        ensures { parts_of result ≡ self.now }
+    {
+        PackedColumn {
+            packed: self.packed.as_slice(),
+            ptype: self.ptype,
+            validity: &self.validity,
+            patches: self.patches.as_ref(),
+            offset: self.offset,
+            len: self.len,
+        }
+    }
+
+    /// The column of the items, whose blocks all have one width.
+    pub fn decode_global(
+        &self,
+        alloc: Global,
+        width: usize,
+    ) -> Result<PrimitiveArray, FastLanesError>
+        requires width { width ≤ bits_of_type self.now.ptype }
+        requires room { 128 * width * block_count self.now ≤ length self.now.packed }
+        ensures { Answers column_of_primitive result (Ok (column_of_packed self.now (global_blocks width))) }
+    {
+        self.prove_well_formed();
+        unpack_global(alloc, &self.column(), width)
+    }
+
+    /// The column of the items, whose blocks lie between the boundaries.
+    pub fn decode_blocked(
+        &self,
+        alloc: Global,
+        boundaries: &PrimitiveArray,
+    ) -> Result<PrimitiveArray, FastLanesError>
+        requires count { length boundaries.now.slots ≡ block_count self.now + 1 }
+        requires blocks { IsTrue (are_blocks (bits_of_type self.now.ptype) (length self.now.packed) (numbers boundaries.now)) }
+        ensures { Answers column_of_primitive result (Ok (column_of_packed self.now (boundary_blocks (numbers boundaries.now)))) }
+    {
+        self.prove_well_formed();
+        unpack_blocked(alloc, &self.column(), boundaries)
+    }
+
+    /// The patch of item `i`, if there is one.
+    fn patch(&self, i: usize) -> Option<PValue>
+        ensures value { option_map integer_of result ≡ patched_in self.now.patches i }
+        ensures typed { IfSome result (λ v. ptype_of_value v ≡ self.now.ptype) }
+    {
+        match &self.patches {
+            Some(patches) => patches.get_patched(i),
+            None => None,
+        }
+    }
+
+    /// Item `i` as it is stored in its block.
+    fn stored_in_block(&self, start: usize, width: usize, i: usize, work: &mut Work) -> PValue
+        requires range { i < self.now.len }
+        requires width { width ≤ bits_of_type self.now.ptype }
+        requires room { start + 128 * width ≤ length self.now.packed }
+        ensures value { integer_of result ≡ block_item self.now.ptype width (between start (start + 128 * width) self.now.packed) ((self.now.offset + i) % 1024) }
+        ensures typed { ptype_of_value result ≡ self.now.ptype }
+        ensures few { work.new.words ≤ work.old.words + 2 }
+        ensures blocks { work.new.blocks ≡ work.old.blocks }
+    {
+        let packed = self.packed.as_slice();
+        let block = &packed[start..start + FL_CHUNK_SIZE / 8 * width];
+        let index = (self.offset + i) % FL_CHUNK_SIZE;
+        stored_in(self.ptype, width, block, index, work)
+    }
+
+    /// Item `i`, whose block starts at byte `start` and has a width.
+    pub fn item_in_block(&self, start: usize, width: usize, i: usize, work: &mut Work) -> Scalar
+        requires range { i < self.now.len }
+        requires width { width ≤ bits_of_type self.now.ptype }
+        requires room { start + 128 * width ≤ length self.now.packed }
+        ensures item { scalar_parts result ≡ item_in_block self.now start width i }
+        ensures few { work.new.words ≤ work.old.words + 2 }
+        ensures blocks { work.new.blocks ≡ work.old.blocks }
+    {
+        if !self.validity.is_valid(i, self.len) {
+            return Scalar::null(self.dtype());
+        }
+        let value = match self.patch(i) {
+            Some(value) => value,
+            None => self.stored_in_block(start, width, i, work),
+        };
+        Scalar::primitive(value, self.validity.nullability())
+    }
+
+    /// The block of item `i`.
+    pub fn block_of(&self, i: usize) -> usize
+        requires { i < self.now.len }
+        ensures block { result ≡ (self.now.offset + i) / 1024 }
+        ensures range { result < block_count self.now }
+    {
+        (self.offset + i) / FL_CHUNK_SIZE
+    }
+
+    /// Item `i`, where all blocks have one width.
+    pub fn item_global(&self, width: usize, i: usize, work: &mut Work) -> Scalar
+        requires global { global_refusal self.now width ≡ None }
+        requires range { i < self.now.len }
+        ensures item { scalar_parts result ≡ scalar_in (column_of_packed self.now (global_blocks width)) i }
+        ensures few { work.new.words ≤ work.old.words + 2 }
+        ensures blocks { work.new.blocks ≡ work.old.blocks }
+    {
+        let _size = self.packed.len();
+        let start = FL_CHUNK_SIZE / 8 * width * self.block_of(i);
+        self.item_in_block(start, width, i, work)
+    }
+
+    /// Item `i`, where its block lies between `start` and `end`, of boundaries that begin with `first`.
+    pub fn item_blocked(
+        &self,
+        first: usize,
+        start: usize,
+        end: usize,
+        i: usize,
+        work: &mut Work,
+    ) -> Scalar
+        requires range { i < self.now.len }
+        requires first { first ≤ start }
+        requires order { start ≤ end }
+        requires room { end - first ≤ length self.now.packed }
+        requires width { (end - start) / 128 ≤ bits_of_type self.now.ptype }
+        ensures item { (c : Column) → HasBlock c ((self.now.offset + i) / 1024) first start end → scalar_parts result ≡ scalar_in (column_of_packed self.now (boundary_blocks (numbers_of c))) i }
+        ensures few { work.new.words ≤ work.old.words + 2 }
+        ensures blocks { work.new.blocks ≡ work.old.blocks }
+    {
+        self.item_in_block(start - first, (end - start) / (FL_CHUNK_SIZE / 8), i, work)
+    }
+
+    /// The parts of the items from `start` to below `end`, whose blocks are the bytes from `from` to below `to`.
+    pub fn slice(
+        &self,
+        alloc: Global,
+        from: usize,
+        to: usize,
+        start: usize,
+        end: usize,
+    ) -> Result<PackedData, FastLanesError>
+        requires bytes { from ≤ to }
+        requires room { to ≤ length self.now.packed }
+        requires order { start ≤ end }
+        requires range { end ≤ self.now.len }
+        ensures parts { Answers (λ p. p) result (Ok (sliced_parts from to start end self.now)) }
+        ensures patches { IfOk result (λ p. (i : ℕ) → i < end - start → patched_in p.patches i ≡ patched_in self.now.patches (start + i)) }
+    {
+        let packed = slice_bytes(&self.packed, from, to)?;
+        let validity = self.validity.slice(alloc, start, end, self.len)?;
+        let patches = slice_patches(&self.patches, alloc, start, end)?;
+        Ok(PackedData {
+            packed,
+            ptype: self.ptype,
+            validity,
+            patches,
+            offset: (self.offset + start) % FL_CHUNK_SIZE,
+            len: end - start,
+        })
+    }
+
+    /// The parts of the items from `start` to below `end`, where all blocks have one width: the blocks from
+    /// the first one that holds such an item to the last one.
+    pub fn slice_global(
+        &self,
+        alloc: Global,
+        width: usize,
+        start: usize,
+        end: usize,
+    ) -> Result<PackedData, FastLanesError>
+        requires global { global_refusal self.now width ≡ None }
+        requires order { start ≤ end }
+        requires range { end ≤ self.now.len }
+        ensures parts { Answers (λ p. p) result (Ok (sliced_parts (128 * width * first_block self.now.offset start) (128 * width * end_block self.now.offset end) start end self.now)) }
+        ensures global { IfOk result (λ p. global_refusal p width ≡ None) }
+        ensures column { Answers (λ p. column_of_packed p (global_blocks width)) result (Ok (slice_of start end (column_of_packed self.now (global_blocks width)))) }
+    {
+        let _size = self.packed.len();
+        let from = FL_CHUNK_SIZE / 8 * width * self.first_block(start);
+        let to = FL_CHUNK_SIZE / 8 * width * self.end_block(end);
+        let sliced = self.slice(alloc, from, to, start, end)?;
+        sliced.prove_well_formed();
+        Ok(sliced)
+    }
+
+    /// The parts of the items from `start` to below `end`, where the blocks lie between boundaries: `first` is
+    /// the first of all, `from` stands before the first block that holds such an item and `to` behind the last.
+    pub fn slice_blocked(
+        &self,
+        alloc: Global,
+        first: usize,
+        from: usize,
+        to: usize,
+        start: usize,
+        end: usize,
+    ) -> Result<PackedData, FastLanesError>
+        requires first { first ≤ from }
+        requires bytes { from ≤ to }
+        requires room { to - first ≤ length self.now.packed }
+        requires order { start ≤ end }
+        requires range { end ≤ self.now.len }
+        ensures parts { Answers (λ p. p) result (Ok (sliced_parts (from - first) (to - first) start end self.now)) }
+        ensures blocked { IfOk result (λ p. (c : Column) → HasEnds c self.now.offset start end first from to → blocked_refusal self.now c ≡ None → IsBlockedSlice c self.now start end p) }
+    {
+        let sliced = self.slice(alloc, from - first, to - first, start, end)?;
+        sliced.prove_well_formed();
+        Ok(sliced)
+    }
+
+    /// The block that holds the first item from `start` on.
+    pub fn first_block(&self, start: usize) -> usize
+        requires { start ≤ self.now.len }
+        ensures { result ≡ first_block self.now.offset start }
+    {
+        (self.offset + start) / FL_CHUNK_SIZE
+    }
+
+    /// The block behind the last one that holds an item below `end`.
+    pub fn end_block(&self, end: usize) -> usize
+        requires { end ≤ self.now.len }
+        ensures { result ≡ end_block self.now.offset end }
+    {
+        chunk_count(self.offset + end)
+    }
+
+    /// A copy.
+    pub fn try_clone(&self, alloc: Global) -> Result<PackedData, FastLanesError>
+        ensures { Answers (λ p. p) result (Ok self.now) }
+    {
+        let packed = self.packed.clone()?;
+        let validity = self.validity.try_clone(alloc)?;
+        let patches = clone_patches(&self.patches, alloc)?;
+        Ok(PackedData {
+            packed,
+            ptype: self.ptype,
+            validity,
+            patches,
+            offset: self.offset,
+            len: self.len,
+        })
+    }
+}

@@ -1,0 +1,258 @@
+//! Reading packed columns block by block.
+
+ghost use Rattle.std.specs.Prelude.{◌≡◌, ◌+◌, ◌-◌, ◌*◌, ◌<◌, ◌≤◌, ◌^◌, ℕ, SomeIff, length, min, if◌then◌else◌};
+ghost use Rattle.fl_types.specs.Integers.{bits_of_type};
+ghost use Rattle.fl_column.specs.Chunks.{chunk_count};
+ghost use Rattle.fl_bitpacking.specs.Blocks.{block_item, value_at};
+ghost use Rattle.fl_bitpacking.specs.Readers.{lends_first, lends_last};
+
+pub use crate::bit_packed::{BitCount, BitPacked};
+pub use crate::bit_unpack_iterator::BitUnpackIterator;
+use crate::blocks::{PackedBlocks, global_block};
+use crate::unpacked_items::Span;
+pub use crate::unpacked_items::UnpackedItems;
+use fastlanes::{FL_CHUNK_SIZE, Work};
+use fl_bit_widths::Widths;
+use fl_column::chunk_count;
+use fl_types::{FastLanesError, NativePType};
+use std::marker::Model;
+
+/// A way to unpack a block of integers of a type. The layout is the one way, and so the contract; a
+/// strategy may do more, as keep what it saw.
+pub trait UnpackStrategy<T: NativePType> {
+    /// Unpacks a block of `128 * bit_width` bytes. The bits of an item from `bit_width` on are 0, and
+    /// its pattern is read as the type.
+    fn unpack_chunk(
+        &self,
+        bit_width: usize,
+        chunk: &[u8],
+        dst: &mut [T; FL_CHUNK_SIZE],
+        work: &mut Work,
+    )
+        requires width { bit_width ≤ bits_of_type T.PTYPE }
+        requires block { length chunk.now ≡ 128 * bit_width }
+        ensures items { (i : ℕ) → i < 1024 → value_at T.value dst.new i ≡ block_item T.PTYPE bit_width chunk.now i }
+        ensures whole { length dst.new ≡ 1024 }
+        ensures blocks { work.new.blocks ≡ min (work.old.blocks + 1) u64.MAX }
+        ensures words { work.new.words ≡ work.old.words };
+}
+
+/// Unpacks by the kernels of the layout.
+#[derive(Clone, Copy)]
+pub struct BitPackingStrategy;
+
+impl<T: BitPacked> UnpackStrategy<T> for BitPackingStrategy {
+    fn unpack_chunk(
+        &self,
+        bit_width: usize,
+        chunk: &[u8],
+        dst: &mut [T; FL_CHUNK_SIZE],
+        work: &mut Work,
+    ) {
+        T::unpack_block(bit_width, chunk, dst, work);
+    }
+}
+
+/// A packed column that is read block by block: the items of a first block that is cut, or alone, the
+/// items of a last one that is cut, and all of them at once. It keeps no state but its `Work`.
+#[derive(Drop)]
+pub struct UnpackedChunks<'a, T: BitCount, S> {
+    strategy: S,
+    packed: &'a [u8],
+    bit_width: usize,
+    offset: usize,
+    len: usize,
+    scratch: &'a mut [T; FL_CHUNK_SIZE],
+    work: Work,
+}
+
+impl<'a, T: BitCount, S> Model for UnpackedChunks<'a, T, S> {
+    ghost use Rattle.fl_bitpacking.specs.Readers.{Reader, IsReader};
+
+    ghost Value = { Reader };
+
+    ghost view = { λ c. record { packed = c.packed.now; bit_width = c.bit_width; offset = c.offset; len = c.len; work = c.work } };
+
+    ghost invariant = { λ c. IsReader T.TYPE_BITS c.packed.now c.bit_width c.offset c.len };
+}
+
+impl<'a, T: BitPacked, S: UnpackStrategy<T> + Drop> UnpackedChunks<'a, T, S> {
+    ghost use Rattle.std.specs.Prelude.{◌≡◌, ◌+◌, ◌-◌, ◌*◌, ◌<◌, ◌≤◌, ℕ, None, Some, length, min};
+    ghost use Rattle.std.specs.Borrow.{sem};
+    ghost use Rattle.fl_types.specs.Integers.{bits_of_type};
+    ghost use Rattle.fl_bitpacking.specs.Blocks.{global_blocks, item_of_blocks, value_at};
+    ghost use Rattle.fl_bitpacking.specs.Readers.{Reader, after_initial, after_trailer, blocks_read, initial_items, new_reader, trailer_items, unpacked_one};
+    ghost use Rattle.fl_bitpacking.specs.WholeBlocks.{block_items_at};
+    ghost use Rattle.fl_bitpacking.specs.Lending.{lends_items};
+    ghost use Rattle.fl_bitpacking.specs.Lent.{integers_lent};
+
+    /// Unpacks a block, and lends its items at these positions.
+    fn lend_block(&mut self, j: usize, span: Span) -> UnpackedItems<'_, T>
+        requires block { j < blocks_read self.old }
+        requires order { span.from ≤ span.to }
+        requires within { span.to ≤ 1024 }
+        ensures* after { sem 𝓛 (lends_items T.row S.row T.BitCount self.entry (unpacked_one self.old) result) }
+        ensures items { integers_lent T.value result ≡ Some (block_items_at T.PTYPE self.old.bit_width self.old.packed (1024 * j + span.from) (span.to - span.from)) }
+    {
+        T::prove_fits_in_memory();
+        let block = global_block(self.packed, self.bit_width, j);
+        self.strategy
+            .unpack_chunk(self.bit_width, block, self.scratch, &mut self.work);
+        UnpackedItems {
+            block: &mut *self.scratch,
+            span: Some(span),
+        }
+    }
+
+    /// Lends no items.
+    fn lend_none(&mut self) -> UnpackedItems<'_, T>
+        ensures* after { sem 𝓛 (lends_items T.row S.row T.BitCount self.entry self.old result) }
+        ensures items { integers_lent T.value result ≡ None }
+    {
+        UnpackedItems {
+            block: &mut *self.scratch,
+            span: None,
+        }
+    }
+
+    /// The items of the first block, where it is cut in front or the only one, and else none. They are
+    /// lent until the reader is used again, and are the same at every call.
+    pub fn initial(&mut self) -> UnpackedItems<'_, T>
+        ensures* after { sem 𝓛 (lends_items T.row S.row T.BitCount self.entry (after_initial self.old) result) }
+        ensures items { integers_lent T.value result ≡ initial_items T.PTYPE self.old }
+    {
+        let end = self.offset + self.len;
+        if self.offset == 0 && chunk_count(end) != 1 {
+            return self.lend_none();
+        }
+        let span = Span::new(self.offset, end.min(FL_CHUNK_SIZE));
+        self.lend_block(0, span)
+    }
+
+    /// The items of the last block, where it is cut behind and not the only one, and else none. They
+    /// are lent until the reader is used again, and are the same at every call.
+    pub fn trailer(&mut self) -> UnpackedItems<'_, T>
+        ensures* after { sem 𝓛 (lends_items T.row S.row T.BitCount self.entry (after_trailer self.old) result) }
+        ensures items { integers_lent T.value result ≡ trailer_items T.PTYPE self.old }
+    {
+        let end = self.offset + self.len;
+        let cut = end % FL_CHUNK_SIZE;
+        if cut == 0 || end < FL_CHUNK_SIZE {
+            return self.lend_none();
+        }
+        let span = Span::new(0, cut);
+        self.lend_block(end / FL_CHUNK_SIZE, span)
+    }
+
+    /// A reader of a column of this many items from the offset on, whose blocks have one width, at most
+    /// the type's bits. The strategy unpacks the blocks; the scratch block is scratch space.
+    ///
+    /// # Errors
+    /// `OffsetTooLarge` where the offset is 1024 or more. Then `LengthOverflow` where offset and length
+    /// together, rounded up to whole blocks, are above `usize::MAX`. Then `PackedLength` where the bytes
+    /// are not those of the blocks.
+    pub fn try_new_with_strategy(
+        strategy: S,
+        packed: &'a [u8],
+        bit_width: usize,
+        offset: usize,
+        len: usize,
+        scratch: &'a mut [T; FL_CHUNK_SIZE],
+    ) -> Result<Self, FastLanesError>
+        requires { bit_width ≤ bits_of_type T.PTYPE }
+        ensures { result ≡ new_reader packed.now bit_width offset len }
+    {
+        if offset >= FL_CHUNK_SIZE {
+            return Err(FastLanesError::OffsetTooLarge);
+        }
+        let Some(blocks) = whole_blocks(offset, len) else {
+            return Err(FastLanesError::LengthOverflow);
+        };
+        if packed.len() as u128 != (FL_CHUNK_SIZE / 8 * bit_width) as u128 * blocks as u128 {
+            return Err(FastLanesError::PackedLength);
+        }
+        Ok(UnpackedChunks {
+            strategy,
+            packed,
+            bit_width,
+            offset,
+            len,
+            scratch,
+            work: Work::new(),
+        })
+    }
+
+    /// The blocks that were unpacked so far.
+    pub fn work(&self) -> &Work
+        ensures { result.now ≡ self.now.work }
+    {
+        &self.work
+    }
+
+    /// Writes all items, each block unpacked once, a whole one straight into its place.
+    pub fn decode_into(&mut self, output: &mut [T])
+        requires { length output.old ≡ self.old.len }
+        ensures items { (i : ℕ) → i < length output.old → value_at T.value output.new i ≡ item_of_blocks T.PTYPE (global_blocks self.old.bit_width) self.old.packed (self.old.offset + i) }
+        ensures blocks { self.new.work.blocks ≡ min (self.old.work.blocks + blocks_read self.old) u64.MAX }
+        ensures words { self.new.work.words ≡ self.old.work.words }
+        ensures same { self.new ≡ record self.old { work = self.new.work } }
+    {
+        T::prove_fits_in_memory();
+        let blocks = PackedBlocks {
+            widths: Widths::Global(self.bit_width),
+            packed: self.packed,
+            offset: self.offset,
+            len: self.len,
+        };
+        blocks.unpack_into(&self.strategy, output, self.scratch, &mut self.work);
+    }
+}
+
+impl<'a, T: BitPacked> UnpackedChunks<'a, T, BitPackingStrategy> {
+    ghost use Rattle.std.specs.Prelude.{◌≡◌};
+    ghost use Rattle.fl_bitpacking.specs.Readers.{whole_blocks};
+
+    /// The blocks that neither `initial` nor `trailer` lends, with a `Work` of their own. They are the
+    /// same at every call.
+    pub fn full_chunks(&self) -> BitUnpackIterator<'_, T>
+        ensures { result ≡ whole_blocks self.now }
+    {
+        let (starts_cut, end) = whole_part(self.offset, self.len);
+        BitUnpackIterator::new(
+            self.packed,
+            [T::zero(); FL_CHUNK_SIZE],
+            self.bit_width,
+            FL_CHUNK_SIZE * self.bit_width / T::TYPE_BITS,
+            end,
+            starts_cut,
+            Work::new(),
+        )
+    }
+}
+
+/// Which blocks neither the first nor the last one lends by itself: whether they begin at the second
+/// one, and where they end.
+fn whole_part(offset: usize, len: usize) -> (bool, usize)
+    requires { offset + len < 2 ^ 64 }
+    ensures first { result.0 ≡ lends_first offset len }
+    ensures end { result.1 ≡ chunk_count (offset + len) - (if lends_last offset len then 1 else 0) }
+{
+    let end = offset + len;
+    let blocks = chunk_count(end);
+    let starts_cut = offset != 0 || blocks == 1;
+    let ends_cut = end % FL_CHUNK_SIZE != 0 && blocks > 1;
+    (starts_cut, blocks - usize::from(ends_cut))
+}
+
+/// How many whole blocks hold this many items from the offset on, unless their positions are more than
+/// `usize::MAX`.
+fn whole_blocks(offset: usize, len: usize) -> Option<usize>
+    ensures { SomeIff result (1024 * chunk_count (offset + len) < 2 ^ 64) (chunk_count (offset + len)) }
+{
+    let end = offset.checked_add(len)?;
+    let blocks = chunk_count(end);
+    if blocks > usize::MAX / FL_CHUNK_SIZE {
+        return None;
+    }
+    Some(blocks)
+}

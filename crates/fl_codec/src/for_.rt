@@ -1,0 +1,422 @@
+//! Frames of reference: columns that are kept less a reference, the least item of the whole or of
+//! each chunk of 1024.
+
+pub mod single_items;
+
+ghost use Rattle.std.specs.Prelude.{◌≡◌, ◌<◌, ◌≤◌, ◌+◌, ◌*◌, ◌+ℤ◌, ◌^◌, ◌&&◌, ℤ, pos, List, IsTrue, IfSome, IfOk, Ok, Some, None, length, map, option_map, unwrap_or, slice_index_or, is_none};
+ghost use Rattle.std.specs.List.{list_all};
+ghost use Rattle.std.specs.Ordering.{int_eq};
+ghost use Rattle.fl_types.specs.Bits.{between, table};
+ghost use Rattle.fl_types.specs.Integers.{wrap};
+ghost use Rattle.fl_types.specs.Refusals.{Answers};
+ghost use Rattle.fl_types.specs.Validities.{covers, items_of};
+ghost use Rattle.fl_types.specs.Values.{integer_of, ptype_of_value};
+ghost use Rattle.fl_column.specs.Columns.{column_of_primitive};
+ghost use Rattle.fl_codec.specs.Chunks.{chunk, chunks_of};
+ghost use Rattle.fl_codec.specs.ForwardFill.{first_some};
+ghost use Rattle.fl_codec.specs.FoRColumns.{chunk_leasts, chunk_references, chunked_for, chunked_slots, chunked_sums, common_reference, global_for, least_valid, lesser, minus_reference, reference_of_chunk};
+ghost use Rattle.fl_codec.specs.Parts.{Nulls, encode_chunked, encode_global, for_parts, global_parts, items_of_primitive, less_chunk_leasts, less_reference, less_references, null_constant, reference_scalar};
+
+use crate::chunks::{chunk_count, chunk_end};
+use crate::plain::{non_nullable, under_validity_of};
+use fastlanes::FL_CHUNK_SIZE;
+use fl_column::{ConstantArray, PrimitiveArray, item_at};
+use fl_types::{
+    FastLanesError, NativePType, Nullability, PValue, Scalar, Validity, match_each_integer_ptype,
+};
+use num_traits::{WrappingAdd, WrappingSub};
+use std::alloc::{AllocError, Global};
+
+/// A column less one reference.
+#[derive(Drop)]
+pub struct GlobalFoR {
+    /// The differences, 0 under a null; the column's validity.
+    pub child: PrimitiveArray,
+    /// The reference, whose type isn't nullable.
+    pub reference: Scalar,
+}
+
+/// A column less its references.
+#[derive(Drop)]
+pub enum EncodedFoR {
+    /// All chunks have one reference.
+    Global(GlobalFoR),
+    /// The differences, 0 under a null, and the reference of each chunk of 1024, none of which may
+    /// be null.
+    Chunked(PrimitiveArray, PrimitiveArray),
+    /// Nothing but nulls, and the reference 0.
+    Nulls(ConstantArray, Scalar),
+}
+
+/// The lesser of two items, of which a null is none.
+fn lesser<T: NativePType>(least: Option<T>, item: Option<T>) -> Option<T>
+    ensures { option_map T.value result ≡ lesser (option_map T.value least) (option_map T.value item) }
+{
+    match (least, item) {
+        (Some(x), Some(y)) => Some(if y < x { y } else { x }),
+        (None, other) => other,
+        (least, None) => least,
+    }
+}
+
+/// The least valid item from `start` to below `end`.
+fn least_between<T: NativePType>(
+    items: &[T],
+    validity: &Validity,
+    start: usize,
+    end: usize,
+) -> Option<T>
+    requires covers { IsTrue (covers validity.now (length items.now)) }
+    requires order { start ≤ end }
+    requires range { end ≤ length items.now }
+    ensures { option_map T.value result ≡ least_valid (between start end (items_of validity.now (map T.value items.now))) }
+{
+    let mut least = None;
+    for i in start..end {
+        least = lesser(least, item_at(items, validity, i));
+    }
+    least
+}
+
+/// The least valid item of chunk `k`.
+fn least_in_chunk<T: NativePType>(items: &[T], validity: &Validity, k: usize) -> Option<T>
+    requires covers { IsTrue (covers validity.now (length items.now)) }
+    requires chunk { k < chunks_of (length items.now) }
+    ensures { option_map T.value result ≡ least_valid (chunk k (items_of validity.now (map T.value items.now))) }
+{
+    let end = chunk_end(k, items.len());
+    least_between(items, validity, FL_CHUNK_SIZE * k, end)
+}
+
+/// The least valid item of the first chunk that has one.
+fn first_least<T: NativePType>(items: &[T], validity: &Validity) -> Option<T>
+    requires { IsTrue (covers validity.now (length items.now)) }
+    ensures { option_map T.value result ≡ first_some (chunk_leasts (items_of validity.now (map T.value items.now))) }
+{
+    for k in 0..chunk_count(items.len()) {
+        if let Some(least) = least_in_chunk(items, validity, k) {
+            return Some(least);
+        }
+    }
+    None
+}
+
+/// The reference of each chunk.
+fn chunk_references<T: NativePType>(
+    alloc: Global,
+    items: &[T],
+    validity: &Validity,
+) -> Result<Vec<T>, AllocError>
+    requires { IsTrue (covers validity.now (length items.now)) }
+    ensures long { IfOk result (λ v. length v.items ≡ chunks_of (length items.now)) }
+    ensures references { IfOk result (λ v. map T.value v.items ≡ chunk_references (items_of validity.now (map T.value items.now))) }
+{
+    let chunks = chunk_count(items.len());
+    let mut references = Vec::with_capacity(alloc, chunks)?;
+    let mut reference = first_least(items, validity).unwrap_or(T::zero());
+    for k in 0..chunks {
+        reference = least_in_chunk(items, validity, k).unwrap_or(reference);
+        references.push(reference)?;
+    }
+    Ok(references)
+}
+
+/// Whether the two values are one.
+fn is_equal<T: NativePType>(x: T, y: T) -> bool
+    ensures { result ≡ int_eq (T.value x) (T.value y) }
+{
+    x == y
+}
+
+/// The one reference that all of them are, 0 where there is none.
+fn common_reference<T: NativePType>(references: &[T]) -> Option<T>
+    ensures { option_map T.value result ≡ common_reference (map T.value references.now) }
+{
+    if references.len() == 0 {
+        return Some(T::zero());
+    }
+    let first = references[0];
+    for reference in references {
+        if !is_equal(first, *reference) {
+            return None;
+        }
+    }
+    Some(first)
+}
+
+/// The slot of an item less a reference, 0 of a null.
+fn difference<T: NativePType + WrappingSub>(item: Option<T>, reference: T) -> T
+    ensures { T.value result ≡ minus_reference T.PTYPE (T.value reference) (option_map T.value item) }
+{
+    match item {
+        Some(item) => item.wrapping_sub(&reference),
+        None => T::zero(),
+    }
+}
+
+/// A slot plus a reference, modulo 2 to the type's bits.
+fn sum<T: NativePType + WrappingAdd>(slot: T, reference: T) -> T
+    ensures { T.value result ≡ wrap T.PTYPE (T.value slot +ℤ T.value reference) }
+{
+    slot.wrapping_add(&reference)
+}
+
+/// The slots of the items less a reference.
+fn differences<T: NativePType + WrappingSub>(
+    alloc: Global,
+    items: &[T],
+    validity: &Validity,
+    reference: T,
+) -> Result<Vec<T>, AllocError>
+    requires { IsTrue (covers validity.now (length items.now)) }
+    ensures long { IfOk result (λ v. length v.items ≡ length items.now) }
+    ensures slots { IfOk result (λ v. map T.value v.items ≡ map (minus_reference T.PTYPE (T.value reference)) (items_of validity.now (map T.value items.now))) }
+{
+    let mut slots = Vec::with_capacity(alloc, items.len())?;
+    for i in 0..items.len() {
+        slots.push(difference(item_at(items, validity, i), reference))?;
+    }
+    Ok(slots)
+}
+
+/// The slots of the items, each less the reference of its chunk.
+fn chunked_differences<T: NativePType + WrappingSub>(
+    alloc: Global,
+    items: &[T],
+    validity: &Validity,
+    references: &[T],
+) -> Result<Vec<T>, AllocError>
+    requires covers { IsTrue (covers validity.now (length items.now)) }
+    requires references { length references.now ≡ chunks_of (length items.now) }
+    ensures long { IfOk result (λ v. length v.items ≡ length items.now) }
+    ensures slots { IfOk result (λ v. map T.value v.items ≡ chunked_slots T.PTYPE (map T.value references.now) (items_of validity.now (map T.value items.now))) }
+{
+    let mut slots = Vec::with_capacity(alloc, items.len())?;
+    for i in 0..items.len() {
+        let reference = references[i / FL_CHUNK_SIZE];
+        slots.push(difference(item_at(items, validity, i), reference))?;
+    }
+    Ok(slots)
+}
+
+/// The array less one reference.
+fn less_reference<T: NativePType + WrappingSub>(
+    alloc: Global,
+    array: &PrimitiveArray,
+    reference: T,
+) -> Result<GlobalFoR, FastLanesError>
+    requires { array.now.ptype ≡ T.PTYPE }
+    ensures { Answers global_parts result (Ok (less_reference array.now (T.value reference))) }
+{
+    let slots = differences(alloc, array.as_slice::<T>(), array.validity(), reference)?;
+    let child = under_validity_of(alloc, array, slots)?;
+    let reference = Scalar::primitive(reference.into_pvalue(), Nullability::NonNullable);
+    Ok(GlobalFoR { child, reference })
+}
+
+/// The array less the references of its chunks.
+fn less_references<T: NativePType + WrappingSub>(
+    alloc: Global,
+    array: &PrimitiveArray,
+    references: Vec<T>,
+) -> Result<EncodedFoR, FastLanesError>
+    requires same { array.now.ptype ≡ T.PTYPE }
+    requires references { length references.items ≡ chunks_of (length array.now.slots) }
+    ensures { Answers for_parts result (Ok (less_references array.now (map T.value references.items))) }
+{
+    let items = array.as_slice::<T>();
+    let slots = chunked_differences(alloc, items, array.validity(), &references)?;
+    let child = under_validity_of(alloc, array, slots)?;
+    Ok(EncodedFoR::Chunked(child, non_nullable(references)))
+}
+
+fn encode_typed<T: NativePType + WrappingSub>(
+    alloc: Global,
+    array: &PrimitiveArray,
+) -> Result<GlobalFoR, FastLanesError>
+    requires { array.now.ptype ≡ T.PTYPE }
+    ensures { Answers global_parts result (encode_global array.now) }
+{
+    let items = array.as_slice::<T>();
+    match least_between(items, array.validity(), 0, items.len()) {
+        Some(least) => less_reference(alloc, array, least),
+        None => Err(FastLanesError::NoMinimum),
+    }
+}
+
+/// The column less its least valid item.
+///
+/// # Errors
+/// `NoMinimum` where the column has no valid item.
+pub fn encode(alloc: Global, array: &PrimitiveArray) -> Result<GlobalFoR, FastLanesError>
+    ensures { Answers global_parts result (encode_global array.now) }
+{
+    match_each_integer_ptype!(array.ptype(), encode_typed(alloc, array))
+}
+
+/// Whether every item is null.
+fn are_nulls(array: &PrimitiveArray) -> bool
+    ensures { result ≡ list_all is_none (items_of_primitive array.now) }
+{
+    let (validity, len) = (array.validity(), array.len());
+    for i in 0..len {
+        if validity.is_valid(i, len) {
+            return false;
+        }
+    }
+    true
+}
+
+/// The FoR of this many nulls: a constant null, and the reference 0.
+fn nulls_typed<T: NativePType>(len: usize) -> EncodedFoR
+    ensures { for_parts result ≡ Nulls (null_constant T.PTYPE len) (reference_scalar T.PTYPE (pos 0)) }
+{
+    let child = ConstantArray::new(Scalar::NullInteger(T::PTYPE), len).unwrap();
+    let reference = Scalar::primitive(T::zero().into_pvalue(), Nullability::NonNullable);
+    EncodedFoR::Nulls(child, reference)
+}
+
+fn encode_chunks<T: NativePType + WrappingSub>(
+    alloc: Global,
+    array: &PrimitiveArray,
+) -> Result<EncodedFoR, FastLanesError>
+    requires { array.now.ptype ≡ T.PTYPE }
+    ensures { Answers for_parts result (Ok (less_chunk_leasts array.now)) }
+{
+    let references = chunk_references(alloc, array.as_slice::<T>(), array.validity())?;
+    match common_reference(&references) {
+        Some(reference) => Ok(EncodedFoR::Global(less_reference(alloc, array, reference)?)),
+        None => less_references(alloc, array, references),
+    }
+}
+
+fn encode_chunked_typed<T: NativePType + WrappingSub>(
+    alloc: Global,
+    array: &PrimitiveArray,
+) -> Result<EncodedFoR, FastLanesError>
+    requires { array.now.ptype ≡ T.PTYPE }
+    ensures { Answers for_parts result (Ok (encode_chunked array.now)) }
+{
+    let len = array.len();
+    if len > 0 && are_nulls(array) {
+        Ok(nulls_typed::<T>(len))
+    } else {
+        encode_chunks::<T>(alloc, array)
+    }
+}
+
+/// The column less the least valid item of each chunk of 1024. A chunk of nulls repeats the
+/// reference before it, and the leading ones take that of the first chunk that has an item.
+///
+/// Where all chunks have one reference, as in a column of one chunk, it is global; it is 0 in an
+/// empty column. A column that has items, all of them null, becomes a constant null with the
+/// reference 0.
+pub fn encode_chunked(alloc: Global, array: &PrimitiveArray) -> Result<EncodedFoR, FastLanesError>
+    ensures { Answers for_parts result (Ok (encode_chunked array.now)) }
+{
+    match_each_integer_ptype!(array.ptype(), encode_chunked_typed(alloc, array))
+}
+
+/// The slots plus a reference.
+fn sums<T: NativePType + WrappingAdd>(
+    alloc: Global,
+    slots: &[T],
+    reference: T,
+) -> Result<Vec<T>, AllocError>
+    ensures { IfOk result (λ v. map T.value v.items ≡ map (λ z. wrap T.PTYPE (z +ℤ T.value reference)) (map T.value slots.now)) }
+{
+    let mut sums = Vec::with_capacity(alloc, slots.len())?;
+    for slot in slots {
+        sums.push(sum(*slot, reference))?;
+    }
+    Ok(sums)
+}
+
+/// The slots, each plus the reference of its chunk.
+fn chunked_sums<T: NativePType + WrappingAdd>(
+    alloc: Global,
+    slots: &[T],
+    references: &[T],
+    offset: usize,
+) -> Result<Vec<T>, AllocError>
+    requires few { offset + length slots.now < 2 ^ 64 }
+    requires references { chunks_of (offset + length slots.now) ≤ length references.now }
+    ensures long { IfOk result (λ v. length v.items ≡ length slots.now) }
+    ensures sums { IfOk result (λ v. map T.value v.items ≡ chunked_sums T.PTYPE (map T.value references.now) offset (map T.value slots.now)) }
+{
+    let mut sums = Vec::with_capacity(alloc, slots.len())?;
+    for i in 0..slots.len() {
+        sums.push(sum(slots[i], references[(offset + i) / FL_CHUNK_SIZE]))?;
+    }
+    Ok(sums)
+}
+
+fn decode_typed<T: NativePType + WrappingAdd>(
+    alloc: Global,
+    child: &PrimitiveArray,
+    reference: PValue,
+) -> Result<PrimitiveArray, FastLanesError>
+    requires same { child.now.ptype ≡ T.PTYPE }
+    requires reference { ptype_of_value reference ≡ child.now.ptype }
+    ensures { Answers column_of_primitive result (Ok (global_for (integer_of reference) (column_of_primitive child.now))) }
+{
+    let reference = T::from_pvalue(reference).unwrap();
+    let slots = sums(alloc, child.as_slice::<T>(), reference)?;
+    under_validity_of(alloc, child, slots)
+}
+
+/// The column of a global FoR: each item of the child plus the reference, modulo 2 to the type's
+/// bits. A null stays a null.
+///
+/// The reference has the child's type.
+pub fn decode(
+    alloc: Global,
+    child: &PrimitiveArray,
+    reference: PValue,
+) -> Result<PrimitiveArray, FastLanesError>
+    requires { ptype_of_value reference ≡ child.now.ptype }
+    ensures { Answers column_of_primitive result (Ok (global_for (integer_of reference) (column_of_primitive child.now))) }
+{
+    match_each_integer_ptype!(child.ptype(), decode_typed(alloc, child, reference))
+}
+
+fn decode_chunked_typed<T: NativePType + WrappingAdd>(
+    alloc: Global,
+    child: &PrimitiveArray,
+    references: &PrimitiveArray,
+    offset: usize,
+) -> Result<PrimitiveArray, FastLanesError>
+    requires same { child.now.ptype ≡ T.PTYPE }
+    requires references { references.now.ptype ≡ child.now.ptype }
+    requires few { offset + length child.now.slots < 2 ^ 64 }
+    requires enough { chunks_of (offset + length child.now.slots) ≤ length references.now.slots }
+    ensures { Answers column_of_primitive result (Ok (chunked_for references.now.slots offset (column_of_primitive child.now))) }
+{
+    let _validity = child.validity();
+    let references = references.as_slice::<T>();
+    let slots = child.as_slice::<T>();
+    let sums = chunked_sums(alloc, slots, references, offset)?;
+    under_validity_of(alloc, child, sums)
+}
+
+/// The column of a chunked FoR: item `i` of the child plus the reference of chunk
+/// `(offset + i) / 1024`, modulo 2 to the type's bits. A null stays a null.
+///
+/// The references have the child's type, and there is one for each chunk. `offset` is the position
+/// of the first item in its chunk.
+pub fn decode_chunked(
+    alloc: Global,
+    child: &PrimitiveArray,
+    references: &PrimitiveArray,
+    offset: usize,
+) -> Result<PrimitiveArray, FastLanesError>
+    requires same { references.now.ptype ≡ child.now.ptype }
+    requires few { offset + length child.now.slots < 2 ^ 64 }
+    requires enough { chunks_of (offset + length child.now.slots) ≤ length references.now.slots }
+    ensures { Answers column_of_primitive result (Ok (chunked_for references.now.slots offset (column_of_primitive child.now))) }
+{
+    match_each_integer_ptype!(
+        child.ptype(),
+        decode_chunked_typed(alloc, child, references, offset)
+    )
+}

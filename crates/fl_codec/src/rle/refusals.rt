@@ -1,0 +1,170 @@
+//! Whether run values, run indices and run offsets make a column.
+
+ghost use Rattle.std.specs.Prelude.{◌≡◌, ◌*◌, ◌+◌, ◌<◌, ◌≤◌, IsTrue, length, map, option_map};
+ghost use Rattle.std.specs.List.{list_all};
+ghost use Rattle.fl_types.specs.Integers.{is_unsigned};
+ghost use Rattle.fl_types.specs.Types.{is_index_type};
+ghost use Rattle.fl_column.specs.Columns.{column_of_primitive, numbers_of};
+ghost use Rattle.fl_codec.specs.Chunks.{chunk};
+ghost use Rattle.fl_codec.specs.Parts.{items_of_primitive};
+ghost use Rattle.fl_codec.specs.RunColumns.{are_run_indices, are_run_offsets, contents_refusal, is_chunk_of_runs, is_run_index, run_count, runs_refusal};
+
+use crate::rle::{end_of_chunk, number_at, start_of_chunk};
+use fastlanes::FL_CHUNK_SIZE;
+use fl_column::{PrimitiveArray, item_at};
+use fl_types::{FastLanesError, NativePType, Nullability, PType, match_each_integer_ptype};
+
+/// Whether an index is null, or below the number of run values.
+fn is_named<I: NativePType>(index: Option<I>, count: usize) -> bool
+    ensures { result ≡ is_run_index count (option_map I.value index) }
+{
+    match index {
+        Some(index) => index.as_i128().unsigned_abs() < count as u128,
+        None => true,
+    }
+}
+
+fn are_named_typed<I: NativePType>(indices: &PrimitiveArray, k: usize, count: usize) -> bool
+    requires same { indices.now.ptype ≡ I.PTYPE }
+    requires chunk { 1024 * (k + 1) ≤ length indices.now.slots }
+    ensures { result ≡ list_all (is_run_index count) (chunk k (items_of_primitive indices.now)) }
+{
+    let (items, validity) = (indices.as_slice::<I>(), indices.validity());
+    for q in 0..FL_CHUNK_SIZE {
+        if !is_named(item_at(items, validity, FL_CHUNK_SIZE * k + q), count) {
+            return false;
+        }
+    }
+    true
+}
+
+/// Whether each index of chunk `k` is null, or below the number of run values.
+fn are_named(indices: &PrimitiveArray, k: usize, count: usize) -> bool
+    requires { 1024 * (k + 1) ≤ length indices.now.slots }
+    ensures { result ≡ list_all (is_run_index count) (chunk k (items_of_primitive indices.now)) }
+{
+    match_each_integer_ptype!(indices.ptype(), are_named_typed(indices, k, count))
+}
+
+/// Whether chunk `k` does not start before the first one, and has from 1 to 1024 run values.
+fn is_chunk(offsets: &PrimitiveArray, count: usize, k: usize) -> bool
+    requires range { k < length offsets.now.slots }
+    requires unsigned { IsTrue (is_unsigned offsets.now.ptype) }
+    ensures { result ≡ is_chunk_of_runs (numbers_of (column_of_primitive offsets.now)) count k }
+{
+    let start = start_of_chunk(offsets, k);
+    let end = end_of_chunk(offsets, count, k);
+    number_at(offsets, 0) <= number_at(offsets, k) && start < end && end - start <= FL_CHUNK_SIZE
+}
+
+/// Whether each chunk does, and without a chunk there is no run value.
+fn are_run_offsets(offsets: &PrimitiveArray, count: usize) -> bool
+    requires { IsTrue (is_unsigned offsets.now.ptype) }
+    ensures { result ≡ are_run_offsets (numbers_of (column_of_primitive offsets.now)) count }
+{
+    let _validity = offsets.validity();
+    let chunks = offsets.len();
+    for k in 0..chunks {
+        if !is_chunk(offsets, count, k) {
+            return false;
+        }
+    }
+    chunks > 0 || count == 0
+}
+
+/// How many run values chunk `k` has.
+fn count_in_chunk(offsets: &PrimitiveArray, count: usize, k: usize) -> usize
+    requires range { k < length offsets.now.slots }
+    requires unsigned { IsTrue (is_unsigned offsets.now.ptype) }
+    ensures { result ≡ run_count (numbers_of (column_of_primitive offsets.now)) count k }
+{
+    end_of_chunk(offsets, count, k).saturating_sub(start_of_chunk(offsets, k))
+}
+
+/// Whether each index of each chunk is null, or below the number of the chunk's run values.
+fn are_run_indices(indices: &PrimitiveArray, offsets: &PrimitiveArray, count: usize) -> bool
+    requires unsigned { IsTrue (is_unsigned offsets.now.ptype) }
+    requires whole { length indices.now.slots ≡ 1024 * length offsets.now.slots }
+    ensures { result ≡ are_run_indices (items_of_primitive indices.now) (numbers_of (column_of_primitive offsets.now)) count }
+{
+    let _validity = offsets.validity();
+    for k in 0..offsets.len() {
+        if !are_named(indices, k, count_in_chunk(offsets, count, k)) {
+            return false;
+        }
+    }
+    true
+}
+
+/// Why run offsets or run indices name no run values, if they do not.
+fn contents_refusal(
+    values: &PrimitiveArray,
+    indices: &PrimitiveArray,
+    offsets: &PrimitiveArray,
+) -> Option<FastLanesError>
+    requires unsigned { IsTrue (is_unsigned offsets.now.ptype) }
+    requires whole { length indices.now.slots ≡ 1024 * length offsets.now.slots }
+    ensures { result ≡ contents_refusal (record { values = values.now; indices = indices.now; offsets = offsets.now }) }
+{
+    let count = values.len();
+    if !are_run_offsets(offsets, count) {
+        return Some(FastLanesError::RunOffsets);
+    }
+    if !are_run_indices(indices, offsets, count) {
+        return Some(FastLanesError::RunIndex);
+    }
+    None
+}
+
+/// Whether the array is of an unsigned type and cannot have nulls.
+fn is_index_array(array: &PrimitiveArray) -> bool
+    ensures { result ≡ is_index_type (column_of_primitive array.now).dtype }
+{
+    match (array.ptype(), array.nullability()) {
+        (PType::U8 | PType::U16 | PType::U32 | PType::U64, Nullability::NonNullable) => true,
+        _ => false,
+    }
+}
+
+/// Why these parts make no column of `len` items from `offset` on, if they make none.
+///
+/// It is the first of these: `OffsetTooLarge` at 1024 or more; `ChildNullable` where run values may
+/// be null; `RunIndexType` where indices are neither `u8` nor `u16`; `BlockOffsetsType` where run
+/// offsets are not unsigned or may be null; `ChildLength` where the indices are no whole chunks of
+/// 1024; `RangeBeyondChild` where they are fewer than the items need; `BlockOffsetsCount` where
+/// there is not one run offset for each chunk; `RunOffsets` where an offset is below the first one,
+/// or a chunk has no run value or more than 1024, or there are run values without a chunk;
+/// `RunIndex` where an index that is not null is not below its chunk's number of run values.
+pub fn runs_refusal(
+    values: &PrimitiveArray,
+    indices: &PrimitiveArray,
+    offsets: &PrimitiveArray,
+    offset: usize,
+    len: usize,
+) -> Option<FastLanesError>
+    ensures { result ≡ runs_refusal (record { values = values.now; indices = indices.now; offsets = offsets.now }) offset len }
+{
+    let (total, chunks) = (indices.len(), offsets.len());
+    if offset >= FL_CHUNK_SIZE {
+        return Some(FastLanesError::OffsetTooLarge);
+    }
+    if values.nullability() == Nullability::Nullable {
+        return Some(FastLanesError::ChildNullable);
+    }
+    if !matches!(indices.ptype(), PType::U8 | PType::U16) {
+        return Some(FastLanesError::RunIndexType);
+    }
+    if !is_index_array(offsets) {
+        return Some(FastLanesError::BlockOffsetsType);
+    }
+    if total % FL_CHUNK_SIZE != 0 {
+        return Some(FastLanesError::ChildLength);
+    }
+    if total < offset || total - offset < len {
+        return Some(FastLanesError::RangeBeyondChild);
+    }
+    if chunks != total / FL_CHUNK_SIZE {
+        return Some(FastLanesError::BlockOffsetsCount);
+    }
+    contents_refusal(values, indices, offsets)
+}

@@ -1,0 +1,12 @@
+pub mod CastLaws
+pub mod ChunkLaws
+pub mod ColumnAlgebra
+pub mod ConstantLaws
+pub mod FullLaws
+pub mod GatherLaws
+pub mod ItemLaws
+pub mod ListLaws
+pub mod NumberLaws
+pub mod PatternLaws
+pub mod QuestionLaws
+pub mod SelectionLaws

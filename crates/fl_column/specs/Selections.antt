@@ -1,0 +1,37 @@
+-- Items at positions.
+use Rattle.std.specs.Prelude.{ℕ, Bool, false, List, Option, None, map, slice_index_or, nat_lt, option_and_then, option_map, unsigned_abs, ℤ, Result, Ok, Err, if◌then◌else◌}
+use Rattle.std.specs.List.{list_all}
+use Rattle.fl_column.specs.Columns.{option_all}
+use Rattle.fl_types.specs.Bits.{true_count}
+use Rattle.fl_types.specs.declared.validity.Validity.{Validity}
+use Rattle.fl_types.specs.declared.validity.Validity.TheVariants as valid
+use Rattle.fl_column.specs.Operations.{is_in_range}
+use Rattle.fl_types.specs.declared.error.FastLanesError.{FastLanesError}
+use Rattle.fl_types.specs.declared.error.FastLanesError.TheVariants.{IndexOutOfBounds}
+
+-- the item at a position, null where there is none
+abbrev pub item_at_position : {A : Type 0} → List (Option A) → Option ℕ → Option A
+item_at_position items position = option_and_then (λ i. slice_index_or items i None) position
+
+-- the items at these positions
+abbrev pub items_at : {A : Type 0} → List (Option A) → List (Option ℕ) → List (Option A)
+items_at items positions = map (item_at_position items) positions
+
+-- the position is below the length, if there is one
+abbrev pub is_below_length : ℕ → Option ℕ → Bool
+is_below_length len position = option_all (λ i. nat_lt i len) position
+
+-- every position is
+abbrev pub are_below_length : ℕ → List (Option ℕ) → Bool
+are_below_length len positions = list_all (is_below_length len) positions
+
+-- the positions that indices name, or why there are none
+abbrev pub positions_in : ℕ → List (Option ℤ) → Result (List (Option ℕ)) FastLanesError
+positions_in len indices = if list_all (is_in_range len) indices then Ok (map (option_map unsigned_abs) indices) else Err IndexOutOfBounds
+
+-- one of this many items is null
+abbrev pub any_null : Validity → ℕ → Bool
+any_null valid.NonNullable len = false
+any_null valid.AllValid len = false
+any_null valid.AllInvalid len = nat_lt 0 len
+any_null (valid.Array bits) len = nat_lt (true_count bits) len

@@ -1,0 +1,145 @@
+//! Plain arrays in another integer type.
+
+ghost use Rattle.std.specs.Prelude.{◌≡◌, ◌<◌, ◌||◌, ◌&&◌, not, IsTrue, is_none, is_some, length, None, Some, option_map, if◌then◌else◌};
+ghost use Rattle.std.specs.List.{list_all, list_any};
+ghost use Rattle.fl_types.specs.Buffers.{integers_of, ptype_of};
+ghost use Rattle.fl_types.specs.Integers.{fits};
+ghost use Rattle.fl_column.specs.Columns.{column_of_primitive, option_all};
+ghost use Rattle.fl_types.specs.Validities.{covers, items_of};
+ghost use Rattle.fl_column.specs.Operations.{cast_column, cast_items};
+ghost use Rattle.fl_column.specs.Selections.{any_null};
+ghost use Rattle.fl_types.specs.Types.{can_be_null};
+ghost use Rattle.fl_types.specs.Refusals.{Answers};
+
+use crate::builder::PrimitiveBuilder;
+use crate::primitive::PrimitiveArray;
+use crate::selection::item_at;
+use fl_types::{
+    DType, FastLanesError, NativePType, Nullability, PType, PrimitiveBuffer, Validity,
+    match_each_integer_ptype,
+};
+use std::alloc::Global;
+
+/// The value of this type, or `None` where the type doesn't have it.
+fn cast_value<T: NativePType>(value: i128) -> Option<T>
+    ensures { option_map T.value result ≡ (if fits T.PTYPE value then Some value else None) }
+{
+    T::from_i128(value)
+}
+
+/// The item in another type, or `None` where the type doesn't have it.
+fn cast_item<S: NativePType, T: NativePType>(item: Option<S>) -> Option<Option<T>>
+    ensures { option_map (option_map T.value) result ≡ (if option_all (fits T.PTYPE) (option_map S.value item) then Some (option_map S.value item) else None) }
+{
+    match item {
+        Some(value) => match cast_value(value.as_i128()) {
+            Some(cast) => Some(Some(cast)),
+            None => None,
+        },
+        None => Some(None),
+    }
+}
+
+fn cast_typed<S: NativePType, T: NativePType>(
+    slots: &PrimitiveBuffer,
+    alloc: Global,
+    validity: &Validity,
+    nullability: Nullability,
+) -> Result<PrimitiveArray, FastLanesError>
+    requires same { ptype_of slots.now ≡ S.PTYPE }
+    requires covers { IsTrue (covers validity.now (length (integers_of slots.now))) }
+    requires nulls { IsTrue (can_be_null nullability || list_all is_some (items_of validity.now (integers_of slots.now))) }
+    ensures { Answers column_of_primitive result (cast_items T.PTYPE nullability (items_of validity.now (integers_of slots.now))) }
+{
+    let items = S::as_slice(slots);
+    let mut cast = PrimitiveBuilder::with_capacity(alloc, items.len())?;
+    for i in 0..items.len() {
+        let Some(item) = cast_item::<S, T>(item_at(items, validity, i)) else {
+            return Err(FastLanesError::CastOutOfRange);
+        };
+        cast.push(item)?;
+    }
+    Ok(cast.finish(nullability))
+}
+
+fn cast_from<S: NativePType>(
+    slots: &PrimitiveBuffer,
+    alloc: Global,
+    validity: &Validity,
+    ptype: PType,
+    nullability: Nullability,
+) -> Result<PrimitiveArray, FastLanesError>
+    requires same { ptype_of slots.now ≡ S.PTYPE }
+    requires covers { IsTrue (covers validity.now (length (integers_of slots.now))) }
+    requires nulls { IsTrue (can_be_null nullability || list_all is_some (items_of validity.now (integers_of slots.now))) }
+    ensures { Answers column_of_primitive result (cast_items ptype nullability (items_of validity.now (integers_of slots.now))) }
+{
+    match_each_integer_ptype!(ptype, cast_typed::<S>(slots, alloc, validity, nullability))
+}
+
+/// Whether any of this many items is null.
+fn has_null(validity: &Validity, len: usize) -> bool
+    requires { IsTrue (covers validity.now len) }
+    ensures { result ≡ any_null validity.now len }
+{
+    match validity {
+        Validity::NonNullable => false,
+        Validity::AllValid => false,
+        Validity::AllInvalid => len > 0,
+        Validity::Array(bits) => bits.count_true() < len,
+    }
+}
+
+impl PrimitiveArray {
+    /// Whether any item is null.
+    pub fn has_null(&self) -> bool
+        ensures { result ≡ list_any is_none (column_of_primitive self.now).items }
+    {
+        has_null(self.validity(), self.len())
+    }
+
+    /// Whether an item is null where none may be.
+    fn has_null_against(&self, nullability: Nullability) -> bool
+        ensures { result ≡ (not (can_be_null nullability) && list_any is_none (column_of_primitive self.now).items) }
+    {
+        match nullability {
+            Nullability::NonNullable => self.has_null(),
+            Nullability::Nullable => false,
+        }
+    }
+
+    /// The same integers in another type.
+    ///
+    /// # Errors
+    /// `NotInteger` where the target is no integer type, then `CastNull` where an item is null and
+    /// the target isn't nullable, then `CastOutOfRange` where the target doesn't have an item.
+    #[tactic(auto, using(crate::proofs::CastLaws::may_cast))]
+    pub fn cast(&self, alloc: Global, target: DType) -> Result<PrimitiveArray, FastLanesError>
+        ensures { Answers column_of_primitive result (cast_column target (column_of_primitive self.now)) }
+    {
+        let DType::Primitive(ptype, nullability) = target else {
+            return Err(FastLanesError::NotInteger);
+        };
+        if self.has_null_against(nullability) {
+            return Err(FastLanesError::CastNull);
+        }
+        cast_slots(alloc, self, ptype, nullability)
+    }
+}
+
+/// The same integers in another type, where nulls may stand or there are none.
+fn cast_slots(
+    alloc: Global,
+    array: &PrimitiveArray,
+    ptype: PType,
+    nullability: Nullability,
+) -> Result<PrimitiveArray, FastLanesError>
+    requires { IsTrue (can_be_null nullability || list_all is_some (column_of_primitive array.now).items) }
+    ensures { Answers column_of_primitive result (cast_items ptype nullability (column_of_primitive array.now).items) }
+{
+    let (slots, validity) = (array.slots(), array.validity());
+    match_each_integer_ptype!(
+        slots.ptype(),
+        cast_from(slots, alloc, validity, ptype, nullability)
+    )
+}

@@ -1,0 +1,98 @@
+//! The bit patterns of integers, as numbers and as the words that the kernels work on.
+
+ghost use Rattle.std.specs.Prelude.{◌≡◌, ◌<◌, ◌≤◌, ◌++◌, ℕ, OnOk, length, map, pos, slice_index_or};
+ghost use Rattle.fastlanes.specs.Layout.{pattern_at};
+ghost use Rattle.fl_types.specs.Integers.{pattern_of, read_as};
+
+use crate::physical::PhysicalPType;
+use fastlanes::{FL_CHUNK_SIZE, FastLanes};
+use fl_types::NativePType;
+use std::alloc::AllocError;
+
+/// An integer type whose bit patterns are numbers of a `u64`.
+pub trait Pattern: NativePType {
+    /// The bit pattern of the value.
+    fn pattern(self) -> u64
+        ensures { result ≡ pattern_of Self.PTYPE (Self.value self) };
+}
+
+#[tactic(auto, using(fl_types::proofs::Patterns::patterns))]
+impl Pattern for u8 {
+    fn pattern(self) -> u64 {
+        self as u64
+    }
+}
+
+#[tactic(auto, using(fl_types::proofs::Patterns::patterns))]
+impl Pattern for u16 {
+    fn pattern(self) -> u64 {
+        self as u64
+    }
+}
+
+#[tactic(auto, using(fl_types::proofs::Patterns::patterns))]
+impl Pattern for u32 {
+    fn pattern(self) -> u64 {
+        self as u64
+    }
+}
+
+#[tactic(auto, using(fl_types::proofs::Patterns::patterns))]
+impl Pattern for u64 {
+    fn pattern(self) -> u64 {
+        self
+    }
+}
+
+#[tactic(auto, using(fl_types::proofs::Patterns::patterns))]
+impl Pattern for i8 {
+    fn pattern(self) -> u64 {
+        self.cast_unsigned() as u64
+    }
+}
+
+#[tactic(auto, using(fl_types::proofs::Patterns::patterns))]
+impl Pattern for i16 {
+    fn pattern(self) -> u64 {
+        self.cast_unsigned() as u64
+    }
+}
+
+#[tactic(auto, using(fl_types::proofs::Patterns::patterns))]
+impl Pattern for i32 {
+    fn pattern(self) -> u64 {
+        self.cast_unsigned() as u64
+    }
+}
+
+#[tactic(auto, using(fl_types::proofs::Patterns::patterns))]
+impl Pattern for i64 {
+    fn pattern(self) -> u64 {
+        self.cast_unsigned()
+    }
+}
+
+/// Writes the patterns of these values, at most a block of them.
+pub fn write_patterns<T: PhysicalPType>(values: &[T], block: &mut [T::Physical; FL_CHUNK_SIZE])
+    requires { length values.now ≤ 1024 }
+    ensures block { (i : ℕ) → i < length values.now → pattern_at T.Physical.pattern block.new i ≡ pattern_of T.PTYPE (slice_index_or (map T.value values.now) i (pos 0)) }
+    ensures whole { length block.new ≡ 1024 }
+{
+    for i in 0..values.len() {
+        block[i] = values[i].to_physical();
+    }
+}
+
+/// Adds the values of these patterns.
+pub fn push_values<T: PhysicalPType>(
+    patterns: &[T::Physical],
+    values: &mut Vec<T>,
+) -> Result<(), AllocError>
+    ensures { OnOk result (map T.value values.new.items ≡ map T.value values.old.items ++ map (λ w. read_as T.PTYPE (T.Physical.pattern w)) patterns.now) }
+{
+    values.reserve(patterns.len())?;
+    for pattern in patterns {
+        values.push_reserved(T::from_physical(*pattern));
+    }
+    Ok(())
+}

@@ -1,5 +1,0 @@
-use Rattle.fl_messages.proofs.RowsSay.{row_says, row_is_said, only_bad}
-use Rattle.fl_messages.proofs.messages.laws.row_is_said.Goals as goal
-
-pub returns : goal.returns
-returns c = record { found = row_says; only = row_is_said; refused = only_bad }

@@ -1,5 +1,0 @@
-use Rattle.fl_messages.proofs.WrittenRows.{is_varint_text, shortest_varint, only_varint}
-use Rattle.fl_messages.proofs.messages.laws.varint_is_shortest.Goals as goal
-
-pub returns : goal.returns
-returns c = record { spelled = is_varint_text; shortest = shortest_varint; only = only_varint }

@@ -1,4 +1,0 @@
-//! The metadata messages of encoded columns in their serialized form.
-#![tactic(auto)]
-
-pub mod messages;

@@ -1,8 +1,0 @@
-use Rattle.std.proofs.Common.{refl}
-use Rattle.fastlanes.specs.Layout.{bits_8}
-use Rattle.fl_types.specs.declared.dtype.PType.TheVariants.{U8}
-use Rattle.fl_packed.proofs.Natives.{unsigned_unpacked}
-use Rattle.fl_packed.proofs.bit_packed.U8BitPacked.unpack_block.Goals as goal
-
-pub returns-clause-items : goal.returns-clause-items
-returns-clause-items c = unsigned_unpacked U8 8 128 c.args.width c.unpack_bytes.new.items c.args.block.now bits_8 refl refl c.requires.width c.unpack_bytes.array_long c.unpack_bytes.ensures.items

@@ -1,5 +1,0 @@
-use Rattle.fl_packed.proofs.Gathered.{global_kept}
-use Rattle.fl_packed.proofs.laws.gathered_patches_are_kept.Goals as goal
-
-pub returns : goal.returns
-returns c width = global_kept c.args.array.now width c.validity-validity.ensures.covers

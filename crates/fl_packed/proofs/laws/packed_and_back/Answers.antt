@@ -1,5 +1,0 @@
-use Rattle.fl_packed.proofs.Restores.{column_restored}
-use Rattle.fl_packed.proofs.laws.packed_and_back.Goals as goal
-
-pub returns : goal.returns
-returns c p patches blocks bytes covered fit packed kept = column_restored p patches blocks bytes covered fit packed kept

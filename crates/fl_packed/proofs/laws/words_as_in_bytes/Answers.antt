@@ -1,5 +1,0 @@
-use Rattle.fl_packed.proofs.SameWords.{words_of_bytes}
-use Rattle.fl_packed.proofs.laws.words_as_in_bytes.Goals as goal
-
-pub returns : goal.returns
-returns c ptype integers words width bytes small made packed m h = words_of_bytes ptype integers words width bytes small made packed m h

@@ -1,6 +1,0 @@
-use Rattle.std.proofs.Common.{◌∙◌, sym}
-use Rattle.fl_plain.proofs.ConstantLaws.{constant_filter}
-use Rattle.fl_plain.proofs.constant.ConstantArray.filter.Goals as goal
-
-pub returns : goal.returns
-returns c = rw (constant_filter c.args.self.now c.args.mask.now (c.requires ∙ (sym c.len-len.ensures.items ∙ c.len-len.ensures.copies)), ← c.count_true.ensures) (rw c.with_len.ensures at c.decode.ensures)

@@ -1,0 +1,3 @@
+//! Run-length encoded arrays.
+
+pub use fl_array::rle::{RLE, RLEArray};
