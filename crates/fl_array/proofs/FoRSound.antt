@@ -23,7 +23,7 @@ use Rattle.fl_codec.proofs.FoRSlices.{scalar_plus, integers_of-slice, item_of_ch
 use Rattle.fl_bitpacking.specs.Refusals.{positions_refusal}
 use Rattle.fl_codec.specs.ChunkSlices.{end_chunk, first_chunk}
 use Rattle.fl_array.proofs.FoRLaws.{for_dtype}
-use Rattle.fl_array.specs.FoRArrays.{ChunkReferences, FoRArrayParts, FoRReferencesParts, GlobalReference, for_refusal, for_tree, reference_count_refusal, reference_refusal, reference_type_refusal, references_of, refusal_of_for, tree_of_for}
+use Rattle.fl_array.specs.FoRArrays.{ChunkReferences, FoRArrayParts, FoRReferencesParts, GlobalReference, for_refusal, for_tree, has_no_constant, reference_count_refusal, reference_refusal, reference_type_refusal, references_of, refusal_of_for, tree_of_for}
 use Rattle.fl_array.specs.Reads.{constant_in, integer_column}
 use Rattle.fl_array.specs.Trees.{Tree, Primitive, Constant, BitPackedGlobal, BitPackedBlocked, FoRGlobal, FoRChunked, Delta, RLE, column}
 use Rattle.fl_array.specs.Trees as tree
@@ -168,6 +168,18 @@ no_constant (FoRGlobal encoded reference) offset h = refl
 no_constant (FoRChunked encoded references o) offset h = refl
 no_constant (Delta bases deltas parts) offset h = refl
 no_constant (RLE values indices offsets window) offset h = refl
+
+-- what is kept of references is no constant array
+pub no_constant_kept : (t : Tree) (offset : ℕ) → has_no_constant (references_of t offset) ≡ true
+no_constant_kept (Primitive p) offset = refl
+no_constant_kept (Constant c) offset = refl
+no_constant_kept (tree.Bool b) offset = refl
+no_constant_kept (BitPackedGlobal parts width) offset = refl
+no_constant_kept (BitPackedBlocked parts boundaries) offset = refl
+no_constant_kept (FoRGlobal encoded reference) offset = refl
+no_constant_kept (FoRChunked encoded references o) offset = refl
+no_constant_kept (Delta bases deltas parts) offset = refl
+no_constant_kept (RLE values indices offsets window) offset = refl
 
 integer_by : (c : Column) (r : FoRReferencesParts) → for_refusal c r ≡ None → is_integer c.dtype ≡ true
 integer_by c (GlobalReference reference) h = (three (is_integer c.dtype) (is_none reference.value) (same_type reference.dtype c.dtype) NotInteger NullReference TypeMismatch h).0

@@ -7,5 +7,13 @@ pub mod FoRSound
 pub mod DeltaLaws
 pub mod AcceptedRLE
 pub mod EncodedRLE
+pub mod BitPackedEncoding
 pub mod RLELaws
 pub mod Refused
+pub mod FoROver
+pub mod RangeLaws
+pub mod InPlace
+pub mod SliceLaws
+pub mod ToBlockedLaws
+pub mod FoREncoding
+pub mod DeltaEncoding

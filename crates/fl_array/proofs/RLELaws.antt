@@ -187,33 +187,44 @@ kept_column a values indices offsets o start end h order range e f g k =
     ∙ same_named _ _ _ _ _ _ (to_window ((a.window.offset + start) % 1024)) e f g
     ∙ ap (λ (xs : List (Option ℤ)). record { dtype = (column (tree_of_rle a)).dtype; items = xs }) (run_slice_items (column a.values) (column a.indices) (column a.offsets) a.window.offset a.window.len start end h order range)
 
--- the index of a run value, as it was read
-pub record PlaceRead (a : RLEArrayParts) (i : ℕ) (index : ScalarParts) (first start number : ℕ) : Type 0 where
+-- where the run values of a chunk start, as it was read
+pub record StartRead (a : RLEArrayParts) (k first start : ℕ) : Type 0 where
   pub low : first ≤ start
-  pub place : start - first + number ≡ chunk_start (numbers_of (column a.offsets)) ((a.window.offset + i) / 1024) + unsigned_abs (unwrap_or index.value (pos 0))
-  pub range : start - first + number < length (column a.values).items
+  pub place : start - first ≡ chunk_start (numbers_of (column a.offsets)) k
 
-pub place_read : (a : RLEArrayParts) (i : ℕ) (index first start : ScalarParts) (n0 n1 n2 : ℕ) → refusal_of_rle a ≡ None → i < a.window.len → index ≡ scalar_in (column a.indices) (a.window.offset + i)
-    → first ≡ scalar_in (column a.offsets) 0 → start ≡ scalar_in (column a.offsets) ((a.window.offset + i) / 1024)
-    → n0 ≡ unsigned_abs (unwrap_or first.value (pos 0)) → n1 ≡ unsigned_abs (unwrap_or start.value (pos 0)) → n2 ≡ unsigned_abs (unwrap_or index.value (pos 0)) → PlaceRead a i index n0 n1 n2
-place_read a i index first start n0 n1 n2 h r e f g is0 is1 is2 =
+pub start_read : (a : RLEArrayParts) (k : ℕ) (first start : ScalarParts) (n0 n1 : ℕ) → refusal_of_rle a ≡ None → k < length (column a.offsets).items → first ≡ scalar_in (column a.offsets) 0 → start ≡ scalar_in (column a.offsets) k
+    → n0 ≡ unsigned_abs (unwrap_or first.value (pos 0)) → n1 ≡ unsigned_abs (unwrap_or start.value (pos 0)) → StartRead a k n0 n1
+start_read a k first start n0 n1 h r f g is0 is1 =
+    let sound = sound_rle a h in
+    let long = sound.long in
+    let x = number_read (column a.offsets) 0 first n0 (omega arith) f is0 in
+    let y = number_read (column a.offsets) k start n1 r g is1 in
+    let above = sound.numbers.low k (omega arith) in
+    record {
+      low = rw (x, y) above;
+      place = rw (x, y) refl;
+    }
+
+-- the run value of an item lies among all of them
+pub value_read : (a : RLEArrayParts) (i : ℕ) (index : ScalarParts) (start number : ℕ) → refusal_of_rle a ≡ None → i < a.window.len → index ≡ scalar_in (column a.indices) (a.window.offset + i)
+    → start ≡ chunk_start (numbers_of (column a.offsets)) ((a.window.offset + i) / 1024) → number ≡ unsigned_abs (unwrap_or index.value (pos 0)) → start + number < length (column a.values).items
+value_read a i index start number h r e f is =
     let sound = sound_rle a h in
     let types = sound.types in
     let range = types.range in
     let whole = sound.whole in
     let long = sound.long in
-    let k = (a.window.offset + i) / 1024 in
-    let fs = numbers_of (column a.offsets) in
-    let x = number_read (column a.offsets) 0 first n0 (omega arith) f is0 in
-    let y = number_read (column a.offsets) k start n1 (omega arith) g is1 in
-    let above = sound.numbers.low k (omega arith) in
     let item : get_or (column a.indices).items (a.window.offset + i) None ≡ index.value = ap (λ (c : ScalarParts). c.value) (sym e) in
-    let within = place_within (length (column a.values).items) (column a.indices).items fs (a.window.offset + i) index.value sound.numbers (omega arith) whole item in
-    record {
-      low = rw (x, y) above;
-      place = rw (x, y, is2) refl;
-      range = rw (x, y, is2) within;
-    }
+    let within = place_within (length (column a.values).items) (column a.indices).items (numbers_of (column a.offsets)) (a.window.offset + i) index.value sound.numbers (omega arith) whole item in
+    rw (f, is) within
+
+-- the positions of a chunk are those of run indices
+pub chunk_within : (a : RLEArrayParts) (k : ℕ) → refusal_of_rle a ≡ None → k < length (column a.offsets).items → 1024 * k + 1024 ≤ length (column a.indices).items
+chunk_within a k h r =
+    let sound = sound_rle a h in
+    let whole = sound.whole in
+    let long = sound.long in
+    omega arith
 
 -- what a slice keeps lies where it should
 pub record KeepsRuns (a : RLEArrayParts) (start end : ℕ) : Type 0 where

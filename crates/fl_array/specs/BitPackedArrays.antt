@@ -1,6 +1,7 @@
 -- Bit-packed arrays by their parts, and when parts make one.
-use Rattle.std.specs.Prelude.{◌+◌, ◌*◌, ℕ, length, Option, Some, None, Result}
+use Rattle.std.specs.Prelude.{◌+◌, ◌*◌, ℕ, Bool, true, false, length, Option, Some, None, Result, Ok, Err}
 use Rattle.fl_types.specs.declared.error.FastLanesError.{FastLanesError}
+use Rattle.fl_types.specs.declared.error.FastLanesError.TheVariants.{NotGlobal}
 use Rattle.fl_column.specs.Columns.{Column, numbers_of}
 use Rattle.fl_bitpacking.specs.Blocks.{Blocks, boundary_blocks, global_blocks}
 use Rattle.fl_bitpacking.specs.Columns.{BitPackedParts, block_count}
@@ -37,6 +38,16 @@ bitpacked_in other = None
 abbrev pub blocks_of_widths : BitWidthsParts → Blocks
 blocks_of_widths (GlobalWidth width) = global_blocks width
 blocks_of_widths (BlockBoundaries boundaries) = boundary_blocks (numbers_of (column boundaries))
+
+-- all blocks have one width
+abbrev pub is_global : BitWidthsParts → Bool
+is_global (GlobalWidth width) = true
+is_global (BlockBoundaries boundaries) = false
+
+-- what is answered where all blocks have one width
+abbrev pub if_global : {A : Type 0} → BitWidthsParts → A → Result A FastLanesError
+if_global (GlobalWidth width) x = Ok x
+if_global (BlockBoundaries boundaries) x = Err NotGlobal
 
 -- ---- constructors
 -- why parts make no array, the first reason that holds

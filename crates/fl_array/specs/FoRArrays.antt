@@ -1,5 +1,5 @@
 -- FoR arrays (frame of reference) by their parts, and when parts make one.
-use Rattle.std.specs.Prelude.{◌+◌, ◌*◌, ◌==◌, ◌&&◌, ℕ, not, max, length, Option, Some, None, Result, is_none, if◌then◌else◌}
+use Rattle.std.specs.Prelude.{◌+◌, ◌*◌, ◌==◌, ◌&&◌, ℕ, Bool, true, not, max, length, Option, Some, None, Result, is_none, if◌then◌else◌}
 use Rattle.fl_types.specs.declared.dtype.DType.{DType}
 use Rattle.fl_types.specs.declared.error.FastLanesError.{FastLanesError}
 use Rattle.fl_types.specs.declared.error.FastLanesError.TheVariants.{NotInteger, NullReference, TypeMismatch, ReferenceCount}
@@ -8,6 +8,7 @@ use Rattle.fl_types.specs.Values.{ScalarParts}
 use Rattle.fl_column.specs.Columns.{Column}
 use Rattle.fl_column.specs.Chunks.{chunk_count}
 use Rattle.fl_bitpacking.specs.Refusals.{accepted, otherwise, positions_refusal}
+use Rattle.fl_array.specs.Reads.{constant_in}
 use Rattle.fl_array.specs.Trees.{Tree, Constant, FoRChunked, FoRGlobal, column, height}
 use Rattle.fl_array.specs.Trees as tree
 
@@ -25,6 +26,16 @@ pub record FoRArrayParts : Type 0 where
 abbrev pub offset_of_references : FoRReferencesParts → ℕ
 offset_of_references (GlobalReference reference) = 0
 offset_of_references (ChunkReferences references offset) = offset
+
+-- the array of the chunks' references, if there is one
+abbrev pub chunk_references_in : FoRReferencesParts → Option Tree
+chunk_references_in (GlobalReference reference) = None
+chunk_references_in (ChunkReferences references offset) = Some references
+
+-- references of chunks are no constant array, which would be one reference
+abbrev pub has_no_constant : FoRReferencesParts → Bool
+has_no_constant (GlobalReference reference) = true
+has_no_constant (ChunkReferences references offset) = is_none (constant_in references)
 
 -- the tree of these parts
 abbrev pub for_tree : Tree → FoRReferencesParts → Tree

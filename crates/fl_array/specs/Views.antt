@@ -1,5 +1,5 @@
 -- What accessors show.
-use Rattle.std.specs.Prelude.{◌<◌, ◌*◌, ℕ}
+use Rattle.std.specs.Prelude.{◌<◌, ◌*◌, ℕ, Bool, true, false}
 use Rattle.fl_types.specs.Values.{scalar_parts}
 use Rattle.fl_array.specs.declared.bitpacking.BitWidthsView.{BitWidthsView}
 use Rattle.fl_array.specs.declared.bitpacking.BitWidthsView.TheVariants.{Global, Blocked}
@@ -30,6 +30,11 @@ HasLowerBoundaries (Blocked boundaries) n = height boundaries.now < n
 abbrev pub references_of_view : FoRReferences → ℕ → FoRReferencesParts
 references_of_view (frames.Global reference) offset = GlobalReference (scalar_parts reference.now)
 references_of_view (frames.Blocked references) offset = ChunkReferences references.now offset
+
+-- all items have one reference
+abbrev pub is_global : FoRReferences → Bool
+is_global (frames.Global reference) = true
+is_global (frames.Blocked references) = false
 
 -- the references of the chunks, where there are some, have a lower height
 abbrev pub HasLowerReferences : FoRReferences → ℕ → Type 0

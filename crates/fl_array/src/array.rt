@@ -1,6 +1,8 @@
 //! Arrays of one of a closed set of kinds.
 
-ghost use Rattle.std.specs.Prelude.{◌≡◌, ◌≤◌, ◌<◌, length, Ok, IfErr, IfOk, IfSome, IsTrue};
+mod ranges;
+
+ghost use Rattle.std.specs.Prelude.{false, ◌≡◌, ◌≤◌, ◌<◌, length, Ok, IfErr, IfOk, IfSome, IsTrue};
 ghost use Rattle.std.specs.Option.{option_copied};
 ghost use Rattle.fl_types.specs.declared.error.FastLanesError.TheVariants.{OutOfMemory};
 ghost use Rattle.fl_types.specs.Refusals.{Answers};
@@ -16,12 +18,16 @@ ghost use Rattle.fl_array.specs.FoRArrays.{for_in, tree_of_for};
 ghost use Rattle.fl_array.specs.RLEArrays.{rle_in, tree_of_rle};
 ghost use Rattle.fl_array.specs.Kinds.{has_delta, kind, plain_kind, slice_kind};
 ghost use Rattle.fl_array.specs.Reads.{IsValidityOf, bools_in, constant_in, integer_column, primitive_in};
+ghost use Rattle.fl_array.specs.Slices.{slice_tree};
+ghost use Rattle.fl_array.specs.ToBlocked.{has_global_bitpacked, to_blocked_tree};
+ghost use Rattle.fl_array.specs.WellFormed.{is_well_formed};
 
 use crate::bitpacking::{BitPackedArray, BitWidthsView};
 use crate::delta::DeltaArray;
 use crate::for_::{FoRArray, FoRReferences};
 use crate::rle::RLEArray;
 use crate::validities::{bool_validity, constant_validity, primitive_validity};
+use crate::well_formed::{prove_bools, prove_constant, prove_primitive};
 use fl_column::{
     BoolArray, ConstantArray, DType, FastLanesError, PrimitiveArray, Scalar, Validity,
 };
@@ -156,6 +162,45 @@ impl IntoArray for BoolArray {
 }
 
 impl ArrayRef {
+    /// The array, and each array in it, is one that its constructor makes of its parts.
+    pub fn prove_well_formed(&self)
+        ensures { IsTrue (is_well_formed self.now) }
+    {
+        match &self.node {
+            Node::Primitive(array) => prove_primitive(array),
+            Node::Constant(array) => prove_constant(array),
+            Node::Bool(array) => prove_bools(array),
+            Node::BitPacked(array) => match array.bit_widths() {
+                BitWidthsView::Global(width) => array.prove_at_width(width),
+                BitWidthsView::Blocked(boundaries) => {
+                    boundaries.prove_well_formed();
+                    array.prove_between(boundaries)
+                }
+            },
+            Node::FoR(array) => {
+                array.encoded().prove_well_formed();
+                match array.references() {
+                    FoRReferences::Global(reference) => array.prove_over_reference(reference),
+                    FoRReferences::Blocked(references) => {
+                        references.prove_well_formed();
+                        array.prove_over_references(references)
+                    }
+                }
+            }
+            Node::Delta(array) => {
+                array.bases().prove_well_formed();
+                array.deltas().prove_well_formed();
+                array.prove_over_blocks()
+            }
+            Node::RLE(array) => {
+                array.values().prove_well_formed();
+                array.indices().prove_well_formed();
+                array.offsets().prove_well_formed();
+                array.prove_over_runs()
+            }
+        }
+    }
+
     /// How many items there are.
     pub fn len(&self) -> usize
         ensures { result ≡ length (column self.now).items }
@@ -410,6 +455,65 @@ impl ArrayRef {
         }
     }
 
+    /// The same array with a width for each block in place of one for all, in each bit-packed array in it:
+    /// children, references, bases, deltas, run values, run indices, run offsets and boundaries among them.
+    /// Nothing is packed again, and the packed bytes are shared.
+    ///
+    /// # Errors
+    /// None but `OutOfMemory`.
+    #[tactic(auto, using(crate::proofs::ToBlockedLaws::to_blocked_keeps_column, crate::proofs::ToBlockedLaws::no_global_bitpacked))]
+    pub fn to_blocked(&self, alloc: Global) -> Result<ArrayRef, FastLanesError>
+        ensures tree { Answers (λ a. a) result (Ok (to_blocked_tree self.now)) }
+        ensures column { Answers column result (Ok (column self.now)) }
+        ensures kind { IfOk result (λ a. has_global_bitpacked (kind a) ≡ false) }
+    {
+        match &self.node {
+            Node::Primitive(array) => Ok(array.try_clone(alloc)?.into_array()),
+            Node::Constant(array) => Ok(array.try_clone().into_array()),
+            Node::Bool(array) => Ok(array.try_clone(alloc)?.into_array()),
+            Node::BitPacked(array) => match array.bit_widths() {
+                BitWidthsView::Global(width) => {
+                    Ok(array.between_boundaries(alloc, width)?.into_array())
+                }
+                BitWidthsView::Blocked(boundaries) => {
+                    let blocked = boundaries.to_blocked(alloc)?;
+                    Ok(array.over_blocked(alloc, boundaries, blocked)?.into_array())
+                }
+            },
+            Node::FoR(array) => {
+                let encoded = array.encoded().to_blocked(alloc)?;
+                match array.references() {
+                    FoRReferences::Global(reference) => {
+                        Ok(array.over_blocked(alloc, encoded, *reference)?.into_array())
+                    }
+                    FoRReferences::Blocked(references) => {
+                        let blocked = references.to_blocked(alloc)?;
+                        Ok(
+                            array
+                                .over_blocked_chunked(alloc, references, encoded, blocked)?
+                                .into_array(),
+                        )
+                    }
+                }
+            }
+            Node::Delta(array) => {
+                let bases = array.bases().to_blocked(alloc)?;
+                let deltas = array.deltas().to_blocked(alloc)?;
+                Ok(array.over_blocked(alloc, bases, deltas)?.into_array())
+            }
+            Node::RLE(array) => {
+                let values = array.values().to_blocked(alloc)?;
+                let indices = array.indices().to_blocked(alloc)?;
+                let offsets = array.offsets().to_blocked(alloc)?;
+                Ok(
+                    array
+                        .over_blocked(alloc, values, indices, offsets)?
+                        .into_array(),
+                )
+            }
+        }
+    }
+
     /// The item at an index, with the column's type. Only deltas have to be decoded for it, so it takes no
     /// memory where the array neither is nor holds a delta array.
     #[cycle(reading)]
@@ -435,11 +539,13 @@ impl ArrayRef {
         }
     }
 
-    /// The items of a range, in an array of the same kind.
+    /// The items of a range, in an array of the same kinds: the encodings are cut and not decoded.
     #[cycle(reading)]
+    #[tactic(auto, using(crate::proofs::SliceLaws::kind_of_slice))]
     pub fn slice(&self, alloc: Global, range: Range<usize>) -> Result<ArrayRef, FastLanesError>
         requires order { range.start ≤ range.end }
         requires range { range.end ≤ length (column self.now).items }
+        ensures tree { Answers (λ a. a) result (Ok (slice_tree range.start range.end self.now)) }
         ensures column { Answers column result (Ok (slice_of range.start range.end (column self.now))) }
         ensures kind { IfOk result (λ a. kind a ≡ slice_kind (kind self.now)) }
     {

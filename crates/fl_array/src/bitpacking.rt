@@ -1,23 +1,38 @@
 //! Bit-packed arrays, at one width or at a width for each block.
 
-ghost use Rattle.std.specs.Prelude.{◌≡◌, ◌+◌, ◌-◌, ◌*◌, ◌/◌, ◌^◌, ◌<◌, ◌≤◌, IfErr, IfOk, IsTrue, None, Ok, length};
-ghost use Rattle.std.specs.Option.{option_copied};
+mod bit_packed_array_ext;
+pub mod bitpack_compress;
+pub mod bitpack_decompress;
+mod compute;
+mod counted;
+mod data;
+
+ghost use Rattle.std.specs.Prelude.{◌≡◌, ◌+◌, ◌-◌, ◌*◌, ◌/◌, ◌^◌, ◌<◌, ◌≤◌, IfErr, IfOk, IsTrue, None, Ok, length, IfSome};
 ghost use Rattle.fl_types.specs.declared.error.FastLanesError.TheVariants.{OutOfMemory};
 ghost use Rattle.fl_types.specs.Refusals.{Answers};
 ghost use Rattle.fl_types.specs.Values.{scalar_parts};
 ghost use Rattle.fl_column.specs.Columns.{column_of_primitive};
 ghost use Rattle.fl_column.specs.Operations.{slice_of};
 ghost use Rattle.fl_column.specs.Questions.{scalar_in};
+ghost use Rattle.fl_bitpacking.specs.Encoders.{AnswersUnless};
 ghost use Rattle.fl_bitpacking.specs.Parts.{parts_of};
 ghost use Rattle.fl_bitpacking.specs.Refusals.{accepted, blocked_refusal, global_refusal};
+ghost use Rattle.fl_bitpacking.specs.SingleItems.{stored_scalar};
 ghost use Rattle.fl_bitpacking.specs.SlicedParts.{end_block, first_block, sliced_boundaries};
 ghost use Rattle.fl_array.specs.Trees.{column, height};
-ghost use Rattle.fl_array.specs.BitPackedArrays.{BlockBoundaries, GlobalWidth, new_bitpacked, refusal_before_boundaries, refusal_of_bitpacked, size_of_widths, tree_of_bitpacked};
-ghost use Rattle.fl_array.specs.Kinds.{has_delta, kind, slice_kind};
-ghost use Rattle.fl_array.specs.Reads.{IsValidityOf, integer_column};
+ghost use Rattle.fl_array.specs.BitPackedArrays.{BlockBoundaries, GlobalWidth, new_bitpacked, refusal_before_boundaries, refusal_of_bitpacked, size_of_widths, tree_of_bitpacked, blocks_of_widths, is_global};
+ghost use Rattle.fl_array.specs.Kinds.{has_delta, kind};
+ghost use Rattle.fl_array.specs.Reads.{IsValidityOf, integer_column, primitive_in};
+ghost use Rattle.fl_array.specs.Slices.{slice_tree};
+ghost use Rattle.fl_array.specs.EncodedBitPacked.{IsEncodedAt, encode_refusal};
+ghost use Rattle.fl_array.specs.OwnedParts.{owned_parts};
+ghost use Rattle.fl_array.specs.Shown.{stored_widths};
 ghost use Rattle.fl_array.specs.Views.{HasLowerBoundaries, HasSmallerBoundaries, widths_of_view, widths_of_owned};
 
 use crate::array::ArrayRef;
+pub use crate::bitpacking::bit_packed_array_ext::{BitPackedArrayExt, BitPackedSlots};
+use crate::bitpacking::bitpack_compress::bitpack_encode;
+pub use crate::bitpacking::data::{BitPackedData, equal_data};
 use crate::numbers::number_of_scalar;
 use bytes::Bytes;
 use fastlanes::Work;
@@ -26,6 +41,7 @@ use fl_bitpacking::packed_data::PackedData;
 use fl_bitpacking::refusals::{
     block_offsets_refusal, blocked_refusal, global_refusal, positions_refusal,
 };
+pub use fl_bitpacking::unpack_iter::BitUnpackedChunks;
 use fl_column::{DType, FastLanesError, PType, PrimitiveArray, Scalar, Validity, chunk_count};
 use fl_patches::Patches;
 use std::alloc::Global;
@@ -54,6 +70,18 @@ pub enum BitWidthsView<'a> {
     Global(u8),
     /// Block `j` lies between the boundaries `j` and `j + 1`, counted from the first one.
     Blocked(&'a ArrayRef),
+}
+
+impl BitWidthsView<'_> {
+    /// Whether all blocks have one width.
+    pub fn is_global(&self) -> bool
+        ensures { result ≡ is_global (widths_of_view self.now) }
+    {
+        match self {
+            BitWidthsView::Global(_) => true,
+            BitWidthsView::Blocked(_) => false,
+        }
+    }
 }
 
 impl Model for BitPackedArray {
@@ -86,22 +114,71 @@ pub enum BitWidths {
     Blocked(ArrayRef),
 }
 
+impl BitWidths {
+    /// The widths that are shown, owned: a copy of the boundaries, where there are some.
+    ///
+    /// # Errors
+    /// None but `OutOfMemory`.
+    pub fn try_from_view(view: BitWidthsView, alloc: Global) -> Result<BitWidths, FastLanesError>
+        ensures { Answers widths_of_owned result (Ok (widths_of_view view.entry)) }
+    {
+        match view {
+            BitWidthsView::Global(width) => Ok(BitWidths::Global(width)),
+            BitWidthsView::Blocked(boundaries) => {
+                Ok(BitWidths::Blocked(boundaries.try_clone(alloc)?))
+            }
+        }
+    }
+}
+
+/// The parts of a bit-packed array.
+#[derive(Drop)]
+pub struct BitPackedDataParts {
+    /// The position of the first item in the first block, below 1024.
+    pub offset: u16,
+    /// The widths of the blocks.
+    pub bit_widths: BitWidths,
+    /// How many items there are.
+    pub len: usize,
+    /// The bytes of the blocks.
+    pub packed: Bytes,
+    /// The values that stand in place of packed bits.
+    pub patches: Option<Patches>,
+    /// Which items are null.
+    pub validity: Validity,
+}
+
+/// The widths as users own them.
+fn owned_widths(widths: StoredWidths) -> BitWidths
+    ensures { widths_of_owned result ≡ stored_widths widths }
+{
+    match widths {
+        StoredWidths::Global(width) => BitWidths::Global(width),
+        StoredWidths::Blocked(boundaries) => BitWidths::Blocked(Box::into_inner(boundaries)),
+    }
+}
+
 /// The bit-packed encoding: its constructors.
 #[derive(Clone, Copy, Debug)]
 pub struct BitPacked;
 
 impl BitPacked {
     /// The parts of an array. It takes no memory.
-    pub fn into_parts(array: BitPackedArray) -> (PackedData, BitWidths)
-        ensures parts { result.0 ≡ array.parts }
-        ensures widths { widths_of_owned result.1 ≡ array.widths }
+    pub fn into_parts(array: BitPackedArray) -> BitPackedDataParts
+        ensures parts { owned_parts array.parts.ptype result ≡ array.parts }
+        ensures widths { widths_of_owned result.bit_widths ≡ array.widths }
     {
         let BitPackedArray { parts, widths } = array;
-        match widths {
-            StoredWidths::Global(width) => (parts, BitWidths::Global(width)),
-            StoredWidths::Blocked(boundaries) => {
-                (parts, BitWidths::Blocked(Box::into_inner(boundaries)))
-            }
+        parts.prove_well_formed();
+        let (offset, len) = (parts.offset() as u16, parts.len());
+        let (packed, validity, patches) = parts.into_owned();
+        BitPackedDataParts {
+            offset,
+            bit_widths: owned_widths(widths),
+            len,
+            packed,
+            patches,
+            validity,
         }
     }
 
@@ -166,6 +243,26 @@ impl BitPacked {
             parts: PackedData::new(packed, ptype, validity, patches, offset, len),
             widths: StoredWidths::Blocked(boundaries),
         })
+    }
+
+    /// The array packed at a width, as `bitpack_encode` packs a primitive one.
+    ///
+    /// # Errors
+    /// The first of `NotInteger` where the array is not primitive, `NegativeValue` where an item is negative
+    /// that is no null, and `WidthTooLarge` where the width is not below the type's bits.
+    pub fn encode(
+        alloc: Global,
+        array: &ArrayRef,
+        bit_width: u8,
+    ) -> Result<BitPackedArray, FastLanesError>
+        ensures refusal { AnswersUnless (encode_refusal array.now bit_width) result }
+        ensures parts { IfOk result (λ a. IfSome (primitive_in array.now) (λ p. IsEncodedAt p bit_width a)) }
+        ensures column { IfOk result (λ a. column (tree_of_bitpacked a) ≡ column array.now) }
+    {
+        match array.as_primitive() {
+            Some(primitive) => bitpack_encode(alloc, primitive, bit_width, None),
+            None => Err(FastLanesError::NotInteger),
+        }
     }
 }
 
@@ -249,6 +346,33 @@ fn accept_boundaries(
 }
 
 impl BitPackedArray {
+    /// The array of these parts, whose blocks all have this width.
+    pub(crate) fn from_global(parts: PackedData, width: u8) -> BitPackedArray
+        requires { global_refusal parts width ≡ None }
+        ensures { result ≡ record { parts = parts; widths = GlobalWidth width } }
+    {
+        BitPackedArray {
+            parts,
+            widths: StoredWidths::Global(width),
+        }
+    }
+
+    /// The array of these parts, whose blocks lie between these boundaries.
+    pub(crate) fn from_blocked(
+        alloc: Global,
+        parts: PackedData,
+        boundaries: ArrayRef,
+    ) -> Result<BitPackedArray, FastLanesError>
+        requires { blocked_refusal parts (column boundaries) ≡ None }
+        ensures { Answers (λ a. a) result (Ok (record { parts = parts; widths = BlockBoundaries boundaries })) }
+    {
+        let boundaries = Box::new(alloc, boundaries)?;
+        Ok(BitPackedArray {
+            parts,
+            widths: StoredWidths::Blocked(boundaries),
+        })
+    }
+
     /// The constructors refuse these parts in nothing.
     pub fn prove_well_formed(&self)
         ensures { refusal_of_bitpacked self.now ≡ None }
@@ -265,7 +389,7 @@ impl BitPackedArray {
     }
 
     /// The parts, without the widths.
-    pub fn data(&self) -> &PackedData
+    pub fn packed_data(&self) -> &PackedData
         ensures { result.now ≡ self.now.parts }
     {
         &self.parts
@@ -289,7 +413,7 @@ impl BitPackedArray {
         ensures len { result ≡ self.now.parts.len }
         ensures items { result ≡ length (column (tree_of_bitpacked self.now)).items }
     {
-        self.data().len()
+        self.packed_data().len()
     }
 
     /// The type of the column.
@@ -297,7 +421,7 @@ impl BitPackedArray {
     pub fn dtype(&self) -> DType
         ensures { result ≡ (column (tree_of_bitpacked self.now)).dtype }
     {
-        self.data().dtype()
+        self.packed_data().dtype()
     }
 
     /// The validity of the column.
@@ -306,7 +430,7 @@ impl BitPackedArray {
         ensures validity { IfOk result (λ v. IsValidityOf v (column (tree_of_bitpacked self.now))) }
         ensures memory { IfErr result (λ e. e ≡ OutOfMemory) }
     {
-        let data = self.data();
+        let data = self.packed_data();
         data.prove_well_formed();
         data.validity().try_clone(alloc)
     }
@@ -337,7 +461,7 @@ impl BitPackedArray {
         ensures { Answers column_of_primitive result (integer_column (column (tree_of_bitpacked self.now))) }
     {
         self.prove_well_formed();
-        self.data().decode_global(alloc, usize::from(width))
+        self.packed_data().decode_global(alloc, usize::from(width))
     }
 
     /// The column in a primitive array, where the blocks lie between these boundaries, which `plain` has decoded.
@@ -353,7 +477,7 @@ impl BitPackedArray {
     {
         self.prove_well_formed();
         let _len = plain.len();
-        self.data().decode_blocked(alloc, plain)
+        self.packed_data().decode_blocked(alloc, plain)
     }
 
     /// An item, where all blocks have this width.
@@ -365,7 +489,8 @@ impl BitPackedArray {
         self.prove_well_formed();
         let _len = self.len();
         let mut work = Work::new();
-        self.data().item_global(usize::from(width), i, &mut work)
+        self.packed_data()
+            .item_global(usize::from(width), i, &mut work)
     }
 
     /// The block of an item, where the blocks lie between these boundaries.
@@ -378,7 +503,7 @@ impl BitPackedArray {
     {
         self.prove_well_formed();
         let _len = self.len();
-        self.data().block_of(i)
+        self.packed_data().block_of(i)
     }
 
     /// An item, by the first boundary and the two of its block.
@@ -405,7 +530,47 @@ impl BitPackedArray {
             number_of_scalar(start),
             number_of_scalar(end),
         );
-        self.data().item_blocked(first, start, end, i, &mut work)
+        self.packed_data()
+            .item_blocked(first, start, end, i, &mut work)
+    }
+
+    /// An item as its bits are stored, where all blocks have this width.
+    pub(crate) fn stored_global(&self, width: u8, i: usize) -> Scalar
+        requires same { GlobalWidth width ≡ self.now.widths }
+        requires range { i < self.now.parts.len }
+        ensures { scalar_parts result ≡ stored_scalar self.now.parts (blocks_of_widths self.now.widths) i }
+    {
+        self.prove_well_formed();
+        let mut work = Work::new();
+        self.packed_data()
+            .stored_global(usize::from(width), i, &mut work)
+    }
+
+    /// An item as its bits are stored, by the first boundary and the two of its block.
+    pub(crate) fn stored_blocked(
+        &self,
+        boundaries: &ArrayRef,
+        first: Scalar,
+        start: Scalar,
+        end: Scalar,
+        i: usize,
+    ) -> Scalar
+        requires same { BlockBoundaries boundaries.now ≡ self.now.widths }
+        requires first { scalar_parts first ≡ scalar_in (column boundaries.now) 0 }
+        requires start { scalar_parts start ≡ scalar_in (column boundaries.now) ((self.now.parts.offset + i) / 1024) }
+        requires end { scalar_parts end ≡ scalar_in (column boundaries.now) ((self.now.parts.offset + i) / 1024 + 1) }
+        requires range { i < self.now.parts.len }
+        ensures { scalar_parts result ≡ stored_scalar self.now.parts (blocks_of_widths self.now.widths) i }
+    {
+        self.prove_well_formed();
+        let mut work = Work::new();
+        let (first, start, end) = (
+            number_of_scalar(first),
+            number_of_scalar(start),
+            number_of_scalar(end),
+        );
+        self.packed_data()
+            .stored_blocked(first, start, end, i, &mut work)
     }
 
     /// A copy, where all blocks have this width.
@@ -418,7 +583,7 @@ impl BitPackedArray {
         ensures { Answers (λ a. a) result (Ok self.now) }
     {
         self.prove_well_formed();
-        let parts = self.data().try_clone(alloc)?;
+        let parts = self.packed_data().try_clone(alloc)?;
         Ok(BitPackedArray {
             parts,
             widths: StoredWidths::Global(width),
@@ -435,7 +600,24 @@ impl BitPackedArray {
         ensures { Answers (λ a. a) result (Ok self.now) }
     {
         self.prove_well_formed();
-        let parts = self.data().try_clone(alloc)?;
+        let parts = self.packed_data().try_clone(alloc)?;
+        let boundaries = Box::new(alloc, boundaries)?;
+        Ok(BitPackedArray {
+            parts,
+            widths: StoredWidths::Blocked(boundaries),
+        })
+    }
+
+    /// The same packed blocks between other boundaries, which make an array with them.
+    pub(crate) fn with_boundaries(
+        &self,
+        alloc: Global,
+        boundaries: ArrayRef,
+    ) -> Result<BitPackedArray, FastLanesError>
+        requires { blocked_refusal self.now.parts (column boundaries) ≡ None }
+        ensures { Answers (λ a. a) result (Ok (record { parts = self.now.parts; widths = BlockBoundaries boundaries })) }
+    {
+        let parts = self.packed_data().try_clone(alloc)?;
         let boundaries = Box::new(alloc, boundaries)?;
         Ok(BitPackedArray {
             parts,
@@ -455,12 +637,12 @@ impl BitPackedArray {
         requires order { start ≤ end }
         requires range { end ≤ length (column (tree_of_bitpacked self.now)).items }
         ensures column { Answers (λ a. column (tree_of_bitpacked a)) result (Ok (slice_of start end (column (tree_of_bitpacked self.now)))) }
-        ensures widths { IfOk result (λ a. a.widths ≡ GlobalWidth width) }
+        ensures tree { Answers tree_of_bitpacked result (Ok (slice_tree start end (tree_of_bitpacked self.now))) }
     {
         self.prove_well_formed();
         let _len = self.len();
         let parts = self
-            .data()
+            .packed_data()
             .slice_global(alloc, usize::from(width), start, end)?;
         Ok(BitPackedArray {
             parts,
@@ -498,7 +680,7 @@ impl BitPackedArray {
         requires order { start ≤ end }
         requires range { end ≤ length (column (tree_of_bitpacked self.now)).items }
         ensures column { Answers (λ a. column (tree_of_bitpacked a)) result (Ok (slice_of start end (column (tree_of_bitpacked self.now)))) }
-        ensures kind { IfOk result (λ a. kind (tree_of_bitpacked a) ≡ slice_kind (kind (tree_of_bitpacked self.now))) }
+        ensures tree { Answers tree_of_bitpacked result (Ok (slice_tree start end (tree_of_bitpacked self.now))) }
     {
         match self.bit_widths() {
             BitWidthsView::Global(width) => self.slice_global(alloc, width, start, end),
@@ -531,7 +713,10 @@ impl BitPackedArray {
     {
         self.prove_well_formed();
         let _len = self.len();
-        (self.data().first_block(start), self.data().end_block(end))
+        (
+            self.packed_data().first_block(start),
+            self.packed_data().end_block(end),
+        )
     }
 
     /// The items from `start` to below `end`, over the boundaries that are kept.
@@ -548,13 +733,14 @@ impl BitPackedArray {
     ) -> Result<BitPackedArray, FastLanesError>
         requires same { BlockBoundaries boundaries.now ≡ self.now.widths }
         requires part { column part ≡ sliced_boundaries self.now.parts.offset start end (column boundaries.now) }
+        requires tree { part ≡ slice_tree (first_block self.now.parts.offset start) (end_block self.now.parts.offset end + 1) boundaries.now }
         requires first { scalar_parts first ≡ scalar_in (column boundaries.now) 0 }
         requires from { scalar_parts from ≡ scalar_in (column boundaries.now) (first_block self.now.parts.offset start) }
         requires to { scalar_parts to ≡ scalar_in (column boundaries.now) (end_block self.now.parts.offset end) }
         requires order { start ≤ end }
         requires range { end ≤ length (column (tree_of_bitpacked self.now)).items }
         ensures column { Answers (λ a. column (tree_of_bitpacked a)) result (Ok (slice_of start end (column (tree_of_bitpacked self.now)))) }
-        ensures widths { IfOk result (λ a. a.widths ≡ BlockBoundaries part) }
+        ensures tree { Answers tree_of_bitpacked result (Ok (slice_tree start end (tree_of_bitpacked self.now))) }
     {
         self.prove_well_formed();
         let _len = self.len();
@@ -564,7 +750,7 @@ impl BitPackedArray {
             number_of_scalar(to),
         );
         let parts = self
-            .data()
+            .packed_data()
             .slice_blocked(alloc, first, from, to, start, end)?;
         let boundaries = Box::new(alloc, part)?;
         Ok(BitPackedArray {

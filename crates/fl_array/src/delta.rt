@@ -1,9 +1,13 @@
 //! Delta arrays: in each block of 1024 items a base for each lane, and the deltas along the lanes.
 
+mod compute;
+mod decoding;
+mod delta_array_ext;
+mod delta_data;
+
 ghost use Rattle.std.specs.Prelude.{◌≡◌, ◌+◌, ◌-◌, ◌*◌, ◌/◌, ◌%◌, ◌<◌, ◌≤◌, IfErr, IfOk, IsTrue, None, Ok, length};
 ghost use Rattle.fl_types.specs.declared.error.FastLanesError.TheVariants.{OutOfMemory};
 ghost use Rattle.fl_types.specs.Refusals.{Answers};
-ghost use Rattle.fl_types.specs.Validities.{validity_between};
 ghost use Rattle.fl_types.specs.Values.{scalar_parts};
 ghost use Rattle.fl_column.specs.Columns.{column_of_primitive};
 ghost use Rattle.fl_column.specs.Operations.{slice_of};
@@ -12,13 +16,19 @@ ghost use Rattle.fl_codec.specs.DeltaRefusals.{delta_refusal, lanes_of_dtype};
 ghost use Rattle.fl_codec.specs.ChunkSlices.{end_chunk, first_chunk};
 ghost use Rattle.fl_array.specs.Trees.{column, height};
 ghost use Rattle.fl_array.specs.DeltaArrays.{DeltaArrayParts, new_delta, refusal_of_delta, tree_of_delta};
-ghost use Rattle.fl_array.specs.Kinds.{has_delta, kind, slice_kind};
+ghost use Rattle.fl_array.specs.Kinds.{has_delta, kind};
+ghost use Rattle.fl_array.specs.EncodedDelta.{encoded_delta_array};
 ghost use Rattle.fl_array.specs.Reads.{IsValidityOf, integer_column};
+ghost use Rattle.fl_array.specs.Slices.{slice_tree};
 
-use crate::array::ArrayRef;
+use crate::array::{ArrayRef, IntoArray};
+pub use crate::delta::decoding::delta_decompress;
+pub use crate::delta::delta_array_ext::{DeltaArrayExt, DeltaSlots};
+pub use crate::delta::delta_data::{DeltaData, equal_data};
 use fastlanes::FL_CHUNK_SIZE;
 use fl_codec::delta::children::{delta_children_refusal, lanes_of_dtype};
-use fl_codec::delta::delta_decompress;
+use fl_codec::delta::{delta_compress, delta_decompress as decompress};
+use fl_codec::laws::deltas_and_back;
 use fl_column::{DType, FastLanesError, PrimitiveArray, Scalar, Validity, chunk_count};
 use std::alloc::Global;
 use std::marker::Model;
@@ -114,9 +124,56 @@ impl Delta {
             }
         }
     }
+
+    /// The delta array of a primitive one: its bases and deltas are primitive arrays of the same type without
+    /// nulls, and its validity is the array's. A null counts as the last item before it in the column, or as 0
+    /// where there is none; a short last block goes on with its last item.
+    pub fn try_from_primitive_array(
+        alloc: Global,
+        array: &PrimitiveArray,
+    ) -> Result<DeltaArray, FastLanesError>
+        ensures parts { Answers (λ a. a) result (Ok (encoded_delta_array array.now)) }
+        ensures column { IfOk result (λ a. column (tree_of_delta a) ≡ column_of_primitive array.now) }
+    {
+        deltas_and_back(array);
+        let len = array.len();
+        let (bases, deltas) = delta_compress(alloc, array)?;
+        let validity = array.validity().try_clone(alloc)?;
+        DeltaArray::from_parts(
+            alloc,
+            bases.into_array(),
+            deltas.into_array(),
+            validity,
+            0,
+            len,
+        )
+    }
 }
 
 impl DeltaArray {
+    /// The array of these bases and deltas, which the constructor would not refuse.
+    pub(crate) fn from_parts(
+        alloc: Global,
+        bases: ArrayRef,
+        deltas: ArrayRef,
+        validity: Validity,
+        offset: usize,
+        len: usize,
+    ) -> Result<DeltaArray, FastLanesError>
+        requires { delta_refusal (column bases) (column deltas) validity offset len ≡ None }
+        ensures { Answers (λ a. a) result (Ok (record { bases = bases; deltas = deltas; parts = record { validity = validity; offset = offset; len = len } })) }
+    {
+        let bases = Box::new(alloc, bases)?;
+        let deltas = Box::new(alloc, deltas)?;
+        Ok(DeltaArray {
+            bases,
+            deltas,
+            validity,
+            offset,
+            len,
+        })
+    }
+
     /// The constructor refuses these parts in nothing.
     pub fn prove_well_formed(&self)
         ensures { refusal_of_delta self.now ≡ None }
@@ -150,6 +207,13 @@ impl DeltaArray {
         ensures { result ≡ self.now.parts.offset }
     {
         self.offset
+    }
+
+    /// The offset is below 1024.
+    pub(crate) fn prove_low(&self)
+        ensures { self.now.parts.offset < 1024 }
+    {
+        self.prove_well_formed();
     }
 
     /// How many items there are.
@@ -206,7 +270,7 @@ impl DeltaArray {
         self.prove_well_formed();
         let (_count, _total) = (bases.len(), deltas.len());
         let (offset, len) = (self.offset(), self.len());
-        delta_decompress(alloc, bases, deltas, self.validity(), offset, len)
+        decompress(alloc, bases, deltas, self.validity(), offset, len)
     }
 
     /// The lanes of a block.
@@ -273,7 +337,7 @@ impl DeltaArray {
         requires order { start ≤ end }
         requires range { end ≤ length (column (tree_of_delta self.now)).items }
         ensures column { Answers (λ a. column (tree_of_delta a)) result (Ok (slice_of start end (column (tree_of_delta self.now)))) }
-        ensures kind { IfOk result (λ a. kind (tree_of_delta a) ≡ slice_kind (kind (tree_of_delta self.now))) }
+        ensures tree { Answers tree_of_delta result (Ok (slice_tree start end (tree_of_delta self.now))) }
     {
         let lanes = self.lanes(self.bases().dtype());
         let kept = self.block_ranges(lanes, start, end);
@@ -297,8 +361,10 @@ impl DeltaArray {
         requires range { end ≤ length (column (tree_of_delta self.now)).items }
         requires bases { column bases ≡ slice_of (lanes_of_dtype (column self.now.bases).dtype * first_chunk self.now.parts.offset start) (lanes_of_dtype (column self.now.bases).dtype * end_chunk self.now.parts.offset end) (column self.now.bases) }
         requires deltas { column deltas ≡ slice_of (1024 * first_chunk self.now.parts.offset start) (1024 * end_chunk self.now.parts.offset end) (column self.now.deltas) }
+        requires bases_tree { bases ≡ slice_tree (lanes_of_dtype (column self.now.bases).dtype * first_chunk self.now.parts.offset start) (lanes_of_dtype (column self.now.bases).dtype * end_chunk self.now.parts.offset end) self.now.bases }
+        requires deltas_tree { deltas ≡ slice_tree (1024 * first_chunk self.now.parts.offset start) (1024 * end_chunk self.now.parts.offset end) self.now.deltas }
         ensures column { Answers (λ a. column (tree_of_delta a)) result (Ok (slice_of start end (column (tree_of_delta self.now)))) }
-        ensures parts { IfOk result (λ a. a ≡ record { bases = bases; deltas = deltas; parts = record { validity = validity_between start end self.now.parts.validity; offset = (self.now.parts.offset + start) % 1024; len = end - start } }) }
+        ensures tree { Answers tree_of_delta result (Ok (slice_tree start end (tree_of_delta self.now))) }
     {
         self.prove_well_formed();
         let (len, _total) = (self.len(), self.deltas().len());

@@ -1,6 +1,12 @@
 //! FoR arrays (frame of reference): an encoded array, and a reference that is added to its items, one for all
 //! of them or one for each chunk of 1024.
 
+mod compute;
+mod for_array_ext;
+mod for_compress;
+mod for_data;
+mod for_decompress;
+
 ghost use Rattle.std.specs.Prelude.{◌≡◌, ◌+◌, ◌*◌, ◌%◌, ◌/◌, ◌<◌, ◌≤◌, IfErr, IfOk, IsTrue, None, Ok, Some, length, option_map};
 ghost use Rattle.fl_types.specs.Refusals.{Answers};
 ghost use Rattle.fl_types.specs.Values.{scalar_parts};
@@ -9,13 +15,20 @@ ghost use Rattle.fl_column.specs.Operations.{slice_of};
 ghost use Rattle.fl_column.specs.Questions.{scalar_in};
 ghost use Rattle.fl_codec.specs.ChunkSlices.{end_chunk, first_chunk};
 ghost use Rattle.fl_array.specs.Trees.{column, height};
-ghost use Rattle.fl_array.specs.FoRArrays.{ChunkReferences, FoRArrayParts, GlobalReference, for_chunked_refusal, new_for, new_for_chunked, offset_of_references, reference_count_refusal, reference_refusal, reference_type_refusal, references_of, refusal_of_for, size_of_references, tree_of_for};
-ghost use Rattle.fl_array.specs.Kinds.{has_delta, kind, slice_kind};
+ghost use Rattle.fl_array.specs.FoRArrays.{ChunkReferences, FoRArrayParts, GlobalReference, for_chunked_refusal, new_for, new_for_chunked, offset_of_references, reference_count_refusal, reference_refusal, reference_type_refusal, references_of, refusal_of_for, size_of_references, tree_of_for, for_refusal, has_no_constant};
+ghost use Rattle.fl_array.specs.EncodedFoR.{encoded_for, encoded_for_chunked};
+ghost use Rattle.fl_array.specs.Kinds.{has_delta, kind};
 ghost use Rattle.fl_array.specs.Reads.{IsValidityOf, constant_in, integer_column};
 ghost use Rattle.fl_array.specs.Shown.{stored_references};
-ghost use Rattle.fl_array.specs.Views.{HasLowerReferences, HasSmallerReferences, references_of_view};
+ghost use Rattle.fl_array.specs.Slices.{slice_tree};
+ghost use Rattle.fl_array.specs.Views.{HasLowerReferences, HasSmallerReferences, references_of_view, is_global};
+ghost use Rattle.fl_array.specs.EncodedFoR.{encoded_for, encoded_for_chunked};
 
 use crate::array::ArrayRef;
+pub use crate::for_::for_array_ext::{FoRArrayExt, FoRSlots};
+use crate::for_::for_compress::{for_encode, for_encode_chunked};
+pub use crate::for_::for_data::{FoRData, equal_data};
+pub use crate::for_::for_decompress::decompress;
 use fastlanes::FL_CHUNK_SIZE;
 use fl_bitpacking::refusals::positions_refusal;
 use fl_codec::for_::single_items::plus_reference;
@@ -51,11 +64,20 @@ pub enum FoRReferences<'a> {
     Blocked(&'a ArrayRef),
 }
 
+impl FoRReferences<'_> {
+    /// Whether all items have one reference.
+    pub fn is_global(&self) -> bool
+        ensures { result ≡ is_global self.now }
+    {
+        matches!(self, FoRReferences::Global(_))
+    }
+}
+
 impl Model for FoRArray {
-    ghost use Rattle.std.specs.Prelude.{◌≡◌, None};
+    ghost use Rattle.std.specs.Prelude.{◌≡◌, IsTrue, None};
     ghost use Rattle.std.proofs.Common.{arith};
     ghost use Rattle.fl_array.specs.Trees.{column, height};
-    ghost use Rattle.fl_array.specs.FoRArrays.{FoRArrayParts, for_refusal, size_of_references};
+    ghost use Rattle.fl_array.specs.FoRArrays.{FoRArrayParts, for_refusal, has_no_constant, size_of_references};
     ghost use Rattle.fl_array.specs.ArrayCodes.{coded_for};
 
     ghost Value = { FoRArrayParts };
@@ -66,7 +88,7 @@ impl Model for FoRArray {
 
     ghost view = { λ a. record { encoded = a.encoded.value; references = stored_references a.references } };
 
-    ghost invariant = { λ a. for_refusal (column a.encoded.value) (stored_references a.references) ≡ None };
+    ghost invariant = { λ a. (for_refusal (column a.encoded.value) (stored_references a.references) ≡ None) × IsTrue (has_no_constant (stored_references a.references)) };
 
     ghost size = { λ a. size_of_references (height a.encoded) a.references };
 
@@ -208,6 +230,7 @@ impl FoR {
     /// # Errors
     /// The first of `OffsetTooLarge`, `LengthOverflow`, `NotInteger` and `ReferenceCount` that holds. Then of
     /// constant references `NullReference` and `TypeMismatch`, of any others `TypeMismatch`.
+    #[tactic(auto, using(crate::proofs::FoRSound::no_constant_kept))]
     pub fn try_new_chunked(
         alloc: Global,
         encoded: ArrayRef,
@@ -229,12 +252,80 @@ impl FoR {
             }
         }
     }
+
+    /// The FoR array of a primitive one, with its least valid item as the one reference: the differences, modulo
+    /// 2 to the type's bits and 0 under a null, are a primitive array of the same validity.
+    ///
+    /// # Errors
+    /// `NoMinimum` where no item is valid.
+    pub fn encode(alloc: Global, array: &PrimitiveArray) -> Result<FoRArray, FastLanesError>
+        ensures parts { Answers (λ a. a) result (encoded_for array.now) }
+        ensures column { IfOk result (λ a. column (tree_of_for a) ≡ column_of_primitive array.now) }
+    {
+        for_encode(alloc, array)
+    }
+
+    /// The FoR array of a primitive one, with the least valid item of each chunk of 1024 as its reference. A
+    /// chunk of nulls repeats the reference before it, and the leading ones take that of the first chunk that
+    /// has an item.
+    ///
+    /// Where all chunks have one reference, as in a column of one chunk, it is the one reference; it is 0 in an
+    /// empty column. A column that has items, all of them null, becomes a constant array of a null with the
+    /// reference 0.
+    pub fn encode_chunked(alloc: Global, array: &PrimitiveArray) -> Result<FoRArray, FastLanesError>
+        ensures parts { Answers (λ a. a) result (Ok (encoded_for_chunked array.now)) }
+        ensures column { IfOk result (λ a. column (tree_of_for a) ≡ column_of_primitive array.now) }
+    {
+        for_encode_chunked(alloc, array)
+    }
 }
 
 impl FoRArray {
+    /// The array of these encoded items and their one reference.
+    pub(crate) fn from_global(
+        alloc: Global,
+        encoded: ArrayRef,
+        reference: Scalar,
+    ) -> Result<FoRArray, FastLanesError>
+        requires { for_refusal (column encoded) (GlobalReference (scalar_parts reference)) ≡ None }
+        ensures { Answers (λ a. a) result (Ok (record { encoded = encoded; references = GlobalReference (scalar_parts reference) })) }
+    {
+        let encoded = Box::new(alloc, encoded)?;
+        Ok(FoRArray {
+            encoded,
+            references: StoredReferences::Global(reference),
+        })
+    }
+
+    /// The array of these encoded items and the references of their chunks.
+    pub(crate) fn from_chunked(
+        alloc: Global,
+        encoded: ArrayRef,
+        references: ArrayRef,
+        offset: usize,
+    ) -> Result<FoRArray, FastLanesError>
+        requires sound { for_refusal (column encoded) (ChunkReferences references offset) ≡ None }
+        requires chunked { IsTrue (has_no_constant (ChunkReferences references offset)) }
+        ensures { Answers (λ a. a) result (Ok (record { encoded = encoded; references = ChunkReferences references offset })) }
+    {
+        let encoded = Box::new(alloc, encoded)?;
+        let references = Box::new(alloc, references)?;
+        Ok(FoRArray {
+            encoded,
+            references: StoredReferences::Blocked(references, offset),
+        })
+    }
+
     /// The constructors refuse these parts in nothing.
     pub fn prove_well_formed(&self)
         ensures { refusal_of_for self.now ≡ None }
+    {
+        let _ = &self.references;
+    }
+
+    /// References of chunks are no constant array: the constructors make one reference of it.
+    pub fn prove_no_constant(&self)
+        ensures { IsTrue (has_no_constant self.now.references) }
     {
         let _ = &self.references;
     }
@@ -307,7 +398,7 @@ impl FoRArray {
         requires order { start ≤ end }
         requires range { end ≤ length (column (tree_of_for self.now)).items }
         ensures column { Answers (λ a. column (tree_of_for a)) result (Ok (slice_of start end (column (tree_of_for self.now)))) }
-        ensures kind { IfOk result (λ a. kind (tree_of_for a) ≡ slice_kind (kind (tree_of_for self.now))) }
+        ensures tree { Answers tree_of_for result (Ok (slice_tree start end (tree_of_for self.now))) }
     {
         let (start, end) = self.range_in_encoded(start, end);
         let part = self.encoded().slice(alloc, start..end)?;
@@ -502,6 +593,7 @@ impl FoRArray {
         ensures { Answers (λ a. a) result (Ok self.now) }
     {
         self.prove_well_formed();
+        self.prove_no_constant();
         let offset = self.offset();
         let encoded = Box::new(alloc, encoded)?;
         let references = Box::new(alloc, references)?;
@@ -522,8 +614,9 @@ impl FoRArray {
     ) -> Result<FoRArray, FastLanesError>
         requires same { GlobalReference (scalar_parts reference) ≡ self.now.references }
         requires part { column part ≡ slice_of start end (column self.now.encoded) }
+        requires tree { part ≡ slice_tree start end self.now.encoded }
         ensures column { Answers (λ a. column (tree_of_for a)) result (Ok (slice_of start end (column (tree_of_for self.now)))) }
-        ensures parts { IfOk result (λ a. a ≡ record { encoded = part; references = self.now.references }) }
+        ensures tree { Answers tree_of_for result (Ok (slice_tree start end (tree_of_for self.now))) }
     {
         self.with_encoded(alloc, part, reference)
     }
@@ -549,6 +642,7 @@ impl FoRArray {
     }
 
     /// The items from `start` to below `end`, over the encoded ones and the references of their chunks.
+    #[tactic(auto, using(crate::proofs::SliceLaws::no_constant_sliced))]
     pub(crate) fn slice_chunked(
         &self,
         alloc: Global,
@@ -563,10 +657,13 @@ impl FoRArray {
         requires range { end ≤ length (column self.now.encoded).items }
         requires part { column part ≡ slice_of start end (column self.now.encoded) }
         requires kept { column kept ≡ slice_of (first_chunk (offset_of_references self.now.references) start) (end_chunk (offset_of_references self.now.references) end) (column references.now) }
+        requires part_tree { part ≡ slice_tree start end self.now.encoded }
+        requires kept_tree { kept ≡ slice_tree (first_chunk (offset_of_references self.now.references) start) (end_chunk (offset_of_references self.now.references) end) references.now }
         ensures column { Answers (λ a. column (tree_of_for a)) result (Ok (slice_of start end (column (tree_of_for self.now)))) }
-        ensures parts { IfOk result (λ a. a ≡ record { encoded = part; references = ChunkReferences kept ((offset_of_references self.now.references + start) % 1024) }) }
+        ensures tree { Answers tree_of_for result (Ok (slice_tree start end (tree_of_for self.now))) }
     {
         self.prove_well_formed();
+        self.prove_no_constant();
         let offset = (self.offset() + start) % FL_CHUNK_SIZE;
         let encoded = Box::new(alloc, part)?;
         let references = Box::new(alloc, kept)?;

@@ -8,6 +8,8 @@ pub mod for_;
 pub mod laws;
 mod numbers;
 pub mod rle;
+mod to_blocked;
 mod validities;
+mod well_formed;
 
 pub use crate::array::{ArrayRef, IntoArray};

@@ -1,6 +1,12 @@
 //! Run-length encoded arrays: in each chunk of 1024 items the run values, and for each position the index of
 //! its run value.
 
+mod compute;
+mod decoding;
+mod rle_array_ext;
+mod rle_data;
+mod rle_probe;
+
 ghost use Rattle.std.specs.Prelude.{◌≡◌, ◌+◌, ◌-◌, ◌*◌, ◌/◌, ◌%◌, ◌<◌, ◌≤◌, IfErr, IfOk, IsTrue, None, Ok, length, pos, unsigned_abs, unwrap_or};
 ghost use Rattle.fl_types.specs.declared.error.FastLanesError.TheVariants.{OutOfMemory};
 ghost use Rattle.fl_types.specs.Refusals.{Answers};
@@ -14,11 +20,16 @@ ghost use Rattle.fl_codec.specs.RunRefusals.{kept_values_end, kept_values_start,
 ghost use Rattle.fl_codec.specs.ChunkSlices.{end_chunk, first_chunk};
 ghost use Rattle.fl_array.specs.Trees.{column, height};
 ghost use Rattle.fl_array.specs.RLEArrays.{encoded_rle, new_rle, refusal_of_rle, tree_of_rle};
-ghost use Rattle.fl_array.specs.Kinds.{has_delta, kind, slice_kind};
+ghost use Rattle.fl_array.specs.Kinds.{has_delta, kind};
 ghost use Rattle.fl_array.specs.Reads.{IsValidityOf, integer_column};
+ghost use Rattle.fl_array.specs.Slices.{slice_tree};
 
 use crate::array::{ArrayRef, IntoArray};
 use crate::numbers::number_of_scalar;
+pub use crate::rle::decoding::rle_decompress;
+pub use crate::rle::rle_array_ext::{RLEArrayExt, RLESlots};
+pub use crate::rle::rle_data::{RLEData, equal_data};
+pub use crate::rle::rle_probe::RleProbeState;
 use fastlanes::FL_CHUNK_SIZE;
 use fl_codec::laws::runs_and_back;
 use fl_codec::rle::children::{kept_values, rle_types_refusal};
@@ -232,6 +243,13 @@ impl RLEArray {
         self.offset
     }
 
+    /// The offset is below 1024.
+    pub(crate) fn prove_low(&self)
+        ensures { self.now.window.offset < 1024 }
+    {
+        self.prove_well_formed();
+    }
+
     /// How many items there are.
     #[tactic(auto, using(crate::proofs::RLELaws::rle_len))]
     pub fn len(&self) -> usize
@@ -317,6 +335,58 @@ impl RLEArray {
         (offset + i, (offset + i) / FL_CHUNK_SIZE)
     }
 
+    /// The positions of a position's chunk: the first one, and the one behind the last.
+    pub(crate) fn chunk_positions(&self, position: usize) -> (usize, usize)
+        requires { position / 1024 < length (column self.now.offsets).items }
+        ensures start { result.0 ≡ 1024 * (position / 1024) }
+        ensures end { result.1 ≡ 1024 * (position / 1024) + 1024 }
+    {
+        self.prove_well_formed();
+        let _total = self.indices().len();
+        let start = FL_CHUNK_SIZE * (position / FL_CHUNK_SIZE);
+        (start, start + FL_CHUNK_SIZE)
+    }
+
+    /// Where the run values of a chunk start, by the first run offset and that of the chunk.
+    pub(crate) fn start_from(&self, first: Scalar, start: Scalar, chunk: usize) -> usize
+        requires range { chunk < length (column self.now.offsets).items }
+        requires first { scalar_parts first ≡ scalar_in (column self.now.offsets) 0 }
+        requires start { scalar_parts start ≡ scalar_in (column self.now.offsets) chunk }
+        ensures { result ≡ chunk_start (numbers_of (column self.now.offsets)) chunk }
+    {
+        self.prove_well_formed();
+        number_of_scalar(start) - number_of_scalar(first)
+    }
+
+    /// Where the run values of a chunk start: its run offset, counted from the first one.
+    pub(crate) fn start_of_chunk(
+        &self,
+        alloc: Global,
+        chunk: usize,
+    ) -> Result<usize, FastLanesError>
+        requires { chunk < length (column self.now.offsets).items }
+        ensures start { Answers (λ n. n) result (Ok (chunk_start (numbers_of (column self.now.offsets)) chunk)) }
+        ensures memory { IfErr result (λ e. IsTrue (has_delta (kind (tree_of_rle self.now)))) }
+    {
+        let first = self.offsets().scalar_at(alloc, 0)?;
+        let own = self.offsets().scalar_at(alloc, chunk)?;
+        Ok(self.start_from(first, own, chunk))
+    }
+
+    /// The index of an item's run value among all of them, by its run index and where the run values of its chunk
+    /// start.
+    pub(crate) fn value_place(&self, index: Scalar, start: usize, i: usize) -> usize
+        requires range { i < length (column (tree_of_rle self.now)).items }
+        requires index { scalar_parts index ≡ scalar_in (column self.now.indices) (self.now.window.offset + i) }
+        requires start { start ≡ chunk_start (numbers_of (column self.now.offsets)) ((self.now.window.offset + i) / 1024) }
+        ensures place { result ≡ chunk_start (numbers_of (column self.now.offsets)) ((self.now.window.offset + i) / 1024) + unsigned_abs (unwrap_or (scalar_parts index).value (pos 0)) }
+        ensures range { result < length (column self.now.values).items }
+    {
+        self.prove_well_formed();
+        let (_len, _count) = (self.len(), self.values().len());
+        start + number_of_scalar(index)
+    }
+
     /// The index of an item's run value among all of them, by its run index, the first run offset and that of its
     /// chunk.
     pub(crate) fn value_index(&self, index: Scalar, first: Scalar, start: Scalar, i: usize) -> usize
@@ -327,9 +397,8 @@ impl RLEArray {
         ensures place { result ≡ chunk_start (numbers_of (column self.now.offsets)) ((self.now.window.offset + i) / 1024) + unsigned_abs (unwrap_or (scalar_parts index).value (pos 0)) }
         ensures range { result < length (column self.now.values).items }
     {
-        self.prove_well_formed();
-        let (_len, _count) = (self.len(), self.values().len());
-        number_of_scalar(start) - number_of_scalar(first) + number_of_scalar(index)
+        let (_, chunk) = self.position(i);
+        self.value_place(index, self.start_from(first, start, chunk), i)
     }
 
     /// An item, from its run index and its run value.
@@ -422,7 +491,7 @@ impl RLEArray {
         requires order { start ≤ end }
         requires range { end ≤ length (column (tree_of_rle self.now)).items }
         ensures column { Answers (λ a. column (tree_of_rle a)) result (Ok (slice_of start end (column (tree_of_rle self.now)))) }
-        ensures kind { IfOk result (λ a. kind (tree_of_rle a) ≡ slice_kind (kind (tree_of_rle self.now))) }
+        ensures tree { Answers tree_of_rle result (Ok (slice_tree start end (tree_of_rle self.now))) }
     {
         self.prove_integers();
         let _total = self.len();
@@ -451,8 +520,11 @@ impl RLEArray {
         requires values { column values ≡ slice_of (kept_values_start (numbers_of (column self.now.offsets)) (first_chunk self.now.window.offset start) (end_chunk self.now.window.offset end)) (kept_values_end (numbers_of (column self.now.offsets)) (length (column self.now.values).items) (first_chunk self.now.window.offset start) (end_chunk self.now.window.offset end)) (column self.now.values) }
         requires indices { column indices ≡ slice_of (1024 * first_chunk self.now.window.offset start) (1024 * end_chunk self.now.window.offset end) (column self.now.indices) }
         requires offsets { column offsets ≡ slice_of (first_chunk self.now.window.offset start) (end_chunk self.now.window.offset end) (column self.now.offsets) }
+        requires values_tree { values ≡ slice_tree (kept_values_start (numbers_of (column self.now.offsets)) (first_chunk self.now.window.offset start) (end_chunk self.now.window.offset end)) (kept_values_end (numbers_of (column self.now.offsets)) (length (column self.now.values).items) (first_chunk self.now.window.offset start) (end_chunk self.now.window.offset end)) self.now.values }
+        requires indices_tree { indices ≡ slice_tree (1024 * first_chunk self.now.window.offset start) (1024 * end_chunk self.now.window.offset end) self.now.indices }
+        requires offsets_tree { offsets ≡ slice_tree (first_chunk self.now.window.offset start) (end_chunk self.now.window.offset end) self.now.offsets }
         ensures column { Answers (λ a. column (tree_of_rle a)) result (Ok (slice_of start end (column (tree_of_rle self.now)))) }
-        ensures parts { IfOk result (λ a. a ≡ record { values = values; indices = indices; offsets = offsets; window = record { offset = (self.now.window.offset + start) % 1024; len = end - start } }) }
+        ensures tree { Answers tree_of_rle result (Ok (slice_tree start end (tree_of_rle self.now))) }
     {
         self.prove_well_formed();
         let (_len, _total) = (self.len(), self.indices().len());

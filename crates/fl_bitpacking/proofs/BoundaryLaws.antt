@@ -1,8 +1,8 @@
 -- Boundaries: where the blocks lie between them, and those of a part of the blocks.
-use Rattle.std.proofs.Common.{◌≡◌, ◌==◌, ◌+◌, ◌*◌, ◌-◌, ◌/◌, ◌%◌, ◌<◌, ◌≤◌, ◌&&◌, ℕ, zero, suc, Bool, true, false, List, [], ◌∷◌, length, map, get_or, nat_le, slice_index, Option, refl, ap, ◌∙◌, sym, arith, inl, inr}
-use Rattle.std.specs.Prelude.{unsigned_abs, unwrap_or, ℤ, pos}
-use Rattle.std.proofs.lemmas.Bool.{eqb-true, leb-true, le-leb, eq-eqb, cases_lt}
-use Rattle.std.proofs.lemmas.List.{length-map, get_or-map}
+use Rattle.std.proofs.Common.{◌≡◌, ◌==◌, ◌+◌, ◌*◌, ◌-◌, ◌/◌, ◌%◌, ◌<◌, ◌≤◌, ◌&&◌, ℕ, zero, suc, Bool, true, List, [], ◌∷◌, length, map, get_or, nat_le, refl, ap, ◌∙◌, arith}
+use Rattle.std.specs.Prelude.{unsigned_abs, unwrap_or, pos}
+use Rattle.std.proofs.lemmas.Bool.{eqb-true, leb-true, le-leb, eq-eqb}
+use Rattle.std.proofs.lemmas.List.{length-map}
 use Rattle.fl_types.specs.Bits.{between}
 use Rattle.fl_column.specs.Columns.{Column, integers_in, numbers_of}
 use Rattle.fl_column.specs.Operations.{slice_of}

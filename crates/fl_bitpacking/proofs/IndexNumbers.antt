@@ -1,5 +1,5 @@
 -- Columns of positions: unsigned integers without nulls.
-use Rattle.std.proofs.Common.{◌≡◌, ◌==◌, ◌+◌, ℕ, ℤ, pos, true, false, not, List, [], ◌∷◌, length, map, Option, Some, None, unwrap_or, refl, ap, ◌∙◌, sym, if◌then◌else◌, IsTrue, Bool}
+use Rattle.std.proofs.Common.{◌≡◌, ◌==◌, ◌+◌, ℕ, ℤ, pos, true, false, not, List, [], ◌∷◌, length, map, Some, None, unwrap_or, refl, ap, if◌then◌else◌, Bool}
 use Rattle.std.specs.Prelude.{unsigned_abs}
 use Rattle.fl_types.specs.declared.error.FastLanesError.{FastLanesError}
 use Rattle.fl_types.specs.declared.error.FastLanesError.TheVariants.{BlockOffsetsType, BlockOffsetsCount}
@@ -8,7 +8,7 @@ use Rattle.fl_types.specs.declared.dtype.PType.{PType}
 use Rattle.fl_types.specs.declared.validity.Validity.{Validity}
 use Rattle.fl_types.specs.declared.validity.Validity.TheVariants as valid
 use Rattle.fl_types.specs.Types.{is_index_type}
-use Rattle.fl_column.specs.Columns.{Column, PrimitiveParts, column_of_primitive, integers_in, numbers_of}
+use Rattle.fl_column.specs.Columns.{PrimitiveParts, column_of_primitive, integers_in, numbers_of}
 use Rattle.fl_column.specs.Numbers.{numbers}
 use Rattle.fl_bitpacking.specs.Columns.{BitPackedParts, block_count}
 use Rattle.fl_bitpacking.specs.Refusals.{blocked_refusal, boundaries_refusal, validity_and_patches_refusal, block_offsets_refusal, positions_refusal}

@@ -16,3 +16,6 @@ pub mod PackedSlices
 pub mod SoundParts
 pub mod BoundaryLaws
 pub mod SoundSlices
+pub mod EncodedParts
+pub mod OneWidth
+pub mod NullLaws

@@ -1,24 +1,22 @@
 -- The blocks from floor to ceiling stand for the slice of a bit-packed column.
-use Rattle.std.proofs.Common.{◌≡◌, ℕ, ◌+◌, ◌-◌, ◌*◌, ◌/◌, ◌%◌, ◌<◌, ◌≤◌, List, length, get_or, None, IsTrue, false, refl, ap, sym, ◌∙◌, arith}
-use Rattle.std.specs.Prelude.{if◌then◌else◌, ℤ, Option}
+use Rattle.std.proofs.Common.{◌≡◌, ℕ, ◌+◌, ◌-◌, ◌*◌, ◌/◌, ◌%◌, ◌<◌, ◌≤◌, List, None, false, refl, ap, ◌∙◌, arith}
+use Rattle.std.specs.Prelude.{ℤ, Option}
 use Rattle.fl_types.specs.declared.dtype.DType.TheVariants.{Primitive}
 use Rattle.fl_types.specs.Bits.{between, table}
 use Rattle.fl_types.specs.declared.validity.Validity.{Validity}
 use Rattle.fl_types.specs.declared.validity.Validity.TheVariants as valid
-use Rattle.fl_types.specs.Validities.{covers, is_valid_at, nullability_of, validity_between}
+use Rattle.fl_types.specs.Validities.{is_valid_at, nullability_of, validity_between}
 use Rattle.fl_types.proofs.BitLists.{same_tables}
-use Rattle.fl_column.specs.Columns.{Column}
 use Rattle.fl_column.specs.Operations.{slice_of}
 use Rattle.fl_column.specs.Questions.{scalar_in}
 use Rattle.fl_column.proofs.ItemLaws.{nullability_of-between}
 use Rattle.fl_patches.specs.PatchMaps.{patched_in}
-use Rattle.fl_column.specs.Chunks.{chunk_count}
 use Rattle.fl_patches.proofs.Slices.{get_or-between}
-use Rattle.fl_bitpacking.specs.Blocks.{Blocks, global_blocks, boundary_blocks, item_of_blocks, block_item, bytes_of_block}
+use Rattle.fl_bitpacking.specs.Blocks.{Blocks, global_blocks, item_of_blocks, bytes_of_block}
 use Rattle.fl_bitpacking.specs.Columns.{BitPackedParts, stored, packed_item, column_of_packed}
-use Rattle.fl_bitpacking.specs.SingleItems.{item_in_block}
+use Rattle.fl_bitpacking.specs.SingleItems.{item_in_block, stored_in_block, stored_scalar}
 use Rattle.fl_bitpacking.specs.SlicedParts.{end_block, first_block, sliced_parts}
-use Rattle.fl_bitpacking.proofs.Tables.{between-table, between-between, get_or-table, length-table}
+use Rattle.fl_bitpacking.proofs.Tables.{between-table, between-between, get_or-table}
 
 -- the items of a part of the validity
 pub valid-between : (v : Validity) (start end i : ℕ) → i < end - start → is_valid_at (validity_between start end v) i ≡ is_valid_at v (start + i)
@@ -87,3 +85,8 @@ later_global_blocks width first last j l = record {
 pub item_of_packed : (p : BitPackedParts) (blocks : Blocks) (i : ℕ) → i < p.len → scalar_in (column_of_packed p blocks) i ≡ item_in_block p (blocks.start ((p.offset + i) / 1024)) (blocks.width ((p.offset + i) / 1024)) i
 unfolding packed_item item_of_blocks
 item_of_packed p blocks i h = ap (λ (v : Option ℤ). record { dtype = Primitive p.ptype (nullability_of p.validity); value = v }) (get_or-table (packed_item p blocks) p.len i None h)
+
+-- an item as it is stored is that of its block
+pub stored_of_block : (p : BitPackedParts) (blocks : Blocks) (i : ℕ) → stored_scalar p blocks i ≡ stored_in_block p (blocks.start ((p.offset + i) / 1024)) (blocks.width ((p.offset + i) / 1024)) i
+unfolding item_of_blocks
+stored_of_block p blocks i = refl

@@ -1,11 +1,10 @@
 -- What is known of parts that make a bit-packed array.
-use Rattle.std.proofs.Common.{◌≡◌, ◌==◌, ◌+◌, ◌*◌, ◌-◌, ◌/◌, ◌%◌, ◌<◌, ◌≤◌, ◌^◌, ◌&&◌, ℕ, zero, suc, Bool, true, false, not, List, length, nat_le, nat_lt, slice_index, Option, Some, None, IfSome, IsTrue, refl, ap, ◌∙◌, sym, if◌then◌else◌, arith}
-use Rattle.std.proofs.lemmas.Bool.{eqb-true, leb-true, ltb-true, leb-false, le-leb, lt-ltb, eq-eqb, le-ltb, ltb-false, lt-leb}
+use Rattle.std.proofs.Common.{◌≡◌, ◌==◌, ◌+◌, ◌*◌, ◌-◌, ◌<◌, ◌≤◌, ◌^◌, ℕ, zero, suc, Bool, true, false, not, length, nat_le, nat_lt, slice_index, Option, Some, None, IfSome, refl, ap, ◌∙◌, sym, if◌then◌else◌, arith}
+use Rattle.std.proofs.lemmas.Bool.{eqb-true, leb-false, eq-eqb, le-ltb, ltb-false, lt-leb}
 use Rattle.fl_types.specs.declared.error.FastLanesError.{FastLanesError}
 use Rattle.fl_types.specs.declared.error.FastLanesError.TheVariants.{OffsetTooLarge, LengthOverflow, WidthTooLarge, ValidityLength, PatchType, PatchLength, PackedLength, BlockOffsetsType, BlockOffsetsCount, BlockBoundary, BlockSpan}
 use Rattle.fl_types.specs.declared.dtype.PType.{PType}
 use Rattle.fl_types.specs.declared.dtype.PType.TheVariants.{U8, U16, U32, U64, I8, I16, I32, I64}
-use Rattle.fl_types.specs.declared.dtype.DType.{DType}
 use Rattle.fl_types.specs.Integers.{bits_of_type, code_of, same_ptype}
 use Rattle.fl_types.specs.Types.{is_index_type}
 use Rattle.fl_types.specs.Validities.{covers}
@@ -14,7 +13,6 @@ use Rattle.fl_patches.specs.PatchMaps.{PatchesParts}
 use Rattle.fl_column.specs.Chunks.{chunk_count}
 use Rattle.fl_bitpacking.specs.Blocks.{are_blocks}
 use Rattle.fl_bitpacking.specs.Columns.{BitPackedParts, block_count}
-use Rattle.fl_bitpacking.specs.Parts.{Fit}
 use Rattle.fl_bitpacking.specs.Refusals.{AreConsistent, blocked_refusal, boundaries_refusal, validity_and_patches_refusal, block_offsets_refusal, global_refusal, otherwise, positions_refusal}
 
 -- ---- reasons one after the other

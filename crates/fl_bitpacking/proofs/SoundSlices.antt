@@ -1,6 +1,5 @@
 -- The parts of a slice make a bit-packed array.
-use Rattle.std.proofs.Common.{◌≡◌, ◌+◌, ◌*◌, ◌-◌, ◌/◌, ◌%◌, ◌<◌, ◌≤◌, ◌^◌, ℕ, true, List, length, get_or, slice_index, refl, ap, ◌∙◌, sym, arith, inl, inr}
-use Rattle.std.proofs.lemmas.Bool.{cases_lt}
+use Rattle.std.proofs.Common.{◌≡◌, ◌+◌, ◌*◌, ◌-◌, ◌%◌, ◌<◌, ◌≤◌, ℕ, length, get_or, refl, ap, ◌∙◌, sym, arith}
 use Rattle.fl_types.specs.Bits.{between}
 use Rattle.fl_types.specs.Integers.{bits_of_type}
 use Rattle.fl_column.specs.Columns.{Column, numbers_of}
@@ -8,7 +7,7 @@ use Rattle.fl_column.specs.Operations.{slice_of}
 use Rattle.fl_column.proofs.ItemLaws.{length-between}
 use Rattle.fl_column.specs.Chunks.{chunk_count}
 use Rattle.fl_patches.proofs.Slices.{get_or-between}
-use Rattle.fl_bitpacking.specs.Blocks.{are_blocks, boundary_blocks, global_blocks}
+use Rattle.fl_bitpacking.specs.Blocks.{boundary_blocks}
 use Rattle.fl_bitpacking.specs.Columns.{BitPackedParts, block_count}
 use Rattle.fl_bitpacking.specs.Refusals.{AreConsistent}
 use Rattle.fl_bitpacking.specs.SlicedParts.{end_block, first_block, sliced_parts}

@@ -12,3 +12,8 @@ pub mod WholeBlocks
 pub mod Refusals
 pub mod SingleItems
 pub mod SlicedParts
+pub mod Encoders
+pub mod BlockedWidths
+pub mod Words
+pub mod Casts
+pub mod Sources

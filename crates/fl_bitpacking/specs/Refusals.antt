@@ -1,5 +1,5 @@
 -- When parts make a bit-packed array.
-use Rattle.std.specs.Prelude.{◌≡◌, ◌+◌, ◌-◌, ◌*◌, ◌^◌, ◌<◌, ◌==◌, ℕ, Bool, not, List, length, Option, Some, None, Result, Ok, Err, IfSome, IsTrue, nat_le, nat_lt, slice_index, if◌then◌else◌}
+use Rattle.std.specs.Prelude.{◌+◌, ◌-◌, ◌*◌, ◌^◌, ◌<◌, ◌==◌, ℕ, not, List, length, Option, Some, None, Result, Ok, Err, nat_le, nat_lt, slice_index, if◌then◌else◌}
 use Rattle.fl_types.specs.declared.dtype.DType.{DType}
 use Rattle.fl_types.specs.declared.error.FastLanesError.{FastLanesError}
 use Rattle.fl_types.specs.declared.error.FastLanesError.TheVariants.{OffsetTooLarge, LengthOverflow, WidthTooLarge, ValidityLength, PatchType, PatchLength, PackedLength, BlockOffsetsType, BlockOffsetsCount, BlockBoundary, BlockSpan}

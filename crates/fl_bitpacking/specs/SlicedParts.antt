@@ -1,5 +1,5 @@
 -- What a slice of a bit-packed column keeps: the blocks from floor to ceiling.
-use Rattle.std.specs.Prelude.{◌≡◌, None, slice_index, ◌+◌, ◌-◌, ◌/◌, ◌%◌, ℕ, Option, option_and_then}
+use Rattle.std.specs.Prelude.{◌≡◌, None, slice_index, ◌+◌, ◌-◌, ◌/◌, ◌%◌, ℕ, option_and_then}
 use Rattle.fl_types.specs.Bits.{between}
 use Rattle.fl_types.specs.Validities.{validity_between}
 use Rattle.fl_patches.specs.PatchMaps.{slice_patches}

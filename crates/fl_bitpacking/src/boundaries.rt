@@ -1,6 +1,7 @@
 //! The boundaries of blocks that each have a width.
 
-ghost use Rattle.std.specs.Prelude.{◌≡◌, ◌*◌, ◌<◌, ◌^◌, [], IfOk, Ok, SomeIff, length, sum, vec_capacity};
+ghost use Rattle.std.specs.Prelude.{◌≡◌, ◌+◌, ◌*◌, ◌<◌, ◌≤◌, ◌^◌, [], IfOk, Ok, SomeIff, length, replicate, sum, vec_capacity};
+ghost use Rattle.fl_types.specs.Bits.{table};
 ghost use Rattle.fl_types.specs.Refusals.{Answers};
 ghost use Rattle.fl_bitpacking.specs.Blocks.{boundaries_of, boundary_array};
 
@@ -60,4 +61,44 @@ pub(crate) fn boundary_array(
 {
     let boundaries = boundary_numbers(alloc, widths)?;
     index_array(alloc, boundaries, size)
+}
+
+/// The multiples of `step`, from 0 to `count` times.
+fn multiples(alloc: Global, step: u64, count: usize) -> Result<Vec<u64>, AllocError>
+    requires small { step * count < 2 ^ 64 }
+    requires few { count + 1 < 2 ^ 64 }
+    ensures { IfOk result (λ v. v.items ≡ table (λ j. step * j) (count + 1)) }
+{
+    let mut numbers = Vec::with_capacity(alloc, count + 1)?;
+    write_multiples(step, count, &mut numbers);
+    Ok(numbers)
+}
+
+/// Fills an empty list, in which there is room, with the multiples of `step`, from 0 to `count` times.
+fn write_multiples(step: u64, count: usize, numbers: &mut Vec<u64>)
+    requires small { step * count < 2 ^ 64 }
+    requires few { count + 1 < 2 ^ 64 }
+    requires empty { numbers.old.items ≡ [] }
+    requires room { count < vec_capacity numbers.old }
+    ensures { numbers.new.items ≡ table (λ j. step * j) (count + 1) }
+{
+    for j in 0..count + 1 {
+        numbers.push_reserved(step * j as u64);
+    }
+}
+
+/// The boundaries of this many blocks of one width, as an array of the smallest type that holds the last of
+/// them. They are asked for by one allocation.
+pub(crate) fn global_boundary_array(
+    alloc: Global,
+    width: u8,
+    blocks: usize,
+) -> Result<PrimitiveArray, FastLanesError>
+    requires small { 128 * width * blocks < 2 ^ 64 }
+    requires few { 1024 * blocks < 2 ^ 64 }
+    ensures { Answers (λ a. a) result (Ok (boundary_array (replicate blocks width))) }
+{
+    let step = FL_CHUNK_SIZE / 8 * usize::from(width);
+    let boundaries = multiples(alloc, step as u64, blocks)?;
+    index_array(alloc, boundaries, step * blocks)
 }

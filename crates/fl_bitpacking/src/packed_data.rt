@@ -13,13 +13,15 @@ ghost use Rattle.fl_column.specs.Operations.{slice_of};
 ghost use Rattle.fl_column.specs.Questions.{scalar_in};
 ghost use Rattle.fl_patches.specs.PatchMaps.{patched_in, slice_patches};
 ghost use Rattle.fl_column.specs.Numbers.{numbers};
-ghost use Rattle.fl_bitpacking.specs.Blocks.{are_blocks, block_item, boundary_blocks, global_blocks};
+ghost use Rattle.fl_bitpacking.specs.Blocks.{are_blocks, block_item, boundary_array, boundary_blocks, global_blocks};
+ghost use Rattle.fl_bitpacking.specs.BlockedWidths.{width_per_block};
 ghost use Rattle.fl_bitpacking.specs.Columns.{block_count, column_of_packed};
 ghost use Rattle.fl_bitpacking.specs.Parts.{parts_of};
 ghost use Rattle.fl_bitpacking.specs.Refusals.{AreConsistent, blocked_refusal, global_refusal};
-ghost use Rattle.fl_bitpacking.specs.SingleItems.{HasBlock, item_in_block};
+ghost use Rattle.fl_bitpacking.specs.SingleItems.{HasBlock, item_in_block, stored_in_block, stored_scalar};
 ghost use Rattle.fl_bitpacking.specs.SlicedParts.{HasEnds, IsBlockedSlice, end_block, first_block, sliced_parts};
 
+use crate::boundaries::global_boundary_array;
 use crate::decoding::{PackedColumn, unpack_block_item, unpack_blocked, unpack_global};
 use bytes::Bytes;
 use fastlanes::{FL_CHUNK_SIZE, Work};
@@ -353,6 +355,56 @@ impl PackedData {
         self.item_in_block(start - first, (end - start) / (FL_CHUNK_SIZE / 8), i, work)
     }
 
+    /// Item `i` as its bits are stored, whose block starts at byte `start` and has a width: without its patch,
+    /// and also under a null.
+    fn stored_item(&self, start: usize, width: usize, i: usize, work: &mut Work) -> Scalar
+        requires range { i < self.now.len }
+        requires width { width ≤ bits_of_type self.now.ptype }
+        requires room { start + 128 * width ≤ length self.now.packed }
+        ensures item { scalar_parts result ≡ stored_in_block self.now start width i }
+        ensures few { work.new.words ≤ work.old.words + 2 }
+        ensures blocks { work.new.blocks ≡ work.old.blocks }
+    {
+        let value = self.stored_in_block(start, width, i, work);
+        Scalar::primitive(value, self.validity.nullability())
+    }
+
+    /// Item `i` as its bits are stored, where all blocks have one width: without its patch, and also under a
+    /// null.
+    pub fn stored_global(&self, width: usize, i: usize, work: &mut Work) -> Scalar
+        requires global { global_refusal self.now width ≡ None }
+        requires range { i < self.now.len }
+        ensures item { scalar_parts result ≡ stored_scalar self.now (global_blocks width) i }
+        ensures few { work.new.words ≤ work.old.words + 2 }
+        ensures blocks { work.new.blocks ≡ work.old.blocks }
+    {
+        let _size = self.packed.len();
+        let start = FL_CHUNK_SIZE / 8 * width * self.block_of(i);
+        self.stored_item(start, width, i, work)
+    }
+
+    /// Item `i` as its bits are stored, where its block lies between `start` and `end`, of boundaries that begin
+    /// with `first`: without its patch, and also under a null.
+    pub fn stored_blocked(
+        &self,
+        first: usize,
+        start: usize,
+        end: usize,
+        i: usize,
+        work: &mut Work,
+    ) -> Scalar
+        requires range { i < self.now.len }
+        requires first { first ≤ start }
+        requires order { start ≤ end }
+        requires room { end - first ≤ length self.now.packed }
+        requires width { (end - start) / 128 ≤ bits_of_type self.now.ptype }
+        ensures item { (c : Column) → HasBlock c ((self.now.offset + i) / 1024) first start end → scalar_parts result ≡ stored_scalar self.now (boundary_blocks (numbers_of c)) i }
+        ensures few { work.new.words ≤ work.old.words + 2 }
+        ensures blocks { work.new.blocks ≡ work.old.blocks }
+    {
+        self.stored_item(start - first, (end - start) / (FL_CHUNK_SIZE / 8), i, work)
+    }
+
     /// The parts of the items from `start` to below `end`, whose blocks are the bytes from `from` to below `to`.
     pub fn slice(
         &self,
@@ -444,6 +496,39 @@ impl PackedData {
         ensures { result ≡ end_block self.now.offset end }
     {
         chunk_count(self.offset + end)
+    }
+
+    /// The boundaries of the blocks, which all have one width, as an array of the smallest type that holds the
+    /// last of them. They are asked for by one allocation.
+    pub fn global_boundaries(
+        &self,
+        alloc: Global,
+        width: u8,
+    ) -> Result<PrimitiveArray, FastLanesError>
+        requires { global_refusal self.now width ≡ None }
+        ensures boundaries { Answers (λ b. b) result (Ok (boundary_array (width_per_block self.now width))) }
+        ensures blocked { blocked_refusal self.now (column_of_primitive (boundary_array (width_per_block self.now width))) ≡ None }
+        ensures column { column_of_packed self.now (boundary_blocks (numbers_of (column_of_primitive (boundary_array (width_per_block self.now width))))) ≡ column_of_packed self.now (global_blocks width) }
+    {
+        let _size = self.packed.len();
+        global_boundary_array(alloc, width, self.block_count())
+    }
+
+    /// The packed bytes, the validity and the patches.
+    pub fn into_owned(self) -> (Bytes, Validity, Option<Patches>)
+        ensures packed { result.0 ≡ self.packed }
+        ensures validity { result.1 ≡ self.validity }
+        ensures patches { result.2 ≡ self.patches }
+    {
+        let PackedData {
+            packed,
+            ptype: _,
+            validity,
+            patches,
+            offset: _,
+            len: _,
+        } = self;
+        (packed, validity, patches)
     }
 
     /// A copy.

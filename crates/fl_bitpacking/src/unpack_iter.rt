@@ -1,6 +1,6 @@
 //! Reading packed columns block by block.
 
-ghost use Rattle.std.specs.Prelude.{◌≡◌, ◌+◌, ◌-◌, ◌*◌, ◌<◌, ◌≤◌, ◌^◌, ℕ, SomeIff, length, min, if◌then◌else◌};
+ghost use Rattle.std.specs.Prelude.{◌≡◌, ◌+◌, ◌-◌, ◌*◌, ◌<◌, ◌≤◌, ◌^◌, ℕ, List, Option, SomeIff, length, min, if◌then◌else◌};
 ghost use Rattle.fl_types.specs.Integers.{bits_of_type};
 ghost use Rattle.fl_column.specs.Chunks.{chunk_count};
 ghost use Rattle.fl_bitpacking.specs.Blocks.{block_item, value_at};
@@ -52,6 +52,33 @@ impl<T: BitPacked> UnpackStrategy<T> for BitPackingStrategy {
         T::unpack_block(bit_width, chunk, dst, work);
     }
 }
+
+/// Packed blocks that a reader can be made of.
+pub trait PackedSource {
+    /// The bytes of the blocks.
+    ghost bytes: { Self → List ℕ };
+
+    /// The width of all blocks, if they have one.
+    ghost width: { Self → Option ℕ };
+
+    /// The position of the first item in the first block.
+    ghost first: { Self → ℕ };
+
+    /// The bytes of the blocks.
+    fn packed_bytes(&self) -> &[u8]
+        ensures { result.now ≡ bytes self.now };
+
+    /// The width of all blocks, or `None` where each has its own.
+    fn global_width(&self) -> Option<u8>
+        ensures { result ≡ width self.now };
+
+    /// The position of the first item in the first block.
+    fn first_position(&self) -> usize
+        ensures { result ≡ first self.now };
+}
+
+/// A reader that unpacks by the kernels of the layout.
+pub type BitUnpackedChunks<'a, T> = UnpackedChunks<'a, T, BitPackingStrategy>;
 
 /// A packed column that is read block by block: the items of a first block that is cut, or alone, the
 /// items of a last one that is cut, and all of them at once. It keeps no state but its `Work`.
@@ -209,8 +236,38 @@ impl<'a, T: BitPacked, S: UnpackStrategy<T> + Drop> UnpackedChunks<'a, T, S> {
 }
 
 impl<'a, T: BitPacked> UnpackedChunks<'a, T, BitPackingStrategy> {
-    ghost use Rattle.std.specs.Prelude.{◌≡◌};
+    ghost use Rattle.std.specs.Prelude.{◌≡◌, ◌≤◌, IfSome};
+    ghost use Rattle.fl_types.specs.Integers.{bits_of_type};
     ghost use Rattle.fl_bitpacking.specs.Readers.{whole_blocks};
+    ghost use Rattle.fl_bitpacking.specs.Sources.{reader_at};
+
+    /// A reader of this many items of packed blocks that have one width, which is at most the type's bits. The
+    /// scratch block is scratch space.
+    ///
+    /// # Errors
+    /// `NotGlobal` where each block has a width of its own. Then `OffsetTooLarge` where the offset is 1024 or
+    /// more, `LengthOverflow` where offset and length together, rounded up to whole blocks, are above
+    /// `usize::MAX`, and `PackedLength` where the bytes are not those of the blocks.
+    pub fn try_new<D: PackedSource>(
+        data: &'a D,
+        len: usize,
+        scratch: &'a mut [T; FL_CHUNK_SIZE],
+    ) -> Result<Self, FastLanesError>
+        requires { IfSome (D.width data.now) (λ width. width ≤ bits_of_type T.PTYPE) }
+        ensures { result ≡ reader_at (D.bytes data.now) (D.width data.now) (D.first data.now) len }
+    {
+        match data.global_width() {
+            Some(width) => UnpackedChunks::try_new_with_strategy(
+                BitPackingStrategy,
+                data.packed_bytes(),
+                usize::from(width),
+                data.first_position(),
+                len,
+                scratch,
+            ),
+            None => Err(FastLanesError::NotGlobal),
+        }
+    }
 
     /// The blocks that neither `initial` nor `trailer` lends, with a `Work` of their own. They are the
     /// same at every call.

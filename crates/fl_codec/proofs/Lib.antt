@@ -18,3 +18,4 @@ pub mod FoRSlices
 pub mod DeltaSlices
 pub mod RunTypes
 pub mod RunSlices
+pub mod WithoutNulls

@@ -2,6 +2,7 @@
 //! each chunk of 1024.
 
 pub mod single_items;
+mod without_nulls;
 
 ghost use Rattle.std.specs.Prelude.{◌≡◌, ◌<◌, ◌≤◌, ◌+◌, ◌*◌, ◌+ℤ◌, ◌^◌, ◌&&◌, ℤ, pos, List, IsTrue, IfSome, IfOk, Ok, Some, None, length, map, option_map, unwrap_or, slice_index_or, is_none};
 ghost use Rattle.std.specs.List.{list_all};
@@ -18,6 +19,7 @@ ghost use Rattle.fl_codec.specs.FoRColumns.{chunk_leasts, chunk_references, chun
 ghost use Rattle.fl_codec.specs.Parts.{Nulls, encode_chunked, encode_global, for_parts, global_parts, items_of_primitive, less_chunk_leasts, less_reference, less_references, null_constant, reference_scalar};
 
 use crate::chunks::{chunk_count, chunk_end};
+use crate::for_::without_nulls::{chunked_sums, least_of, sums};
 use crate::plain::{non_nullable, under_validity_of};
 use fastlanes::FL_CHUNK_SIZE;
 use fl_column::{ConstantArray, PrimitiveArray, item_at};
@@ -59,8 +61,8 @@ fn lesser<T: NativePType>(least: Option<T>, item: Option<T>) -> Option<T>
     }
 }
 
-/// The least valid item from `start` to below `end`.
-fn least_between<T: NativePType>(
+/// The least valid item from `start` to below `end`, each of which may be null.
+fn least_valid_between<T: NativePType>(
     items: &[T],
     validity: &Validity,
     start: usize,
@@ -76,6 +78,24 @@ fn least_between<T: NativePType>(
         least = lesser(least, item_at(items, validity, i));
     }
     least
+}
+
+/// The least valid item from `start` to below `end`.
+fn least_between<T: NativePType>(
+    items: &[T],
+    validity: &Validity,
+    start: usize,
+    end: usize,
+) -> Option<T>
+    requires covers { IsTrue (covers validity.now (length items.now)) }
+    requires order { start ≤ end }
+    requires range { end ≤ length items.now }
+    ensures { option_map T.value result ≡ least_valid (between start end (items_of validity.now (map T.value items.now))) }
+{
+    match validity {
+        Validity::NonNullable | Validity::AllValid => least_of(&items[start..end]),
+        _ => least_valid_between(items, validity, start, end),
+    }
 }
 
 /// The least valid item of chunk `k`.
@@ -154,11 +174,22 @@ fn difference<T: NativePType + WrappingSub>(item: Option<T>, reference: T) -> T
     }
 }
 
-/// A slot plus a reference, modulo 2 to the type's bits.
-fn sum<T: NativePType + WrappingAdd>(slot: T, reference: T) -> T
-    ensures { T.value result ≡ wrap T.PTYPE (T.value slot +ℤ T.value reference) }
+/// The slots of the items, each of which may be null, less a reference.
+fn valid_differences<T: NativePType + WrappingSub>(
+    alloc: Global,
+    items: &[T],
+    validity: &Validity,
+    reference: T,
+) -> Result<Vec<T>, AllocError>
+    requires { IsTrue (covers validity.now (length items.now)) }
+    ensures long { IfOk result (λ v. length v.items ≡ length items.now) }
+    ensures slots { IfOk result (λ v. map T.value v.items ≡ map (minus_reference T.PTYPE (T.value reference)) (items_of validity.now (map T.value items.now))) }
 {
-    slot.wrapping_add(&reference)
+    let mut slots = Vec::with_capacity(alloc, items.len())?;
+    for i in 0..items.len() {
+        slots.push(difference(item_at(items, validity, i), reference))?;
+    }
+    Ok(slots)
 }
 
 /// The slots of the items less a reference.
@@ -172,8 +203,29 @@ fn differences<T: NativePType + WrappingSub>(
     ensures long { IfOk result (λ v. length v.items ≡ length items.now) }
     ensures slots { IfOk result (λ v. map T.value v.items ≡ map (minus_reference T.PTYPE (T.value reference)) (items_of validity.now (map T.value items.now))) }
 {
+    match validity {
+        Validity::NonNullable | Validity::AllValid => {
+            without_nulls::differences(alloc, items, reference)
+        }
+        _ => valid_differences(alloc, items, validity, reference),
+    }
+}
+
+/// The slots of the items, each of which may be null, less the references of their chunks.
+fn valid_chunked_differences<T: NativePType + WrappingSub>(
+    alloc: Global,
+    items: &[T],
+    validity: &Validity,
+    references: &[T],
+) -> Result<Vec<T>, AllocError>
+    requires covers { IsTrue (covers validity.now (length items.now)) }
+    requires references { length references.now ≡ chunks_of (length items.now) }
+    ensures long { IfOk result (λ v. length v.items ≡ length items.now) }
+    ensures slots { IfOk result (λ v. map T.value v.items ≡ chunked_slots T.PTYPE (map T.value references.now) (items_of validity.now (map T.value items.now))) }
+{
     let mut slots = Vec::with_capacity(alloc, items.len())?;
     for i in 0..items.len() {
+        let reference = references[i / FL_CHUNK_SIZE];
         slots.push(difference(item_at(items, validity, i), reference))?;
     }
     Ok(slots)
@@ -191,12 +243,12 @@ fn chunked_differences<T: NativePType + WrappingSub>(
     ensures long { IfOk result (λ v. length v.items ≡ length items.now) }
     ensures slots { IfOk result (λ v. map T.value v.items ≡ chunked_slots T.PTYPE (map T.value references.now) (items_of validity.now (map T.value items.now))) }
 {
-    let mut slots = Vec::with_capacity(alloc, items.len())?;
-    for i in 0..items.len() {
-        let reference = references[i / FL_CHUNK_SIZE];
-        slots.push(difference(item_at(items, validity, i), reference))?;
+    match validity {
+        Validity::NonNullable | Validity::AllValid => {
+            without_nulls::chunked_differences(alloc, items, references)
+        }
+        _ => valid_chunked_differences(alloc, items, validity, references),
     }
-    Ok(slots)
 }
 
 /// The array less one reference.
@@ -315,40 +367,6 @@ pub fn encode_chunked(alloc: Global, array: &PrimitiveArray) -> Result<EncodedFo
     ensures { Answers for_parts result (Ok (encode_chunked array.now)) }
 {
     match_each_integer_ptype!(array.ptype(), encode_chunked_typed(alloc, array))
-}
-
-/// The slots plus a reference.
-fn sums<T: NativePType + WrappingAdd>(
-    alloc: Global,
-    slots: &[T],
-    reference: T,
-) -> Result<Vec<T>, AllocError>
-    ensures { IfOk result (λ v. map T.value v.items ≡ map (λ z. wrap T.PTYPE (z +ℤ T.value reference)) (map T.value slots.now)) }
-{
-    let mut sums = Vec::with_capacity(alloc, slots.len())?;
-    for slot in slots {
-        sums.push(sum(*slot, reference))?;
-    }
-    Ok(sums)
-}
-
-/// The slots, each plus the reference of its chunk.
-fn chunked_sums<T: NativePType + WrappingAdd>(
-    alloc: Global,
-    slots: &[T],
-    references: &[T],
-    offset: usize,
-) -> Result<Vec<T>, AllocError>
-    requires few { offset + length slots.now < 2 ^ 64 }
-    requires references { chunks_of (offset + length slots.now) ≤ length references.now }
-    ensures long { IfOk result (λ v. length v.items ≡ length slots.now) }
-    ensures sums { IfOk result (λ v. map T.value v.items ≡ chunked_sums T.PTYPE (map T.value references.now) offset (map T.value slots.now)) }
-{
-    let mut sums = Vec::with_capacity(alloc, slots.len())?;
-    for i in 0..slots.len() {
-        sums.push(sum(slots[i], references[(offset + i) / FL_CHUNK_SIZE]))?;
-    }
-    Ok(sums)
 }
 
 fn decode_typed<T: NativePType + WrappingAdd>(

@@ -213,6 +213,16 @@ pub(crate) fn end_of_chunk(offsets: &PrimitiveArray, count: usize, k: usize) -> 
     }
 }
 
+/// The number that an index is, which is below 1024.
+fn index_number<I: NativePType>(index: I) -> u16
+    requires unsigned { IsTrue (is_unsigned I.PTYPE) }
+    requires small { IsTrue (is_run_index 1024 (Some (I.value index))) }
+    ensures { result ≡ unsigned_abs (I.value index) }
+{
+    index.prove_in_range();
+    index.as_i128() as u16
+}
+
 /// The number of the run that an index names, 0 of a null.
 fn run_number<I: NativePType>(index: Option<I>) -> u16
     requires unsigned { IsTrue (is_unsigned I.PTYPE) }
@@ -220,11 +230,39 @@ fn run_number<I: NativePType>(index: Option<I>) -> u16
     ensures { result ≡ unsigned_abs (unwrap_or (option_map I.value index) (pos 0)) }
 {
     match index {
-        Some(index) => {
-            index.prove_in_range();
-            index.as_i128() as u16
-        }
+        Some(index) => index_number(index),
         None => 0,
+    }
+}
+
+/// Writes the numbers of the indices of chunk `k`, none of which is null.
+fn write_valid_numbers<I: NativePType>(indices: &[I], k: usize, numbers: &mut [u16; FL_CHUNK_SIZE])
+    requires unsigned { IsTrue (is_unsigned I.PTYPE) }
+    requires chunk { 1024 * (k + 1) ≤ length indices.now }
+    requires small { (q : ℕ) → q < 1024 → IsTrue (is_run_index 1024 (slice_index_or (map (λ z. Some z) (map I.value indices.now)) (1024 * k + q) None)) }
+    ensures { (q : ℕ) → q < 1024 → slice_index numbers.new q ≡ unsigned_abs (unwrap_or (slice_index_or (map (λ z. Some z) (map I.value indices.now)) (1024 * k + q) None) (pos 0)) }
+{
+    let start = FL_CHUNK_SIZE * k;
+    for q in 0..FL_CHUNK_SIZE {
+        numbers[q] = index_number(indices[start + q]);
+    }
+}
+
+/// Writes the numbers of the indices of chunk `k`, 0 of a null.
+fn write_any_numbers<I: NativePType>(
+    indices: &PrimitiveArray,
+    k: usize,
+    numbers: &mut [u16; FL_CHUNK_SIZE],
+)
+    requires same { indices.now.ptype ≡ I.PTYPE }
+    requires unsigned { IsTrue (is_unsigned indices.now.ptype) }
+    requires chunk { 1024 * (k + 1) ≤ length indices.now.slots }
+    requires small { (q : ℕ) → q < 1024 → IsTrue (is_run_index 1024 (slice_index_or (items_of_primitive indices.now) (1024 * k + q) None)) }
+    ensures { (q : ℕ) → q < 1024 → slice_index numbers.new q ≡ unsigned_abs (unwrap_or (slice_index_or (items_of_primitive indices.now) (1024 * k + q) None) (pos 0)) }
+{
+    let (items, validity) = (indices.as_slice::<I>(), indices.validity());
+    for q in 0..FL_CHUNK_SIZE {
+        numbers[q] = run_number(item_at(items, validity, FL_CHUNK_SIZE * k + q));
     }
 }
 
@@ -239,9 +277,11 @@ fn write_numbers_typed<I: NativePType>(
     requires small { (q : ℕ) → q < 1024 → IsTrue (is_run_index 1024 (slice_index_or (items_of_primitive indices.now) (1024 * k + q) None)) }
     ensures { (q : ℕ) → q < 1024 → slice_index numbers.new q ≡ unsigned_abs (unwrap_or (slice_index_or (items_of_primitive indices.now) (1024 * k + q) None) (pos 0)) }
 {
-    let (items, validity) = (indices.as_slice::<I>(), indices.validity());
-    for q in 0..FL_CHUNK_SIZE {
-        numbers[q] = run_number(item_at(items, validity, FL_CHUNK_SIZE * k + q));
+    match indices.validity() {
+        Validity::NonNullable | Validity::AllValid => {
+            write_valid_numbers(indices.as_slice::<I>(), k, numbers);
+        }
+        _ => write_any_numbers::<I>(indices, k, numbers),
     }
 }
 

@@ -2,3 +2,10 @@ mod Answered
 mod Filters
 mod Runs
 mod Truths
+mod Shown
+mod SelectedLaws
+mod CastedLaws
+mod CastedTrees
+mod NormalizedLaws
+mod ComparedLaws
+mod NegatedLaws

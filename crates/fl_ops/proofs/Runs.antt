@@ -1,36 +1,49 @@
 -- A run of operations, one step at a time.
-use Rattle.std.proofs.Common.{◌≡◌, ℕ, ◌+◌, ◌<◌, List, length, drop, get_or, refl, ap, sym, ◌∙◌, add-one, drop-cons}
+use Rattle.std.proofs.Common.{◌≡◌, ℕ, ◌+◌, ◌<◌, List, [], ◌∷◌, length, drop, get_or, map, refl, ap, sym, subst, ◌∙◌, add-one, drop-cons}
 use Rattle.std.specs.Prelude.{Result, Ok, Err}
 use Rattle.fl_column.specs.Columns.{Column}
 use Rattle.fl_types.specs.declared.error.FastLanesError.{FastLanesError}
 use Rattle.fl_types.specs.Refusals.{Refuses}
 use Rattle.fl_types.proofs.RefusalLaws.{Refuses_map}
 use Rattle.fl_ops.specs.declared.operations.Op.{Op}
-use Rattle.fl_array.specs.Kinds.{Kind}
-use Rattle.fl_ops.specs.Operations.{and_then, run, run_kind, step, step_kind}
+use Rattle.fl_array.specs.Trees.{Tree}
+use Rattle.fl_ops.specs.Operations.{Step, and_then, run_columns, step_column, step_of}
+use Rattle.fl_ops.specs.Normalized.{SameShown}
+use Rattle.fl_ops.specs.Results.{IsResult, result_of}
+
+-- what is left to do from an operation on
+abbrev pub steps_from : List Op → ℕ → List Step
+steps_from ops i = map step_of (drop i ops)
 
 -- the next operation, and then the rest
-pub run_next : (c : Column) (ops : List Op) (i : ℕ) (d : Op) → i < length ops → run c (drop i ops) ≡ and_then (step c (get_or ops i d)) (λ x. run x (drop (i + 1) ops))
+pub run_next : (c : Column) (ops : List Op) (i : ℕ) (d : Op) → i < length ops → run_columns c (steps_from ops i) ≡ and_then (step_column c (step_of (get_or ops i d))) (λ x. run_columns x (steps_from ops (i + 1)))
 run_next c ops i d h = rw (add-one, drop-cons ops i d) refl
 
 -- what the next operation refuses the run refuses
-pub run_refuses : (e : FastLanesError) (c : Column) (ops : List Op) (i : ℕ) (op : Op) → i < length ops → op ≡ get_or ops i op → Refuses e (step c op) → Refuses e (run c (drop i ops))
+pub run_refuses : (e : FastLanesError) (c : Column) (ops : List Op) (i : ℕ) (op : Op) → i < length ops → op ≡ get_or ops i op → Refuses e (step_column c (step_of op)) → Refuses e (run_columns c (steps_from ops i))
 run_refuses e c ops i op h at r =
-    let refused : step c op ≡ Err e → run c (drop i ops) ≡ Err e =
-    λ (s : step c op ≡ Err e). run_next c ops i op h ∙ ap (λ (o : Op). and_then (step c o) (λ x. run x (drop (i + 1) ops))) (sym at) ∙ ap (λ (m : Result Column FastLanesError). and_then m (λ x. run x (drop (i + 1) ops))) s in
-    Refuses_map e (step c op) (run c (drop i ops)) refused r
+    let refused : step_column c (step_of op) ≡ Err e → run_columns c (steps_from ops i) ≡ Err e =
+    λ (s : step_column c (step_of op) ≡ Err e). run_next c ops i op h ∙ ap (λ (o : Op). and_then (step_column c (step_of o)) (λ x. run_columns x (steps_from ops (i + 1)))) (sym at) ∙ ap (λ (m : Result Column FastLanesError). and_then m (λ x. run_columns x (steps_from ops (i + 1)))) s in
+    Refuses_map e (step_column c (step_of op)) (run_columns c (steps_from ops i)) refused r
 
 -- what it makes the rest go on from
-pub run_goes_on : (c d : Column) (ops : List Op) (i : ℕ) (op : Op) → i < length ops → op ≡ get_or ops i op → step c op ≡ Ok d → run d (drop (i + 1) ops) ≡ run c (drop i ops)
+pub run_goes_on : (c d : Column) (ops : List Op) (i : ℕ) (op : Op) → i < length ops → op ≡ get_or ops i op → step_column c (step_of op) ≡ Ok d → run_columns d (steps_from ops (i + 1)) ≡ run_columns c (steps_from ops i)
 run_goes_on c d ops i op h at s =
-    sym (run_next c ops i op h ∙ ap (λ (o : Op). and_then (step c o) (λ x. run x (drop (i + 1) ops))) (sym at) ∙ ap (λ (m : Result Column FastLanesError). and_then m (λ x. run x (drop (i + 1) ops))) s)
+    sym (run_next c ops i op h ∙ ap (λ (o : Op). and_then (step_column c (step_of o)) (λ x. run_columns x (steps_from ops (i + 1)))) (sym at) ∙ ap (λ (m : Result Column FastLanesError). and_then m (λ x. run_columns x (steps_from ops (i + 1)))) s)
 
--- the kind after the next operation, and then after the rest
-pub run_kind_step : (k : Kind) (ops : List Op) (i : ℕ) (d : Op) → i < length ops → run_kind k (drop i ops) ≡ run_kind (step_kind k (get_or ops i d)) (drop (i + 1) ops)
-run_kind_step k ops i d h = rw (add-one, drop-cons ops i d h) refl
+-- ---- arrays
+-- the next operation's array, and then the rest
+pub result_next : (t next last : Tree) (ops : List Op) (i : ℕ) (op : Op) → i < length ops → op ≡ get_or ops i op → SameShown next (result_of (step_of op) t) → IsResult next (steps_from ops (i + 1)) last → IsResult t (steps_from ops i) last
+result_next t next last ops i op h at made rest =
+    let steps : steps_from ops i ≡ map step_of (get_or ops i op ∷ drop (i + 1) ops) = rw (add-one, drop-cons ops i op) refl in
+    let whole : IsResult t (map step_of (op ∷ drop (i + 1) ops)) last = (next, (made, rest)) in
+    subst (λ (s : List Step). IsResult t s last) (ap (λ (o : Op). map step_of (o ∷ drop (i + 1) ops)) at ∙ sym steps) whole
 
--- the kind that an operation gives goes on to the rest
-pub run_kind_next : (k : Kind) (ops : List Op) (i : ℕ) (op : Op) → i < length ops → op ≡ get_or ops i op → run_kind (step_kind k op) (drop (i + 1) ops) ≡ run_kind k (drop i ops)
-run_kind_next k ops i op h at = ap (λ (o : Op). run_kind (step_kind k o) (drop (i + 1) ops)) at ∙ sym (run_kind_step k ops i op h)
+-- each array that what is left makes of the one so far is made by all of the first
+abbrev pub LeadsOn : Tree → List Op → ℕ → Tree → List Op → Type 0
+LeadsOn current rest i first ops = (last : Tree) → IsResult current (steps_from rest i) last → IsResult first (map step_of ops) last
 
-pub ruleset runs = (run_refuses, run_goes_on, run_kind_next)
+pub leads_on : (current next first : Tree) (rest ops : List Op) (i : ℕ) (op : Op) → i < length rest → op ≡ get_or rest i op → SameShown next (result_of (step_of op) current) → LeadsOn current rest i first ops → LeadsOn next rest (i + 1) first ops
+leads_on current next first rest ops i op h at made so_far last result = so_far last (result_next current next last rest i op h at made result)
+
+pub ruleset runs = (run_refuses, run_goes_on, leads_on)

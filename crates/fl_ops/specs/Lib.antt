@@ -1,2 +1,6 @@
 pub mod Operations
 pub mod Questions
+pub mod Normalized
+pub mod Results
+pub mod Selections
+pub mod CastForms

@@ -1,8 +1,11 @@
 -- Questions, and what a column answers.
-use Rattle.std.specs.Prelude.{◌&&◌, ◌||◌, ℤ, pos, Bool, true, not, Result, Ok, Err, is_some, unwrap_or}
+use Rattle.std.specs.Prelude.{◌&&◌, ◌||◌, ℤ, pos, Bool, true, false, not, Result, Ok, Err, is_some, map, option_map, unwrap_or}
 use Rattle.fl_types.specs.declared.error.FastLanesError.{FastLanesError}
+use Rattle.fl_types.specs.declared.query.CompareOperator.{CompareOperator}
+use Rattle.fl_types.specs.declared.query.CompareOperator.TheVariants.{Eq, NotEq, Gt, Gte, Lt, Lte}
 use Rattle.fl_types.specs.Types.{is_integer, same_type}
-use Rattle.fl_types.specs.Values.{ScalarParts, scalar_parts}
+use Rattle.fl_types.specs.Values.{ScalarParts, bool_number, scalar_parts}
+use Rattle.std.specs.Ordering.{int_eq}
 use Rattle.fl_column.specs.Columns.{Column, column_of_bools}
 use Rattle.fl_column.specs.Questions.{between_column, compare_column, is_constant_column, is_sorted_column, scalar_of_column}
 use Rattle.fl_array.specs.Kinds.{Kind, has_delta}
@@ -18,6 +21,19 @@ integer_in constant = unwrap_or constant.value (pos 0)
 -- the constant is of the column's type and not null, where the column is of integers
 abbrev pub is_comparable : Column → ScalarParts → Bool
 is_comparable c constant = not (is_integer c.dtype) || (same_type c.dtype constant.dtype && is_some constant.value)
+
+-- the operator tests equality
+abbrev pub is_equality : CompareOperator → Bool
+is_equality Eq = true
+is_equality NotEq = true
+is_equality Gt = false
+is_equality Gte = false
+is_equality Lt = false
+is_equality Lte = false
+
+-- the other truth value in each place, a null at a null
+abbrev pub negated : Column → Column
+negated c = record { dtype = c.dtype; items = map (option_map (λ z. bool_number (int_eq z (pos 0)))) c.items }
 
 -- what an answer says: an item, a column of bools, or one bool
 pub data Reply : Type 0 where

@@ -7,22 +7,24 @@ ghost use Rattle.fl_types.specs.Refusals.{Answers};
 ghost use Rattle.fl_types.specs.Types.{has_ptype, is_integer};
 ghost use Rattle.fl_types.specs.Values.{scalar_parts, integer_of, ptype_of_value};
 ghost use Rattle.fl_column.specs.Columns.{column_of_bools};
-ghost use Rattle.fl_column.specs.Operations.{cast_column, filter_column, ranges_column, take_column};
+ghost use Rattle.fl_column.specs.Operations.{cast_column, filter_column, ranges_column, ranges_of, take_column, take_of};
 ghost use Rattle.fl_column.specs.Questions.{between_column, compare_column, is_constant_column, is_sorted_column};
-ghost use Rattle.fl_array.specs.Kinds.{IsPrimitive, kind};
 ghost use Rattle.fl_array.specs.Trees.{Tree, column};
-ghost use Rattle.fl_ops.specs.Operations.{filter_kind};
+ghost use Rattle.fl_ops.specs.Normalized.{SameShown};
+ghost use Rattle.fl_ops.specs.Results.{cast_to, filtered, picked};
 ghost use Rattle.fl_ops.specs.Questions.{integer_in, is_comparable};
 
-use crate::plain_ops;
-use fl_array::{ArrayRef, IntoArray};
+use crate::selection::{Selection, select};
+use crate::{casting, equality, plain_ops};
+use fl_array::ArrayRef;
 use fl_column::{
     BetweenOptions, BoolArray, CompareOperator, DType, FastLanesError, Mask, PValue, Scalar,
 };
 use std::alloc::Global;
 
 /// Operations and questions on arrays of integers. Each refuses a Bool array with `NotInteger`.
-/// Where no other result is stated, it is a plain array.
+/// Takes and filters of a FoR array of one reference give such an array over the encoded array's
+/// result, and plain arrays of all other kinds.
 pub trait ArrayOps {
     /// The tree of the array.
     ghost tree: { Self → Tree };
@@ -35,7 +37,7 @@ pub trait ArrayOps {
     /// index is negative or not below the length.
     fn take(&self, alloc: Global, indices: &ArrayRef) -> Result<ArrayRef, FastLanesError>
         ensures column { Answers column result (take_column (column indices.now) (column (tree self.now))) }
-        ensures kind { IfOk result (λ a. kind a ≡ IsPrimitive) };
+        ensures tree { IfOk result (λ a. SameShown a (picked (take_of (column indices.now)) (tree self.now))) };
 
     /// The items of the ranges, each a start and a length, one range after another. A range without
     /// items is skipped, wherever it starts.
@@ -49,7 +51,7 @@ pub trait ArrayOps {
         ranges: &[(usize, usize)],
     ) -> Result<ArrayRef, FastLanesError>
         ensures column { Answers column result (ranges_column ranges.now (column (tree self.now))) }
-        ensures kind { IfOk result (λ a. kind a ≡ IsPrimitive) };
+        ensures tree { IfOk result (λ a. SameShown a (picked (ranges_of ranges.now) (tree self.now))) };
 
     /// The items at the mask's true places, in order. The mask has the array's length; one that
     /// keeps all items by its form gives a copy.
@@ -59,10 +61,14 @@ pub trait ArrayOps {
     fn filter(&self, alloc: Global, mask: &Mask) -> Result<ArrayRef, FastLanesError>
         requires { mask_len mask.now ≡ length (column (tree self.now)).items }
         ensures column { Answers column result (filter_column mask.now (column (tree self.now))) }
-        ensures kind { IfOk result (λ a. kind a ≡ filter_kind mask.now (kind (tree self.now))) }
+        ensures tree { IfOk result (λ a. SameShown a (filtered mask.now (tree self.now))) }
         ensures copy { (len : ℕ) → mask.now ≡ AllTrue len → IsTrue (is_integer (column (tree self.now)).dtype) → Answers (λ a. a) result (Ok (tree self.now)) };
 
-    /// The same integers in another type.
+    /// The same integers in another type. Where the integer type stays, a bit-packed array of one
+    /// width keeps its packed bytes, a delta array its bases and deltas, unless nulls may stand in
+    /// it and not in the target, and a FoR array its references over the encoded array's cast. A
+    /// run-length encoded array stays one where all its run values and run indices have a cast. All
+    /// else becomes a plain array.
     ///
     /// # Errors
     /// `NotInteger` where the array or the target is not of integers, then `CastNull` where an item
@@ -70,7 +76,7 @@ pub trait ArrayOps {
     /// item.
     fn cast(&self, alloc: Global, target: DType) -> Result<ArrayRef, FastLanesError>
         ensures column { Answers column result (cast_column target (column (tree self.now))) }
-        ensures kind { IfOk result (λ a. kind a ≡ IsPrimitive) };
+        ensures tree { IfOk result (λ a. SameShown a (cast_to target (tree self.now))) };
 
     /// How each item compares with a constant of the array's type that is not null; a null stays a
     /// null.
@@ -135,7 +141,7 @@ impl ArrayOps for ArrayRef {
     ghost tree = { λ a. a };
 
     fn take(&self, alloc: Global, indices: &ArrayRef) -> Result<ArrayRef, FastLanesError> {
-        Ok(plain_ops::take(alloc, self, indices)?.into_array())
+        select(alloc, self, Selection::Indices(indices))
     }
 
     fn take_ranges(
@@ -143,7 +149,7 @@ impl ArrayOps for ArrayRef {
         alloc: Global,
         ranges: &[(usize, usize)],
     ) -> Result<ArrayRef, FastLanesError> {
-        Ok(plain_ops::take_ranges(alloc, self, ranges)?.into_array())
+        select(alloc, self, Selection::Ranges(ranges))
     }
 
     #[tactic(auto, using(crate::proofs::Filters::all_kept))]
@@ -153,12 +159,12 @@ impl ArrayOps for ArrayRef {
         };
         match mask {
             Mask::AllTrue(_) => self.try_clone(alloc),
-            _ => Ok(plain_ops::filter(alloc, self, mask)?.into_array()),
+            _ => select(alloc, self, Selection::Mask(mask)),
         }
     }
 
     fn cast(&self, alloc: Global, target: DType) -> Result<ArrayRef, FastLanesError> {
-        Ok(plain_ops::cast(alloc, self, target)?.into_array())
+        casting::cast(alloc, self, target)
     }
 
     fn compare(
@@ -170,7 +176,7 @@ impl ArrayOps for ArrayRef {
         let DType::Primitive(_, _) = self.dtype() else {
             return Err(FastLanesError::NotInteger);
         };
-        plain_ops::compare(alloc, self, operator, integer_for(self, constant))
+        equality::compare(alloc, self, operator, integer_for(self, constant))
     }
 
     fn between(
@@ -188,7 +194,7 @@ impl ArrayOps for ArrayRef {
     }
 
     fn is_constant(&self, alloc: Global) -> Result<bool, FastLanesError> {
-        plain_ops::is_constant(alloc, self)
+        equality::is_constant(alloc, self)
     }
 
     fn is_sorted(&self, alloc: Global, strict: bool) -> Result<bool, FastLanesError> {

@@ -2,9 +2,13 @@
 #![tactic(auto)]
 
 pub mod array_ops;
+mod casting;
+mod equality;
+pub mod laws;
 pub mod operations;
 mod plain_ops;
 pub mod questions;
+mod selection;
 
 pub use crate::array_ops::ArrayOps;
 pub use crate::operations::{Op, apply_all};

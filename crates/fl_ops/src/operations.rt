@@ -1,11 +1,13 @@
 //! Lists of operations on arrays.
 
-ghost use Rattle.std.specs.Prelude.{◌≡◌, [], IfOk, Ok};
+ghost use Rattle.std.specs.Prelude.{◌≡◌, [], IfOk, Ok, map};
 ghost use Rattle.fl_types.specs.Refusals.{Answers};
 ghost use Rattle.fl_column.specs.Operations.{filter_column, slice_column};
-ghost use Rattle.fl_array.specs.Kinds.{kind, slice_kind};
+ghost use Rattle.fl_array.specs.Slices.{slice_tree};
 ghost use Rattle.fl_array.specs.Trees.{column};
-ghost use Rattle.fl_ops.specs.Operations.{filter_kind, run, run_kind, step, step_kind};
+ghost use Rattle.fl_ops.specs.Normalized.{SameShown};
+ghost use Rattle.fl_ops.specs.Operations.{run_columns, step_column, step_of};
+ghost use Rattle.fl_ops.specs.Results.{IsResult, filtered, result_of};
 
 use crate::array_ops::ArrayOps;
 use fl_array::ArrayRef;
@@ -35,7 +37,7 @@ fn slice_within(
     range: &Range<usize>,
 ) -> Result<ArrayRef, FastLanesError>
     ensures column { Answers column result (slice_column range.now.start range.now.end (column array.now)) }
-    ensures kind { IfOk result (λ a. kind a ≡ slice_kind (kind array.now)) }
+    ensures tree { IfOk result (λ a. a ≡ slice_tree range.now.start range.now.end array.now) }
 {
     if range.start > range.end || range.end > array.len() {
         return Err(FastLanesError::RangeOutOfBounds);
@@ -46,7 +48,7 @@ fn slice_within(
 /// The items that a mask keeps, where it has the array's length.
 fn filter_within(alloc: Global, array: &ArrayRef, mask: &Mask) -> Result<ArrayRef, FastLanesError>
     ensures column { Answers column result (filter_column mask.now (column array.now)) }
-    ensures kind { IfOk result (λ a. kind a ≡ filter_kind mask.now (kind array.now)) }
+    ensures tree { IfOk result (λ a. SameShown a (filtered mask.now array.now)) }
 {
     if mask.len() != array.len() {
         return Err(FastLanesError::MaskLength);
@@ -55,9 +57,9 @@ fn filter_within(alloc: Global, array: &ArrayRef, mask: &Mask) -> Result<ArrayRe
 }
 
 /// What an operation makes of an array.
-fn apply(alloc: Global, array: &ArrayRef, op: &Op) -> Result<ArrayRef, FastLanesError>
-    ensures column { Answers column result (step (column array.now) op.now) }
-    ensures kind { IfOk result (λ a. kind a ≡ step_kind (kind array.now) op.now) }
+pub(crate) fn apply(alloc: Global, array: &ArrayRef, op: &Op) -> Result<ArrayRef, FastLanesError>
+    ensures column { Answers column result (step_column (column array.now) (step_of op.now)) }
+    ensures tree { IfOk result (λ a. SameShown a (result_of (step_of op.now) array.now)) }
 {
     match op {
         Op::Slice(range) => slice_within(alloc, array, range),
@@ -75,8 +77,8 @@ fn apply(alloc: Global, array: &ArrayRef, op: &Op) -> Result<ArrayRef, FastLanes
 /// `MaskLength` of a filter by a mask of another length, else as the calls of `ArrayOps` do.
 #[tactic(auto, using(crate::proofs::Runs::runs))]
 pub fn apply_all(alloc: Global, array: &ArrayRef, ops: &[Op]) -> Result<ArrayRef, FastLanesError>
-    ensures column { Answers column result (run (column array.now) ops.now) }
-    ensures kind { IfOk result (λ a. kind a ≡ run_kind (kind array.now) ops.now) }
+    ensures column { Answers column result (run_columns (column array.now) (map step_of ops.now)) }
+    ensures tree { IfOk result (λ a. IsResult array.now (map step_of ops.now) a) }
     ensures copy { ops.now ≡ [] → Answers (λ a. a) result (Ok array.now) }
 {
     let Some((first, rest)) = ops.split_first() else {

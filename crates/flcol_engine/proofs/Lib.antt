@@ -5,3 +5,10 @@ pub mod IntegerLemmas
 pub mod ParseLemmas
 pub mod ColumnLemmas
 pub mod PrintLemmas
+pub mod WordLemmas
+pub mod AnswerLemmas
+pub mod OperationLemmas
+pub mod ConstantLemmas
+pub mod EncodingLemmas
+mod EncodingExamples
+pub mod RunLemmas

@@ -1,45 +1,59 @@
--- The words of a run, and how it ends.
-use Rattle.std.specs.Prelude.{◌≡◌, ◌↔◌, ◌-◌, ◌==◌, ℕ, List, [], ◌∷◌, ◌++◌, Bool, Option, Some, None, if◌then◌else◌, bytes_eq, codes, length, slice_index, take, option_map, option_and_then, Result, Ok, Err, IfSome, IsErrOf, OnOk, IsTrue, true}
-use Rattle.fl_types.specs.declared.dtype.Nullability.{Nullability}
-use Rattle.fl_types.specs.declared.dtype.Nullability.TheVariants.{NonNullable, Nullable}
-use Rattle.fl_types.specs.declared.dtype.PType.{PType}
-use Rattle.fl_types.specs.declared.dtype.PType.TheVariants.{U8, U16, U32, U64, I8, I16, I32, I64}
-use Rattle.flcol_engine.specs.declared.words.Pack.{Pack}
+-- The command that words give, and how its run ends.
+use Rattle.std.specs.Prelude.{◌≡◌, ◌↔◌, ℕ, List, [], ◌∷◌, ◌++◌, map, Bool, Option, Some, None, if◌then◌else◌, bytes_eq, codes, option_map, Result, Ok, Err, IfSome, IsErrOf, OnOk, IsTrue, true, ◌⊎◌}
+use Rattle.fl_ops.specs.Operations.{step_of}
+use Rattle.flcol_engine.specs.declared.commands.Command.{Command}
+use Rattle.flcol_engine.specs.declared.commands.Command.TheVariants as commands
+use Rattle.flcol_engine.specs.declared.commands.Encode.{Encode}
+use Rattle.flcol_engine.specs.declared.commands.Pack.{Pack}
+use Rattle.flcol_engine.specs.declared.commands.Run.{Run}
 use Rattle.flcol_engine.specs.declared.fault.Fault.{Fault}
 use Rattle.flcol_engine.specs.declared.fault.Fault.TheVariants as faults
-use Rattle.flcol_engine.specs.Text.{number_up_to}
-use Rattle.flcol_engine.specs.Faults.{fault_line}
+use Rattle.flcol_engine.specs.Ends.{AppendsUnless}
+use Rattle.flcol_engine.specs.Faults.{fault_line, out_of_memory}
+use Rattle.flcol_engine.specs.Outputs.{IsEncodeOutput, IsOutcomeOf, IsRunOutput}
 use Rattle.flcol_engine.specs.Engine.{IsPackOutcome, ReadsAll, IsSilent}
+use Rattle.flcol_engine.specs.Words.{RunParts, both, column_type_in_word, encoding_in_word, run_in_words, width_in_word}
 
--- the integer type that a word names
-abbrev pub ptype_in_word : List ℕ → Option PType
-ptype_in_word w =
-    if bytes_eq w (codes "u8") then Some U8 else
-    if bytes_eq w (codes "u16") then Some U16 else
-    if bytes_eq w (codes "u32") then Some U32 else
-    if bytes_eq w (codes "u64") then Some U64 else
-    if bytes_eq w (codes "i8") then Some I8 else
-    if bytes_eq w (codes "i16") then Some I16 else
-    if bytes_eq w (codes "i32") then Some I32 else
-    if bytes_eq w (codes "i64") then Some I64 else None
+-- ---- commands
+-- a command: packing a text column at a width, encoding one, or operations on the column of a container and a question
+pub data CommandParts : Type 0 where
+  PackParts : Pack → CommandParts
+  EncodeParts : Encode → CommandParts
+  OfRun : RunParts → CommandParts
 
--- the type of a text column that a word names: an integer type, and a question mark behind it where nulls may stand
-abbrev pub column_type_in_word : List ℕ → Option (PType × Nullability)
-column_type_in_word w =
-    if slice_index w (length w - 1) == 63
-    then option_map (λ ptype. (ptype, Nullable)) (ptype_in_word (take (length w - 1) w))
-    else option_map (λ ptype. (ptype, NonNullable)) (ptype_in_word w)
+-- a run, as contracts see its parts
+abbrev pub parts_of_run : Run → RunParts
+parts_of_run run = record { operations = map step_of run.ops.items; question = run.question }
 
--- the width that a word says
-abbrev pub width_in_word : List ℕ → Option ℕ
-width_in_word w = number_up_to 255 w
+-- a command, as contracts see its parts
+abbrev pub parts_of_command : Command → CommandParts
+parts_of_command (commands.Pack pack) = PackParts pack
+parts_of_command (commands.Encode encode) = EncodeParts encode
+parts_of_command (commands.Run run) = OfRun (parts_of_run run)
+
+-- what the words of `pack` say: a type and a width
+abbrev pub pack_in_words : List ℕ → List ℕ → Option Pack
+pack_in_words column_type width = both (λ t w. record { ptype = t.0; nullability = t.1; width = w }) (column_type_in_word column_type) (width_in_word width)
+
+-- what the words of `encode` say: a type and an encoding
+abbrev pub encode_in_words : List ℕ → List ℕ → Option Encode
+encode_in_words column_type encoding = both (λ t e. record { ptype = t.0; nullability = t.1; encoding = e }) (column_type_in_word column_type) (encoding_in_word encoding)
+
+-- the command that a name and two words give: `pack` or `encode`
+abbrev pub column_command : List ℕ → List ℕ → List ℕ → Option CommandParts
+column_command name column_type last =
+    if bytes_eq name (codes "pack") then option_map PackParts (pack_in_words column_type last) else
+    if bytes_eq name (codes "encode") then option_map EncodeParts (encode_in_words column_type last) else None
+
+-- the command that three words give
+abbrev pub column_command_of : List (List ℕ) → Option CommandParts
+column_command_of (name ∷ column_type ∷ last ∷ []) = column_command name column_type last
+column_command_of other = None
 
 -- the command that words give
-abbrev pub command_of : List (List ℕ) → Option Pack
-command_of (word ∷ column_type ∷ width ∷ []) = if bytes_eq word (codes "pack")
-    then option_and_then (λ t. option_map (λ w. record { ptype = t.0; nullability = t.1; width = w }) (width_in_word width)) (column_type_in_word column_type)
-    else None
-command_of _ = None
+abbrev pub command_of : List (List ℕ) → Option CommandParts
+command_of [] = None
+command_of (name ∷ words) = if bytes_eq name (codes "run") then option_map OfRun (run_in_words words) else column_command_of (name ∷ words)
 
 -- the line that says how the program is called
 abbrev pub usage_line : List ℕ
@@ -55,9 +69,19 @@ abbrev pub report_of : Result (Unit {0}) Fault → List ℕ
 report_of (Ok _) = []
 report_of (Err e) = fault_line e
 
+-- words that give no command are answered by the usage line and status 2, unless memory ran out
+abbrev pub IsUsage : ℕ → Bool → Option (List ℕ) → Option (List ℕ) → Type 0
+IsUsage status failed old new = ((status ≡ 2) × AppendsUnless failed old new usage_line) ⊎ ((status ≡ 1) × AppendsUnless failed old new (fault_line out_of_memory))
+
+-- how a command that reads this text has ended
+abbrev pub IsCommandOutcome : CommandParts → List ℕ → Result (Unit {0}) Fault → Option (List ℕ) → Option (List ℕ) → Type 0
+IsCommandOutcome (PackParts pack) text outcome old new = IsPackOutcome outcome pack text old new
+IsCommandOutcome (EncodeParts encode) text outcome old new = IsOutcomeOf (IsEncodeOutput encode text) outcome old new
+IsCommandOutcome (OfRun run) text outcome old new = IsOutcomeOf (IsRunOutput run text) outcome old new
+
 -- a run of a command ends with this outcome: what it read, what it wrote, and that it names a fault of an end exactly where that end failed
-pub record IsRun (command : Pack) (outcome : Result (Unit {0}) Fault) (input left : Option (List ℕ)) (source_failed : Bool) (old new : Option (List ℕ)) (sink_failed sink_flushed : Bool) : Type 0 where
-  pub answer : IfSome input (λ text. IsPackOutcome outcome command text old new)
+pub record IsRun (command : CommandParts) (outcome : Result (Unit {0}) Fault) (input left : Option (List ℕ)) (source_failed : Bool) (old new : Option (List ℕ)) (sink_failed sink_flushed : Bool) : Type 0 where
+  pub answer : IfSome input (λ text. IsCommandOutcome command text outcome old new)
   pub whole : ReadsAll outcome left
   pub silent : IsSilent outcome old new
   pub flushed : OnOk outcome (sink_flushed ≡ true)

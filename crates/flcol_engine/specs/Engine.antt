@@ -6,17 +6,12 @@ use Rattle.fl_types.specs.declared.error.FastLanesError.TheVariants as errors
 use Rattle.fl_types.specs.Integers.{bits_of_type}
 use Rattle.fl_column.specs.Columns.{Column, integers_in, ptype_of_column}
 use Rattle.fl_bitpacking.specs.Blocks.{ArePacked, global_blocks}
-use Rattle.flcol_engine.specs.declared.words.Pack.{Pack}
+use Rattle.flcol_engine.specs.declared.commands.Pack.{Pack}
 use Rattle.flcol_engine.specs.declared.fault.Fault.{Fault}
 use Rattle.flcol_engine.specs.declared.fault.Fault.TheVariants as faults
 use Rattle.flcol_engine.specs.Ends.{AppendsFront}
 use Rattle.flcol_engine.specs.Faults.{out_of_memory}
 use Rattle.flcol_engine.specs.Text.{column_in_text}
-
--- what a call returned stands in this relation to what is expected, or is the expected fault, unless memory ran out
-abbrev pub IsOutcome : {X Y : Type 0} → (Y → X → Type 0) → Result X Fault → Result Y Fault → Type 0
-IsOutcome Means (Ok x) expected = IsOkAnd expected (λ y. Means y x)
-IsOutcome Means (Err e) expected = e ≢ out_of_memory → expected ≡ Err e
 
 -- ---- pack
 -- the column that a text says and that is packed at a width, or what the packing is refused with

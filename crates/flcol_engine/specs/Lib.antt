@@ -2,4 +2,9 @@ pub mod Ends
 pub mod Text
 pub mod Faults
 pub mod Engine
+pub mod Printing
+pub mod Words
+pub mod Replies
+pub mod Encodings
+pub mod Outputs
 pub mod Command

@@ -3,9 +3,10 @@
 ghost use Rattle.std.specs.Prelude.{◌≡◌};
 ghost use Rattle.fl_types.specs.declared.error.FastLanesError.TheVariants.{OutOfMemory};
 ghost use Rattle.flcol_engine.specs.declared.fault.Fault.TheVariants as faults;
-ghost use Rattle.flcol_engine.specs.Faults.{fault_line, fault_number};
+ghost use Rattle.flcol_engine.specs.Faults.{fault_line, fault_number, of_container};
 
 use crate::ends::{ReadFault, WriteFault};
+use flcol_container::ContainerError;
 use std::alloc::{AllocError, AllocFailed};
 use thiserror::Error;
 use vortex_fastlanes::FastLanesError;
@@ -88,6 +89,17 @@ impl From<FastLanesError> for Fault {
 
     fn from(error: FastLanesError) -> Fault {
         Fault::Refused(error)
+    }
+}
+
+impl From<ContainerError> for Fault {
+    ghost from_gives = { λ error fault. fault ≡ of_container error };
+
+    fn from(error: ContainerError) -> Fault {
+        match error {
+            ContainerError::OutOfMemory => Fault::Refused(FastLanesError::OutOfMemory),
+            ContainerError::BadContainer => Fault::BadContainer,
+        }
     }
 }
 

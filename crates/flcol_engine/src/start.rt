@@ -4,13 +4,18 @@ ghost use Rattle.std.specs.Prelude.{◌≡◌, false, map, string_bytes, Result,
 ghost use Rattle.flcol_engine.specs.declared.fault.Fault.{Fault};
 ghost use Rattle.flcol_engine.specs.Ends.{AppendsUnless};
 ghost use Rattle.flcol_engine.specs.Faults.{fault_line};
-ghost use Rattle.flcol_engine.specs.Command.{command_of, usage_line, status_of, report_of, IsRun};
+ghost use Rattle.flcol_engine.specs.Command.{IsRun, IsUsage, command_of, parts_of_command, report_of, status_of, usage_line};
 
+use crate::commands::Command;
 use crate::ends::{Sink, Source};
 use crate::fault::Fault;
 use crate::transfer::write_all;
 use crate::{engine, words};
 use std::alloc::Global;
+use vortex_fastlanes::FastLanesError;
+
+/// Memory ran out.
+const OUT_OF_MEMORY: Fault = Fault::Refused(FastLanesError::OutOfMemory);
 
 /// Says how the program is called, and answers status 2.
 pub fn usage<E: Sink>(errors: &mut E) -> u8
@@ -32,9 +37,28 @@ pub fn refuse<E: Sink>(errors: &mut E, fault: Fault) -> u8
     1
 }
 
+/// Carries out a command.
+fn perform<S: Source, K: Sink>(
+    alloc: Global,
+    command: &Command,
+    source: &mut S,
+    sink: &mut K,
+) -> Result<(), Fault>
+    requires source_unmarked { S.has_failed source.old ≡ false }
+    requires sink_unmarked { K.has_failed sink.old ≡ false }
+    ensures { IsRun (parts_of_command command.now) result (S.left source.old) (S.left source.new) (S.has_failed source.new)
+        (K.written sink.old) (K.written sink.new) (K.has_failed sink.new) (K.is_flushed sink.new) }
+{
+    match command {
+        Command::Pack(pack) => engine::pack(alloc, *pack, source, sink),
+        Command::Encode(encode) => engine::encode(alloc, *encode, source, sink),
+        Command::Run(run) => engine::run(alloc, run, source, sink),
+    }
+}
+
 /// Runs the program on the words behind its name, and answers its status: 0, or 1 behind a line that says why the run was refused, or 2 behind the usage line.
 ///
-/// A failure of `errors` changes no status.
+/// The words are read as a whole before the source is. A failure of `errors` changes no status.
 pub fn start<S: Source, K: Sink, E: Sink>(
     alloc: Global,
     words: &[String],
@@ -49,8 +73,8 @@ pub fn start<S: Source, K: Sink, E: Sink>(
 
     // Where the words give no command, nothing is read or written but the usage line.
     ensures usage { IfNone (command_of (map string_bytes words.now))
-        ((result ≡ 2) × (source.new ≡ source.old) × (sink.new ≡ sink.old)
-        × AppendsUnless (E.has_failed errors.new) (E.written errors.old) (E.written errors.new) usage_line) }
+        ((source.new ≡ source.old) × (sink.new ≡ sink.old)
+        × IsUsage result (E.has_failed errors.new) (E.written errors.old) (E.written errors.new)) }
 
     // Else the command is run, and the status and the line of errors tell how the run ended.
     ensures run { IfSome (command_of (map string_bytes words.now)) (λ command. (outcome : Result (Unit {0}) Fault)
@@ -59,11 +83,12 @@ pub fn start<S: Source, K: Sink, E: Sink>(
         × IsRun command outcome (S.left source.old) (S.left source.new) (S.has_failed source.new)
         (K.written sink.old) (K.written sink.new) (K.has_failed sink.new) (K.is_flushed sink.new)) }
 {
-    let Some(command) = words::command(words) else {
-        return usage(errors);
-    };
-    match engine::pack(alloc, command, source, sink) {
-        Ok(()) => 0,
-        Err(fault) => refuse(errors, fault),
+    match words::command(alloc, words) {
+        Ok(Some(command)) => match perform(alloc, &command, source, sink) {
+            Ok(()) => 0,
+            Err(fault) => refuse(errors, fault),
+        },
+        Ok(None) => usage(errors),
+        Err(_) => refuse(errors, OUT_OF_MEMORY),
     }
 }

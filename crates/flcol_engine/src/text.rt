@@ -1,14 +1,14 @@
 //! A column as text: a line for each item, a number or `null`.
 
-ghost use Rattle.std.specs.Prelude.{◌≡◌, ◌<◌, ◌≢◌, ◌∷◌, ◌++◌, [], ℕ, ℤ, Bool, IfErr, IfOk, IsTrue, List, OnOk, Option, Some, not, length, map, ok_or, option_map, replicate};
+ghost use Rattle.std.specs.Prelude.{◌≡◌, ◌<◌, ◌≢◌, ◌∷◌, ◌++◌, [], ℕ, ℤ, Bool, IfErr, IfOk, IsTrue, List, OnOk, is_some, Option, Some, not, length, map, ok_or, option_map, replicate};
 ghost use Rattle.std.specs.List.{AllByRecursion};
 ghost use Rattle.fl_types.specs.declared.dtype.DType.TheVariants.{Primitive};
 ghost use Rattle.fl_types.specs.declared.dtype.Nullability.{Nullability};
 ghost use Rattle.fl_types.specs.declared.dtype.Nullability.TheVariants.{Nullable};
 ghost use Rattle.fl_types.specs.declared.error.FastLanesError.TheVariants.{OutOfMemory};
 ghost use Rattle.fl_column.specs.Columns.{Column, column_of_primitive, is_column};
-ghost use Rattle.flcol_engine.specs.Text.{AreParts, column_in_text, integer_of_64_bits, integer_of_type, item_in_line, items_text, lines_of, number_up_to, primitive_of_column, validity_of_bits};
-ghost use Rattle.flcol_engine.specs.Engine.{IsOutcome};
+ghost use Rattle.flcol_engine.specs.Text.{AreParts, column_in_text, integer_in_text, integer_of_64_bits, integer_of_type, item_in_line, items_text, lines_of, number_in_digits, number_up_to, primitive_of_column, validity_of_bits};
+ghost use Rattle.flcol_engine.specs.Faults.{IsOutcome};
 
 use crate::fault::Fault;
 use fl_types::match_each_integer_ptype;
@@ -56,8 +56,30 @@ pub fn number(digits: &[u8], max: u64) -> Option<u64>
     Some(value)
 }
 
+/// Whether a text is one or more decimal digits.
+fn are_digits(text: &[u8]) -> bool
+    ensures { result ≡ is_some (number_in_digits text.now) }
+{
+    for c in text {
+        if !c.is_ascii_digit() {
+            return false;
+        }
+    }
+    !text.is_empty()
+}
+
+/// Whether a text is an integer of any size: digits, with a minus before them or not.
+pub(crate) fn is_integer(text: &[u8]) -> bool
+    ensures { result ≡ is_some (integer_in_text text.now) }
+{
+    match text {
+        [b'-', digits @ ..] => are_digits(digits),
+        _ => are_digits(text),
+    }
+}
+
 /// The integer that digits write, with a minus before them or not, where it lies between -2^64 and 2^64.
-fn integer(text: &[u8]) -> Option<i128>
+pub(crate) fn integer(text: &[u8]) -> Option<i128>
     ensures { result ≡ integer_of_64_bits text.now }
 {
     match text {

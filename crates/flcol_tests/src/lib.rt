@@ -2,6 +2,8 @@
 #![tactic(auto)]
 
 #[cfg(test)]
+mod containers;
+#[cfg(test)]
 mod memory;
 #[cfg(test)]
 mod runs;

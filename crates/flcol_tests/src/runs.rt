@@ -10,7 +10,8 @@ use std::alloc::Global;
 use std::io::{Read, Write};
 use vortex_fastlanes::FastLanesError;
 
-const USAGE: &[u8] = b"usage: flcol pack TYPE WIDTH | encode TYPE ENCODING | run OP.. QUERY\n";
+pub(crate) const USAGE: &[u8] =
+    b"usage: flcol pack TYPE WIDTH | encode TYPE ENCODING | run OP.. QUERY\n";
 
 const READ_FAULT: &[u8] = b"error 43 ReadFault\n";
 
@@ -24,7 +25,7 @@ const TOO_LARGE: &[u8] = b"error 4 WidthTooLarge\n";
 const BITS: &[&str] = &["pack", "u8", "1"];
 
 /// A source, a sink and a sink for errors of which no call fails.
-const SOUND: [Option<u32>; 3] = [None, None, None];
+pub(crate) const SOUND: [Option<u32>; 3] = [None, None, None];
 
 /// These words, where there is memory for them.
 fn words(alloc: Global, line: &[&str]) -> Option<Vec<String>> {
@@ -37,21 +38,21 @@ fn words(alloc: Global, line: &[&str]) -> Option<Vec<String>> {
 
 /// What a run of the program gave.
 #[derive(Drop)]
-struct Outcome {
-    status: u8,
+pub(crate) struct Outcome {
+    pub(crate) status: u8,
     read_failed: bool,
-    sink: ToMemory,
-    errors: ToMemory,
+    pub(crate) sink: ToMemory,
+    pub(crate) errors: ToMemory,
 }
 
 impl Outcome {
     /// The run ended with this status and this line of errors.
-    fn has_ended(&self, status: u8, line: &[u8]) -> bool {
+    pub(crate) fn has_ended(&self, status: u8, line: &[u8]) -> bool {
         self.status == status && self.errors.bytes.as_slice() == line
     }
 
     /// It wrote this many bytes, of which all are 0 but these.
-    fn has_written(&self, len: usize, others: &[(usize, u8)]) -> bool {
+    pub(crate) fn has_written(&self, len: usize, others: &[(usize, u8)]) -> bool {
         self.sink.bytes.len() == len && are_zeros_but(&self.sink.bytes, others)
     }
 
@@ -86,7 +87,7 @@ fn run_words(
 }
 
 /// The same on a line of words.
-fn run(
+pub(crate) fn run(
     alloc: Global,
     line: &[&str],
     input: &[u8],
@@ -130,7 +131,7 @@ fn packs(alloc: Global, line: &[&str], input: &[u8], len: usize, others: &[(usiz
 }
 
 /// A run refuses this input with this line, and writes nothing.
-fn refuses(alloc: Global, line: &[&str], input: &[u8], refusal: &[u8]) -> bool {
+pub(crate) fn refuses(alloc: Global, line: &[&str], input: &[u8], refusal: &[u8]) -> bool {
     match run(alloc, line, input, 100, SOUND) {
         Some(got) => got.has_ended(1, refusal) && got.has_written(0, &[]),
         None => false,
@@ -460,9 +461,71 @@ const NO_COMMANDS: &[&[&str]] = &[
     &["pack", "", "1"],
     &["", "u8", "1"],
     &["Pack", "u8", "1"],
-    &["encode", "u8", "for"],
-    &["run", "decode"],
-    &["run", "migrate"],
+    &["encode", "u8"],
+    &["encode", "u8", ""],
+    &["encode", "u8", "for", "for"],
+    &["encode", "u8", "primitive+blocked"],
+    &["encode", "u8", "bitpacked+bitpacked"],
+    &["encode", "u8", "bitpacked:"],
+    &["encode", "u8", "bitpacked:256"],
+    &["encode", "u8", "blocked:1"],
+    &["encode", "u8", "for+"],
+    &["encode", "u8", "for+for"],
+    &["encode", "u8", "for+bitpacked+bitpacked"],
+    &["encode", "u8", "constant"],
+    &["encode", "u9", "for"],
+    &["run", "migrate:"],
+    &["migrate"],
+    &["run"],
+    &["run", ""],
+    &["run", "decode", "decode"],
+    &["run", "decode", "slice:1:3"],
+    &["run", "slice:1:3"],
+    &["run", "slice:1", "decode"],
+    &["run", "slice:1:2:3", "decode"],
+    &["run", "slice:-1:2", "decode"],
+    &["run", "slice::2", "decode"],
+    &["run", "slice:0:18446744073709551616", "decode"],
+    &["run", "slice:0x1:2", "decode"],
+    &["run", "Slice:0:1", "decode"],
+    &["run", "take", "decode"],
+    &["run", "take:1,", "decode"],
+    &["run", "take:,1", "decode"],
+    &["run", "take:-1", "decode"],
+    &["run", "take:1,Null", "decode"],
+    &["run", "take:18446744073709551616", "decode"],
+    &["run", "ranges:2", "decode"],
+    &["run", "ranges:2+", "decode"],
+    &["run", "ranges:+2", "decode"],
+    &["run", "ranges:2+2+2", "decode"],
+    &["run", "ranges:1+1,", "decode"],
+    &["run", "filter:012", "decode"],
+    &["run", "filter:1,0", "decode"],
+    &["run", "filter", "decode"],
+    &["run", "cast:", "decode"],
+    &["run", "cast:bool", "decode"],
+    &["run", "cast:u8??", "decode"],
+    &["run", "decode:"],
+    &["run", "Decode"],
+    &["run", "at"],
+    &["run", "at:"],
+    &["run", "at:-1"],
+    &["run", "at:1:2"],
+    &["run", "at:18446744073709551616"],
+    &["run", "eq:"],
+    &["run", "eq:+1"],
+    &["run", "eq:--1"],
+    &["run", "eq:null"],
+    &["run", "eq:1:2"],
+    &["run", "equal:1"],
+    &["run", "between:l:1:2"],
+    &["run", "between:lle:1:2"],
+    &["run", "between:lx:1:2"],
+    &["run", "between:le:1"],
+    &["run", "between:le:1:2:3"],
+    &["run", "between:le::2"],
+    &["run", "id:1"],
+    &["run", "store:"],
 ];
 
 #[test]

@@ -3,3 +3,5 @@ mod CodecExamples
 mod PackedExamples
 mod PlainExamples
 mod WidthExamples
+mod RefusedNodes
+mod WrittenNodes

@@ -1,5 +1,9 @@
 //! Widths of least cost, what they leave out, and packing whole columns.
 
+pub use fl_array::bitpacking::bitpack_compress::{
+    bitpack_blocked_to_best_bit_widths, bitpack_encode, bitpack_encode_blocked,
+    bitpack_encode_unchecked, bitpack_to_best_bit_width,
+};
 pub use fl_bit_widths::{
     bit_width_histogram, find_best_bit_width, find_best_bit_widths, gather_patches,
 };

@@ -1,3 +1,6 @@
 //! Bit-packed arrays, at one width or at a width for each block.
 
-pub use fl_array::bitpacking::{BitPacked, BitPackedArray, BitWidths, BitWidthsView};
+pub use fl_array::bitpacking::{
+    BitPacked, BitPackedArray, BitPackedArrayExt, BitPackedData, BitPackedDataParts,
+    BitPackedSlots, BitWidths, BitWidthsView,
+};

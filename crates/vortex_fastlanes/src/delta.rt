@@ -1,4 +1,6 @@
 //! Delta arrays.
 
-pub use fl_array::delta::{Delta, DeltaArray};
+pub use fl_array::delta::{
+    Delta, DeltaArray, DeltaArrayExt, DeltaData, DeltaSlots, delta_decompress,
+};
 pub use fl_codec::delta::delta_compress;

@@ -9,13 +9,21 @@ pub mod bitpacking;
 pub mod delta;
 pub mod for_;
 pub mod laws;
+pub mod plugin;
 pub mod rle;
 pub mod unpack_iter;
 
-pub use crate::bitpacking::{BitPacked, BitPackedArray, BitWidths, BitWidthsView};
-pub use crate::delta::{Delta, DeltaArray, delta_compress};
-pub use crate::for_::{FoR, FoRArray, FoRReferences};
-pub use crate::rle::{RLE, RLEArray};
+pub use crate::bitpacking::{
+    BitPacked, BitPackedArray, BitPackedArrayExt, BitPackedData, BitPackedDataParts,
+    BitPackedSlots, BitWidths, BitWidthsView,
+};
+pub use crate::delta::{
+    Delta, DeltaArray, DeltaArrayExt, DeltaData, DeltaSlots, delta_compress, delta_decompress,
+};
+pub use crate::for_::{FoR, FoRArray, FoRArrayExt, FoRData, FoRReferences, FoRSlots};
+pub use crate::rle::{
+    RLE, RLEArray, RLEArrayExt, RLEData, RLESlots, RleProbeState, rle_decompress,
+};
 pub use fastlanes::{FL_CHUNK_SIZE, Work};
 pub use fl_column::{
     BetweenOptions, BitList, BoolArray, CompareOperator, ConstantArray, DType, FastLanesError,

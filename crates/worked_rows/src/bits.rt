@@ -20,7 +20,7 @@ fn names(positions: &PrimitiveArray, position: usize) -> bool {
     false
 }
 
-/// So many bits, of which those are set whose positions a column names.
+/// This many bits, of which those are set whose positions a column names.
 fn set_at(alloc: Global, len: usize, positions: &PrimitiveArray) -> Listed {
     BitList::from_fn(alloc, len, |i| names(positions, i))
 }

@@ -8,6 +8,15 @@ use std::alloc::Global;
 /// What makes a column.
 pub(crate) type Made = Result<PrimitiveArray, FastLanesError>;
 
+/// How the integers of a range go on: by a step, modulo a number where it isn't 0, each `nth` of them a null where
+/// that isn't 0.
+#[derive(Clone, Copy)]
+struct Rise {
+    step: i128,
+    modulus: i128,
+    nth: usize,
+}
+
 /// Integers, and which of them are valid.
 #[derive(Drop)]
 struct Items {
@@ -21,18 +30,13 @@ impl Items {
         self.valid.push(valid)
     }
 
-    /// Adds so many items, which begin here and rise by a step; each `nth` of them is null.
-    fn rise(
-        &mut self,
-        first: i128,
-        step: i128,
-        count: usize,
-        nth: usize,
-    ) -> Result<(), FastLanesError> {
+    /// Adds this many items, which begin here.
+    fn rise(&mut self, first: i128, count: usize, by: Rise) -> Result<(), FastLanesError> {
         let mut integer = first;
         for i in 0..count {
-            self.push(integer, nth == 0 || i % nth != 0)?;
-            integer = integer.saturating_add(step);
+            let item = integer.checked_rem_euclid(by.modulus).unwrap_or(integer);
+            self.push(item, by.nth == 0 || i % by.nth != 0)?;
+            integer = integer.saturating_add(by.step);
         }
         Ok(())
     }
@@ -61,12 +65,18 @@ fn steps(first: i128, end: i128, step: i128) -> usize {
     }
 }
 
-/// Adds the items of a range: `0..9`, `0..9/3` by threes, `0..9!3` with a null in each third place.
+/// Adds the items of a range: `0..9`, `0..9/3` by threes, `0..9%4` modulo 4, `0..9!3` with a null in each third place.
 fn add_range(items: &mut Items, first: &str, rest: &str) -> Result<(), FastLanesError> {
     let (rest, nth) = rest.split_once('!').unwrap_or((rest, "0"));
+    let (rest, modulus) = rest.split_once('%').unwrap_or((rest, "0"));
     let (end, step) = rest.split_once('/').unwrap_or((rest, "1"));
     let (first, step) = (number(first), number(step));
-    items.rise(first, step, steps(first, number(end), step), count(nth))
+    let by = Rise {
+        step,
+        modulus: number(modulus),
+        nth: count(nth),
+    };
+    items.rise(first, steps(first, number(end), step), by)
 }
 
 /// Adds an item: an integer, `null`, or a null over an integer in brackets.
@@ -76,7 +86,7 @@ fn add_item(items: &mut Items, item: &str) -> Result<(), FastLanesError> {
     items.push(number(bare), !is_null)
 }
 
-/// Adds a group of items so many times: `5*100`, or `0,1*512` for 0 and 1 in turn.
+/// Adds a group of items this many times: `5*100`, or `0,1*512` for 0 and 1 in turn.
 fn add_group(items: &mut Items, group: &str, times: usize) -> Result<(), FastLanesError> {
     for _ in 0..times {
         for item in group.split(',') {

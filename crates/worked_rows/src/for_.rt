@@ -34,7 +34,7 @@ fn with_references(
     for_::decode_chunked(alloc, child, references, offset)
 }
 
-/// Adds the reference and the child of a frame, and whether they make a column.
+/// Adds the reference and the child of a FoR, and whether they make a column.
 fn show_global(alloc: Global, encode_for: &GlobalFoR, array: &PrimitiveArray, answer: &mut Text) {
     shown::scalar(answer, encode_for.reference);
     part(answer, &encode_for.child);
@@ -48,7 +48,7 @@ fn show_global(alloc: Global, encode_for: &GlobalFoR, array: &PrimitiveArray, an
     }
 }
 
-/// Adds the references and the child of a frame, and whether they make a column.
+/// Adds the references and the child of a FoR, and whether they make a column.
 fn show(alloc: Global, encode_for: &EncodedFoR, array: &PrimitiveArray, answer: &mut Text) {
     match encode_for {
         EncodedFoR::Global(encode_for) => {
@@ -71,7 +71,7 @@ fn show(alloc: Global, encode_for: &EncodedFoR, array: &PrimitiveArray, answer: 
     }
 }
 
-/// Frames a column by its least item.
+/// Encodes a column by its least item.
 fn encode_for(alloc: Global, array: &PrimitiveArray, answer: &mut Text) {
     match for_::encode(alloc, array) {
         Ok(encode_for) => show_global(alloc, &encode_for, array, answer),
@@ -79,7 +79,7 @@ fn encode_for(alloc: Global, array: &PrimitiveArray, answer: &mut Text) {
     }
 }
 
-/// Frames a column by the least item of each chunk.
+/// Encodes a column by the least item of each chunk.
 fn for_chunks(alloc: Global, array: &PrimitiveArray, answer: &mut Text) {
     match for_::encode_chunked(alloc, array) {
         Ok(encode_for) => show(alloc, &encode_for, array, answer),
@@ -123,7 +123,7 @@ fn add(alloc: Global, references: &PrimitiveArray, child: &PrimitiveArray, answe
     }
 }
 
-/// Answers a question about the frame of a column.
+/// Answers a question about the FoR of a column.
 fn ask_one(alloc: Global, question: &[&str], array: &PrimitiveArray, answer: &mut Text) -> bool {
     match question {
         ["for"] => encode_for(alloc, array, answer),

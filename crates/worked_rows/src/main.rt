@@ -8,6 +8,7 @@ mod arrays;
 mod bits;
 mod blocks;
 mod columns;
+mod containers;
 mod deltas;
 mod for_;
 mod gathering;
@@ -42,6 +43,7 @@ fn ask(alloc: Global, question: &[&str], columns: &[PrimitiveArray], answer: &mu
         || patches::ask(alloc, question, columns, answer)
         || blocks::ask(alloc, question, columns, answer)
         || messages::ask(alloc, question, answer)
+        || containers::ask(alloc, question, answer)
         || packing::ask(alloc, question, columns, answer)
         || plain::ask(alloc, question, columns, answer);
     if !known {

@@ -12,7 +12,7 @@ pub(crate) fn part(answer: &mut Text, column: &PrimitiveArray) {
 }
 
 /// Whether the columns have one type and the same items.
-fn is_same(left: &PrimitiveArray, right: &PrimitiveArray) -> bool {
+pub(crate) fn is_same(left: &PrimitiveArray, right: &PrimitiveArray) -> bool {
     let len = left.len();
     if right.len() != len || right.dtype() != left.dtype() {
         return false;

@@ -12,7 +12,7 @@ use std::alloc::Global;
 pub(crate) type Selected = Result<Option<Patches>, FastLanesError>;
 
 /// Adds patches: how many of how many items, the offset, and their columns.
-fn parts(answer: &mut Text, patches: &Patches) {
+pub(crate) fn parts(answer: &mut Text, patches: &Patches) {
     answer.count(patches.num_patches());
     answer.word("of");
     answer.count(patches.array_len());
@@ -143,8 +143,8 @@ pub(crate) fn ask_made(
     }
 }
 
-/// Patches of columns, of so many items from an offset on.
-fn make(
+/// Patches of columns, of this many items from an offset on.
+pub(crate) fn make(
     alloc: Global,
     len: usize,
     offset: usize,
@@ -157,7 +157,7 @@ fn make(
 }
 
 /// Patches of columns, of which the last one is their chunk offsets.
-fn make_chunked(
+pub(crate) fn make_chunked(
     alloc: Global,
     len: usize,
     offset: usize,
@@ -199,7 +199,7 @@ fn ask_chunked(
     }
 }
 
-/// The places 0 and 5 as indices, where so many are to be named.
+/// The places 0 and 5 as indices, where this many are to be named.
 fn two_places(alloc: Global, holds: usize) -> Made {
     let places = Vec::from_slice(alloc, &[0u64, 5])?;
     if holds < 6 {

@@ -25,7 +25,7 @@ fn unrolled(
     rle::decode(alloc, values, indices, offsets, offset, len)
 }
 
-/// So many items from the offset on, which the runs of a column show.
+/// This many items from the offset on, which the runs of a column show.
 fn part_of(alloc: Global, runs: &Runs, offset: usize, len: usize) -> Made {
     let (values, indices, offsets) = (&runs.values, &runs.indices, &runs.offsets);
     unrolled(alloc, values, indices, offsets, offset, len)

@@ -6,16 +6,7 @@ use fl_types::*;
 
 /// The integer that a value is.
 pub(crate) fn integer(value: PValue) -> i128 {
-    match value {
-        PValue::U8(x) => x as i128,
-        PValue::U16(x) => x as i128,
-        PValue::U32(x) => x as i128,
-        PValue::U64(x) => x as i128,
-        PValue::I8(x) => x as i128,
-        PValue::I16(x) => x as i128,
-        PValue::I32(x) => x as i128,
-        PValue::I64(x) => x as i128,
-    }
+    value.as_i128()
 }
 
 /// Adds a type.
@@ -34,7 +25,7 @@ pub(crate) fn dtype(answer: &mut Text, dtype: DType) {
     }
 }
 
-/// The integer that a scalar is, or its truth value as 1 or 0.
+/// The integer that a scalar is, or its boolean as 1 or 0.
 pub(crate) fn integer_in(scalar: Scalar) -> Option<i128> {
     match scalar.as_bool() {
         Some(bool_answer) => Some(i128::from(bool_answer)),
@@ -85,7 +76,7 @@ pub(crate) fn slots(answer: &mut Text, array: &PrimitiveArray) {
     }
 }
 
-/// Adds truth values, as 1 and 0.
+/// Adds booleans, as 1 and 0.
 pub(crate) fn bools(answer: &mut Text, array: &BoolArray) {
     dtype(answer, array.dtype());
     for i in 0..array.len() {
@@ -93,7 +84,7 @@ pub(crate) fn bools(answer: &mut Text, array: &BoolArray) {
     }
 }
 
-/// Adds truth values that were made, or why none were.
+/// Adds booleans that were made, or why none were.
 pub(crate) fn made_bools(answer: &mut Text, made: Result<BoolArray, FastLanesError>) {
     match made {
         Ok(array) => bools(answer, &array),

@@ -121,6 +121,12 @@ impl Text {
         };
     }
 
+    /// Adds a piece of a word.
+    pub(crate) fn piece(&mut self, piece: &str) {
+        self.end();
+        self.push(piece);
+    }
+
     /// Adds a word.
     pub(crate) fn word(&mut self, word: &str) {
         self.end();

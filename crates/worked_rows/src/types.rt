@@ -118,7 +118,7 @@ fn cut(
     validity.slice(alloc, start, end, len)
 }
 
-/// Answers which of so many items a validity names valid.
+/// Answers which of this many items a validity names valid.
 fn show_validity(validity: &Validity, len: usize, answer: &mut Text) {
     if validity.covers(len) {
         for i in 0..len {
@@ -127,7 +127,7 @@ fn show_validity(validity: &Validity, len: usize, answer: &mut Text) {
     }
 }
 
-/// Answers which of so many items a validity that was made names valid.
+/// Answers which of this many items a validity that was made names valid.
 fn made_validity(made: Result<Validity, FastLanesError>, len: usize, answer: &mut Text) {
     match made {
         Ok(validity) => show_validity(&validity, len, answer),
@@ -173,7 +173,7 @@ pub(crate) fn value_of(ptype: PType, text: &str) -> PValue
     match_each_integer_ptype!(ptype, typed_value(number(text)))
 }
 
-/// The scalar of a type's name and of an item: an integer, a truth value as 1 or 0, or `null`.
+/// The scalar of a type's name and of an item: an integer, a boolean as 1 or 0, or `null`.
 fn scalar_of(name: &str, item: &str) -> Scalar {
     match dtype_of(name) {
         dtype if item == "null" => Scalar::null(dtype),
@@ -195,7 +195,7 @@ fn show_value(answer: &mut Text, value: Option<PValue>) {
     answer.item(value.map(shown::integer));
 }
 
-/// Answers with a scalar's type, its integer, its truth value, and whether it is null.
+/// Answers with a scalar's type, its integer, its boolean, and whether it is null.
 fn show_scalar(answer: &mut Text, scalar: Scalar) {
     shown::dtype(answer, scalar.dtype());
     show_value(answer, scalar.as_pvalue());

@@ -26,12 +26,12 @@ fn slice(rest: &str) -> Op {
     Op::Slice(count(start)..count(end))
 }
 
-/// The operation with a column: a take by its items, or a filter by its mask.
+/// The operation with a column: a take by its items, of the kind behind `@` where there is one, or a filter by its
+/// mask.
 fn with_column(alloc: Global, name: &str, column: &PrimitiveArray) -> Read {
+    let (name, kind) = name.split_once('@').unwrap_or((name, "plain"));
     match name {
-        "take" => Ok(Op::Take(building::array(alloc, "plain", column)?)),
-        "take_constant" => Ok(Op::Take(building::array(alloc, "constant", column)?)),
-        "take_bools" => Ok(Op::Take(building::array(alloc, "bools", column)?)),
+        "take" => Ok(Op::Take(building::array(alloc, kind, column)?)),
         _ => Ok(Op::Filter(types::mask_of(alloc, column)?)),
     }
 }
@@ -57,7 +57,12 @@ fn without_column(alloc: Global, word: &str) -> Read {
     }
 }
 
-/// The operations that words name. A word without a colon takes the next of the columns.
+/// Whether an operation takes a column: a word without a colon does, and a take by indices of a kind.
+fn takes_column(word: &str) -> bool {
+    word.starts_with("take@") || !word.contains(':')
+}
+
+/// The operations that words name, of which some take the next of the columns.
 pub(super) fn read_all(
     alloc: Global,
     words: &[&str],
@@ -67,7 +72,7 @@ pub(super) fn read_all(
     let mut next = 0usize;
     for word in words {
         match columns.get(next) {
-            Some(column) if !word.contains(':') => {
+            Some(column) if takes_column(word) => {
                 next = next.saturating_add(1);
                 ops.push(with_column(alloc, word, column)?)?;
             }

@@ -5,17 +5,18 @@ ghost use Rattle.fl_types.specs.Values.{scalar_parts};
 ghost use Rattle.fl_array.specs.Trees.{column};
 ghost use Rattle.fl_ops.specs.Questions.{is_comparable, may_ask};
 
-use super::Built;
+use super::{Built, parts};
 use crate::columns::count;
 use crate::names::{asked, named};
+use crate::parts::is_same;
 use crate::text::Text;
 use crate::{shown, types};
 use std::alloc::Global;
 use vortex_fastlanes::array::{Answer, ArrayOps, ArrayRef, Query, ask};
 use vortex_fastlanes::laws::{item_of_decoded, slice_of_slice};
 use vortex_fastlanes::{
-    BetweenOptions, CompareOperator, FastLanesError, Nullability, Scalar, StrictComparison,
-    Validity,
+    BetweenOptions, CompareOperator, FastLanesError, Nullability, PrimitiveArray, Scalar,
+    StrictComparison, Validity,
 };
 
 /// An integer of an array's type.
@@ -115,6 +116,13 @@ fn constancy(alloc: Global, array: &ArrayRef, answer: &mut Text) {
 /// What may be asked of an array.
 #[derive(Clone, Copy)]
 enum Question {
+    Kind,
+    Column,
+    Parts,
+    Kept,
+    Bytes,
+    Slots,
+    Back,
     Items,
     Copy,
     Decode,
@@ -122,6 +130,7 @@ enum Question {
     Validity,
     Item,
     Slices,
+    Composed,
     At,
     Constant,
     Sorted,
@@ -131,6 +140,13 @@ enum Question {
 }
 
 const QUESTIONS: &[(&str, Question)] = &[
+    ("kind", Question::Kind),
+    ("column", Question::Column),
+    ("parts", Question::Parts),
+    ("kept", Question::Kept),
+    ("bytes", Question::Bytes),
+    ("slots", Question::Slots),
+    ("back", Question::Back),
     ("items", Question::Items),
     ("copy", Question::Copy),
     ("decode", Question::Decode),
@@ -138,6 +154,7 @@ const QUESTIONS: &[(&str, Question)] = &[
     ("validity", Question::Validity),
     ("item", Question::Item),
     ("slices", Question::Slices),
+    ("composed", Question::Composed),
     ("at", Question::At),
     ("constant", Question::Constant),
     ("sorted", Question::Sorted),
@@ -169,18 +186,6 @@ fn answer_query(
     }
 }
 
-fn kind_of(array: &ArrayRef) -> &'static str {
-    if array.as_primitive().is_some() {
-        "plain"
-    } else if array.as_constant().is_some() {
-        "constant"
-    } else if array.as_bool().is_some() {
-        "bools"
-    } else {
-        "none"
-    }
-}
-
 /// Adds the item at an index, which is one of those that are there.
 fn item(alloc: Global, array: &ArrayRef, i: usize, answer: &mut Text) {
     if i < array.len() {
@@ -191,13 +196,18 @@ fn item(alloc: Global, array: &ArrayRef, i: usize, answer: &mut Text) {
     }
 }
 
-/// Adds the kind, the type and the items of an array.
-fn array_read(alloc: Global, array: &ArrayRef, answer: &mut Text) {
-    answer.word(kind_of(array));
+/// Adds the type and the items of an array, each read alone.
+fn column_read(alloc: Global, array: &ArrayRef, answer: &mut Text) {
     shown::dtype(answer, array.dtype());
     for i in 0..array.len() {
         item(alloc, array, i, answer);
     }
+}
+
+/// Adds the kind, the type and the items of an array.
+fn array_read(alloc: Global, array: &ArrayRef, answer: &mut Text) {
+    parts::kind(array, answer);
+    column_read(alloc, array, answer);
 }
 
 fn array_made(alloc: Global, made: &Built, answer: &mut Text) {
@@ -239,8 +249,122 @@ fn sliced_twice(
     Ok(part)
 }
 
-/// Answers a question that looks at an array's parts, or asks a query.
-fn answer_asked(
+/// The numbers of a range: `1:3`.
+fn range_of(text: &str) -> (usize, usize) {
+    let (start, end) = text.split_once(':').unwrap_or((text, ""));
+    (count(start), count(end))
+}
+
+/// A slice, where it lies within the array.
+fn sliced(alloc: Global, array: &ArrayRef, start: usize, end: usize) -> Built {
+    if start > end || end > array.len() {
+        return Err(FastLanesError::RangeOutOfBounds);
+    }
+    array.slice(alloc, start..end)
+}
+
+/// Adds what a slice that was made keeps, and all its parts.
+fn slice_parts(alloc: Global, made: &Built, answer: &mut Text) {
+    match made {
+        Ok(array) => {
+            parts::kept(array, answer);
+            parts::parts(alloc, array, answer);
+        }
+        Err(refusal) => answer.refusal(*refusal),
+    }
+}
+
+/// Adds what a slice of a slice keeps, and its parts where they are not those of the slice by the composed range.
+fn composed(
+    alloc: Global,
+    array: &ArrayRef,
+    outer: (usize, usize),
+    inner: (usize, usize),
+    answer: &mut Text,
+) {
+    let twice = sliced_twice(alloc, array, outer, inner);
+    let (start, end) = (
+        outer.0.saturating_add(inner.0),
+        outer.0.saturating_add(inner.1),
+    );
+    let once = sliced(alloc, array, start, end);
+    let (mut left, mut right) = (Text::new(alloc), Text::new(alloc));
+    slice_parts(alloc, &twice, &mut left);
+    slice_parts(alloc, &once, &mut right);
+    if let Ok(array) = &twice {
+        parts::kept(array, answer);
+    }
+    if left.as_str() != right.as_str() {
+        answer.word("but");
+        answer.word(left.as_str());
+        answer.word("for");
+        answer.word(right.as_str());
+    }
+}
+
+/// Adds what slices of a slice keep, one after another.
+fn all_composed(
+    alloc: Global,
+    array: &ArrayRef,
+    outer: (usize, usize),
+    inner: &[&str],
+    answer: &mut Text,
+) {
+    for range in inner {
+        answer.word("|");
+        composed(alloc, array, outer, range_of(range), answer);
+    }
+}
+
+/// Whether an item, read alone, is that of a column.
+fn is_item(alloc: Global, array: &ArrayRef, column: &PrimitiveArray, i: usize) -> bool {
+    if i < array.len() && i < column.len() {
+        match array.scalar_at(alloc, i) {
+            Ok(item) => item.as_pvalue() == column.get(i),
+            Err(_) => false,
+        }
+    } else {
+        true
+    }
+}
+
+/// The first item of an array that, read alone, is not that of a column. Of a long array about each 64th part is read.
+fn first_other(alloc: Global, array: &ArrayRef, column: &PrimitiveArray) -> Option<usize> {
+    let stride = column.len() / 64 + 1;
+    for k in 0..65usize {
+        let i = k.saturating_mul(stride);
+        if !is_item(alloc, array, column, i) {
+            return Some(i);
+        }
+    }
+    None
+}
+
+/// Adds `back`, and the first item that, read alone, is not that of a column.
+fn reads_back(alloc: Global, array: &ArrayRef, column: &PrimitiveArray, answer: &mut Text) {
+    answer.word("back");
+    if let Some(i) = first_other(alloc, array, column) {
+        answer.word("but");
+        answer.count(i);
+    }
+}
+
+/// Adds `back` where an array decodes to a column and has its items, else what it decodes to.
+fn back(alloc: Global, array: &ArrayRef, column: &PrimitiveArray, answer: &mut Text) {
+    match array.to_primitive(alloc) {
+        Ok(decoded) => {
+            if is_same(&decoded, column) {
+                reads_back(alloc, array, column, answer);
+            } else {
+                shown::column(answer, &decoded);
+            }
+        }
+        Err(refusal) => answer.refusal(refusal),
+    }
+}
+
+/// Answers a question that calls something, or asks a query.
+fn answer_called(
     alloc: Global,
     array: &ArrayRef,
     asked: Question,
@@ -254,18 +378,53 @@ fn answer_asked(
         (Question::PrimitiveParts, []) => shown::made(answer, array.to_primitive(alloc)),
         (Question::Validity, []) => validity(alloc, array, answer),
         (Question::Item, [i]) => item_decoded(alloc, array, count(i), answer),
-        (Question::Slices, [a, b, c, d]) => {
-            let made = sliced_twice(alloc, array, (count(a), count(b)), (count(c), count(d)));
+        (Question::Slices, [outer, inner]) => {
+            let made = sliced_twice(alloc, array, range_of(outer), range_of(inner));
             array_made(alloc, &made, answer);
+        }
+        (Question::Composed, [outer, rest @ ..]) => {
+            all_composed(alloc, array, range_of(outer), rest, answer);
         }
         _ => answer_query(alloc, array, asked, words, answer),
     }
 }
 
-/// Answers what words ask of an array.
-pub(super) fn answer(alloc: Global, array: &ArrayRef, words: &[&str], answer: &mut Text) {
+/// Answers a question that looks at an array's parts, or calls something. The last column is the one that `back`
+/// speaks of.
+fn answer_asked(
+    alloc: Global,
+    array: &ArrayRef,
+    asked: Question,
+    words: &[&str],
+    columns: &[PrimitiveArray],
+    answer: &mut Text,
+) {
+    match (asked, words, columns) {
+        (Question::Kind, [], _) => parts::kind(array, answer),
+        (Question::Column, [], _) => column_read(alloc, array, answer),
+        (Question::Parts, [], _) => parts::parts(alloc, array, answer),
+        (Question::Kept, [], _) => parts::kept(array, answer),
+        (Question::Bytes, [], _) => parts::packed_bytes(array, answer),
+        (Question::Slots, [], _) => parts::slots(array, answer),
+        (Question::Back, [], [.., column]) => back(alloc, array, column, answer),
+        _ => answer_called(alloc, array, asked, words, answer),
+    }
+}
+
+/// Answers what words ask of an array, or of one inside it.
+pub(super) fn answer(
+    alloc: Global,
+    array: &ArrayRef,
+    words: &[&str],
+    columns: &[PrimitiveArray],
+    answer: &mut Text,
+) {
+    let Some((array, words)) = parts::descend(array, words) else {
+        answer.word("no such array");
+        return;
+    };
     match asked(QUESTIONS, words) {
-        Some((asked, words)) => answer_asked(alloc, array, asked, words, answer),
+        Some((asked, words)) => answer_asked(alloc, array, asked, words, columns, answer),
         None => answer.word("no such question"),
     }
 }

@@ -1,4 +1,4 @@
-use Rattle.std.proofs.Common.{refl, ◌≡◌, ◌+◌, ◌-◌, ◌<◌, get_or, sym, ap, ◌∙◌, inl, inr, arith, length, true, false, slice_index, ℕ, Bool}
+use Rattle.std.proofs.Common.{refl, ◌≡◌, ◌+◌, ◌-◌, get_or, sym, ap, ◌∙◌, inl, inr, arith, ℕ}
 use Rattle.std.specs.Prelude.{unsigned_abs}
 use Rattle.std.proofs.lemmas.Bool.{cases_lt}
 use Rattle.std.proofs.lemmas.List.{length-map}

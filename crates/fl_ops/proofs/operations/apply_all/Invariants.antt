@@ -1,11 +1,11 @@
-use Rattle.std.proofs.Common.{◌≡◌, drop}
-use Rattle.fl_array.specs.Kinds.{kind}
+use Rattle.std.proofs.Common.{◌≡◌, drop, map}
 use Rattle.fl_array.specs.Trees.{column}
-use Rattle.fl_ops.specs.Operations.{run, run_kind}
+use Rattle.fl_ops.specs.Operations.{run_columns, step_of}
+use Rattle.fl_ops.proofs.Runs.{LeadsOn, steps_from}
 use Rattle.fl_ops.proofs.operations.apply_all.Given as goal
 
--- what is left to run gives what all gives, and the same kind
+-- what is left to run gives what all gives, the column and the array
 abbrev pub invariant-loop-op : goal.invariant-loop-op
 invariant-loop-op l =
-    (run (column l.current) (drop l.op-index l.rest) ≡ run (column l.array) l.ops)
-    × (run_kind (kind l.current) (drop l.op-index l.rest) ≡ run_kind (kind l.array) l.ops)
+    (run_columns (column l.current) (steps_from l.rest l.op-index) ≡ run_columns (column l.array) (map step_of l.ops))
+    × LeadsOn l.current l.rest l.op-index l.array l.ops

@@ -24,14 +24,14 @@ item_blocked-requires-clause-room c =
     let len = c.len-len.ensures.len in
     let items = c.len-len.ensures.items in
     let range = c.requires.range in
-    rw c.data.ensures (block_read c.args.self.now c.args.boundaries.now c.args.i _ _ _ _ _ _ c.prove_well_formed.ensures c.requires.same (omega arith) c.requires.first c.requires.start c.requires.end c.number_of_scalar-first.ensures c.number_of_scalar-start.ensures c.number_of_scalar-end.ensures).room
+    rw c.packed_data.ensures (block_read c.args.self.now c.args.boundaries.now c.args.i _ _ _ _ _ _ c.prove_well_formed.ensures c.requires.same (omega arith) c.requires.first c.requires.start c.requires.end c.number_of_scalar-first.ensures c.number_of_scalar-start.ensures c.number_of_scalar-end.ensures).room
 
 pub item_blocked-requires-clause-width : goal.item_blocked-requires-clause-width
 item_blocked-requires-clause-width c =
     let len = c.len-len.ensures.len in
     let items = c.len-len.ensures.items in
     let range = c.requires.range in
-    rw c.data.ensures (block_read c.args.self.now c.args.boundaries.now c.args.i _ _ _ _ _ _ c.prove_well_formed.ensures c.requires.same (omega arith) c.requires.first c.requires.start c.requires.end c.number_of_scalar-first.ensures c.number_of_scalar-start.ensures c.number_of_scalar-end.ensures).narrow
+    rw c.packed_data.ensures (block_read c.args.self.now c.args.boundaries.now c.args.i _ _ _ _ _ _ c.prove_well_formed.ensures c.requires.same (omega arith) c.requires.first c.requires.start c.requires.end c.number_of_scalar-first.ensures c.number_of_scalar-start.ensures c.number_of_scalar-end.ensures).narrow
 
 pub returns : goal.returns
 returns c =
@@ -39,5 +39,5 @@ returns c =
     let items = c.len-len.ensures.items in
     let range = c.requires.range in
     let read = block_read c.args.self.now c.args.boundaries.now c.args.i _ _ _ _ _ _ c.prove_well_formed.ensures c.requires.same (omega arith) c.requires.first c.requires.start c.requires.end c.number_of_scalar-first.ensures c.number_of_scalar-start.ensures c.number_of_scalar-end.ensures in
-    let item = rw c.data.ensures at c.item_blocked.ensures.item in
+    let item = rw c.packed_data.ensures at c.item_blocked.ensures.item in
     item (column c.args.boundaries.now) read.has ∙ ap (λ (x : Column). scalar_in x c.args.i) (sym (blocked_column c.args.self.now c.args.boundaries.now c.requires.same))

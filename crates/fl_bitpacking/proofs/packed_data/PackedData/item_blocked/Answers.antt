@@ -1,4 +1,4 @@
-use Rattle.std.proofs.Common.{◌≡◌, ◌*◌, ◌+◌, ◌-◌, ◌/◌, ◌<◌, ◌≤◌, ℕ, sym, ap, length, ◌∙◌, arith, refl}
+use Rattle.std.proofs.Common.{◌≡◌, ◌+◌, ◌-◌, ◌/◌, ℕ, sym, ◌∙◌, refl}
 use Rattle.fl_column.specs.Columns.{Column, numbers_of}
 use Rattle.fl_bitpacking.specs.Blocks.{boundary_blocks}
 use Rattle.fl_bitpacking.specs.Columns.{BitPackedParts}

@@ -1,19 +1,16 @@
-use Rattle.std.proofs.Common.{◌≡◌, ◌*◌, ◌-◌, ◌+◌, ◌<◌, ◌≤◌, ℕ, Ok, sym, ap, subst, None, length, ◌∙◌, arith, refl, slice_index}
-use Rattle.std.specs.Prelude.{Result}
-use Rattle.fl_types.specs.declared.error.FastLanesError.{FastLanesError}
+use Rattle.std.proofs.Common.{◌≡◌, ◌-◌, ◌+◌, ℕ, sym, ap, subst, None, length, ◌∙◌, arith, refl}
 use Rattle.fl_types.specs.Integers.{bits_of_type}
 use Rattle.fl_column.specs.Columns.{Column, numbers_of}
-use Rattle.fl_column.specs.Operations.{slice_of}
 use Rattle.fl_patches.proofs.Parts.{ok_same}
 use Rattle.fl_patches.specs.PatchMaps.{patched_in}
 use Rattle.fl_bitpacking.specs.Blocks.{boundary_blocks}
 use Rattle.fl_bitpacking.specs.Columns.{BitPackedParts, column_of_packed}
 use Rattle.fl_bitpacking.specs.Refusals.{AreConsistent, blocked_refusal}
-use Rattle.fl_bitpacking.specs.SlicedParts.{HasEnds, IsBlockedSlice, end_block, first_block, sliced_boundaries, sliced_parts}
+use Rattle.fl_bitpacking.specs.SlicedParts.{HasEnds, end_block, first_block, sliced_boundaries, sliced_parts}
 use Rattle.fl_bitpacking.proofs.PackedSlices.{packed_slice}
 use Rattle.fl_bitpacking.proofs.BoundaryLaws.{later_boundary_blocks, length-numbers_of, numbers_of-slice}
 use Rattle.fl_bitpacking.proofs.SoundParts.{are_blocked, no_blocked_refusal}
-use Rattle.fl_bitpacking.proofs.SoundSlices.{blocked_slice, kept_order, kept_within}
+use Rattle.fl_bitpacking.proofs.SoundSlices.{blocked_slice, kept_within}
 use Rattle.fl_bitpacking.proofs.packed_data.PackedData.slice_blocked.Goals as goal
 
 -- the bytes that are cut out lie between the boundaries

@@ -1,0 +1,146 @@
+//! Every item of an array lies in the range of the column's type.
+
+ghost use Rattle.std.specs.Prelude.{◌≡◌, IfSome, IsTrue};
+ghost use Rattle.std.specs.List.{list_all};
+ghost use Rattle.std.specs.Option.{option_copied};
+ghost use Rattle.fl_types.specs.Integers.{fits};
+ghost use Rattle.fl_types.specs.Values.{fits_in, integer_of, ptype_of_value};
+ghost use Rattle.fl_column.specs.Columns.{column_of_bools, column_of_constant, column_of_primitive, option_all};
+ghost use Rattle.fl_array.specs.BitPackedArrays.{tree_of_bitpacked};
+ghost use Rattle.fl_array.specs.DeltaArrays.{tree_of_delta};
+ghost use Rattle.fl_array.specs.FoRArrays.{tree_of_for};
+ghost use Rattle.fl_array.specs.Ranges.{items_fit};
+ghost use Rattle.fl_array.specs.RLEArrays.{tree_of_rle};
+ghost use Rattle.fl_array.specs.Trees.{column};
+
+use crate::array::{ArrayRef, Node};
+use crate::bitpacking::BitPackedArray;
+use crate::delta::DeltaArray;
+use crate::for_::FoRArray;
+use crate::rle::RLEArray;
+use fl_column::{BoolArray, ConstantArray, NativePType, PValue, PrimitiveArray};
+use fl_patches::Patches;
+use fl_types::match_each_integer_ptype;
+
+fn prove_typed<T: NativePType>(value: PValue)
+    requires { ptype_of_value value ≡ T.PTYPE }
+    ensures { IsTrue (fits (ptype_of_value value) (integer_of value)) }
+{
+    let value = T::from_pvalue(value).unwrap();
+    value.prove_in_range();
+}
+
+/// A value is an integer of its type.
+fn prove_value_in_range(value: PValue)
+    ensures { IsTrue (fits (ptype_of_value value) (integer_of value)) }
+{
+    match_each_integer_ptype!(value.ptype(), prove_typed(value))
+}
+
+/// The items of a plain array are integers of its type, or nulls.
+#[tactic(auto, using(crate::proofs::RangeLaws::plain_fits))]
+fn prove_primitive_in_range(array: &PrimitiveArray)
+    ensures { IsTrue (items_fit (column_of_primitive array.now)) }
+{
+    array.prove_in_range();
+}
+
+/// The scalar of a constant array is an integer of its type, or a null.
+#[tactic(auto, using(crate::proofs::RangeLaws::scalar_fits))]
+fn prove_scalar_in_range(array: &ConstantArray)
+    ensures { IsTrue (option_all (fits_in array.now.scalar.dtype) array.now.scalar.value) }
+{
+    match array.value() {
+        Some(value) => prove_value_in_range(value),
+        None => {}
+    }
+}
+
+/// The items of a constant array are integers of its type, or nulls.
+#[tactic(auto, using(crate::proofs::RangeLaws::constant_fits))]
+fn prove_constant_in_range(array: &ConstantArray)
+    ensures { IsTrue (items_fit (column_of_constant array.now)) }
+{
+    prove_scalar_in_range(array);
+}
+
+/// The items of a boolean array are 0 and 1, or nulls.
+#[tactic(auto, using(crate::proofs::RangeLaws::bools_fit))]
+fn prove_bools_in_range(array: &BoolArray)
+    ensures { IsTrue (items_fit (column_of_bools array.now)) }
+{
+    let _ = array;
+}
+
+/// The values of patches are integers of their type.
+fn prove_patches_in_range(patches: Option<&Patches>)
+    ensures { IfSome (option_copied patches.entry) (λ p. IsTrue (list_all (fits p.values.ptype) p.values.slots)) }
+{
+    match patches {
+        Some(patches) => patches.values().prove_in_range(),
+        None => {}
+    }
+}
+
+impl BitPackedArray {
+    /// Every item lies in the range of the column's type.
+    #[tactic(auto, using(crate::proofs::RangeLaws::bitpacked_fits))]
+    pub fn prove_in_range(&self)
+        ensures { IsTrue (items_fit (column (tree_of_bitpacked self.now))) }
+    {
+        let data = self.packed_data();
+        data.prove_well_formed();
+        prove_patches_in_range(data.patches());
+    }
+}
+
+impl FoRArray {
+    /// Every item lies in the range of the column's type.
+    #[tactic(auto, using(crate::proofs::RangeLaws::for_fits))]
+    pub fn prove_in_range(&self)
+        ensures { IsTrue (items_fit (column (tree_of_for self.now))) }
+    {
+        self.prove_well_formed();
+    }
+}
+
+impl DeltaArray {
+    /// Every item lies in the range of the column's type.
+    #[tactic(auto, using(crate::proofs::RangeLaws::delta_array_fits))]
+    pub fn prove_in_range(&self)
+        ensures { IsTrue (items_fit (column (tree_of_delta self.now))) }
+    {
+        self.prove_well_formed();
+    }
+}
+
+impl RLEArray {
+    /// Every item lies in the range of the column's type, where every run value does.
+    #[tactic(auto, using(crate::proofs::RangeLaws::rle_fits))]
+    pub(crate) fn prove_in_range(&self)
+        requires { IsTrue (items_fit (column self.now.values)) }
+        ensures { IsTrue (items_fit (column (tree_of_rle self.now))) }
+    {
+        self.prove_integers();
+    }
+}
+
+impl ArrayRef {
+    /// Every item lies in the range of the column's type.
+    pub fn prove_in_range(&self)
+        ensures { IsTrue (items_fit (column self.now)) }
+    {
+        match &self.node {
+            Node::Primitive(array) => prove_primitive_in_range(array),
+            Node::Constant(array) => prove_constant_in_range(array),
+            Node::Bool(array) => prove_bools_in_range(array),
+            Node::BitPacked(array) => array.prove_in_range(),
+            Node::FoR(array) => array.prove_in_range(),
+            Node::Delta(array) => array.prove_in_range(),
+            Node::RLE(array) => {
+                array.values().prove_in_range();
+                array.prove_in_range();
+            }
+        }
+    }
+}

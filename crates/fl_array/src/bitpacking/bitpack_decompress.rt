@@ -1,0 +1,103 @@
+//! Decoding of bit-packed arrays, and single items as they are stored.
+
+ghost use Rattle.std.specs.Prelude.{◌≡◌, ◌<◌, IfErr, Ok, false};
+ghost use Rattle.fl_types.specs.declared.error.FastLanesError.TheVariants.{NotGlobal};
+ghost use Rattle.fl_types.specs.Refusals.{Answers};
+ghost use Rattle.fl_types.specs.Values.{scalar_parts};
+ghost use Rattle.fl_column.specs.Columns.{column_of_primitive};
+ghost use Rattle.fl_bitpacking.specs.SingleItems.{stored_scalar};
+ghost use Rattle.fl_array.specs.BitPackedArrays.{blocks_of_widths, if_global, is_global, tree_of_bitpacked};
+ghost use Rattle.fl_array.specs.Trees.{column};
+
+use crate::bitpacking::{BitPackedArray, BitWidthsView};
+use fl_column::{FastLanesError, NativePType, PrimitiveArray, Scalar};
+use std::alloc::Global;
+
+/// The column in a primitive array, where all blocks have one width.
+///
+/// # Errors
+/// `NotGlobal` where each block has a width of its own.
+pub fn unpack_array(alloc: Global, array: &BitPackedArray) -> Result<PrimitiveArray, FastLanesError>
+    ensures { Answers column_of_primitive result (if_global array.now.widths (column (tree_of_bitpacked array.now))) }
+{
+    match array.bit_widths() {
+        BitWidthsView::Global(width) => {
+            array.prove_integers();
+            array.decode_global(alloc, width)
+        }
+        BitWidthsView::Blocked(_) => Err(FastLanesError::NotGlobal),
+    }
+}
+
+/// The column in a primitive array, where all blocks have one width and the items have this type.
+///
+/// # Errors
+/// `NotGlobal` where each block has a width of its own.
+pub fn unpack_primitive_array<T: NativePType>(
+    alloc: Global,
+    array: &BitPackedArray,
+) -> Result<PrimitiveArray, FastLanesError>
+    requires { array.now.parts.ptype ≡ T.PTYPE }
+    ensures { Answers column_of_primitive result (if_global array.now.widths (column (tree_of_bitpacked array.now))) }
+{
+    unpack_array(alloc, array)
+}
+
+/// Item `i` as its bits are stored, where all blocks have one width: without its patch, and also under a null.
+/// It reads at most two words of the block, and takes no memory.
+///
+/// # Errors
+/// `NotGlobal` where each block has a width of its own.
+pub fn unpack_single(array: &BitPackedArray, i: usize) -> Result<Scalar, FastLanesError>
+    requires { i < array.now.parts.len }
+    ensures item { Answers scalar_parts result (if_global array.now.widths (stored_scalar array.now.parts (blocks_of_widths array.now.widths) i)) }
+    ensures no_memory { IfErr result (λ e. e ≡ NotGlobal) }
+{
+    match array.bit_widths() {
+        BitWidthsView::Global(width) => Ok(array.stored_global(width, i)),
+        BitWidthsView::Blocked(_) => Err(FastLanesError::NotGlobal),
+    }
+}
+
+/// The column in a primitive array, where each block has a width of its own.
+pub fn unpack_array_blocked(
+    alloc: Global,
+    array: &BitPackedArray,
+) -> Result<PrimitiveArray, FastLanesError>
+    requires { is_global array.now.widths ≡ false }
+    ensures { Answers column_of_primitive result (Ok (column (tree_of_bitpacked array.now))) }
+{
+    match array.bit_widths() {
+        BitWidthsView::Global(_) => unreachable!(),
+        BitWidthsView::Blocked(boundaries) => {
+            array.prove_integers();
+            array.prove_boundaries_are_integers(boundaries);
+            let plain = boundaries.to_primitive(alloc)?;
+            array.decode_blocked(alloc, boundaries, &plain)
+        }
+    }
+}
+
+/// Item `i` as its bits are stored, where each block has a width of its own: without its patch, and also under
+/// a null. It reads three boundaries and at most two words of the block.
+pub fn unpack_single_blocked(
+    alloc: Global,
+    array: &BitPackedArray,
+    i: usize,
+) -> Result<Scalar, FastLanesError>
+    requires blocked { is_global array.now.widths ≡ false }
+    requires range { i < array.now.parts.len }
+    ensures { Answers scalar_parts result (Ok (stored_scalar array.now.parts (blocks_of_widths array.now.widths) i)) }
+{
+    match array.bit_widths() {
+        BitWidthsView::Global(_) => unreachable!(),
+        BitWidthsView::Blocked(boundaries) => {
+            let _len = array.len();
+            let j = array.block_of(boundaries, i);
+            let first = boundaries.scalar_at(alloc, 0)?;
+            let start = boundaries.scalar_at(alloc, j)?;
+            let end = boundaries.scalar_at(alloc, j + 1)?;
+            Ok(array.stored_blocked(boundaries, first, start, end, i))
+        }
+    }
+}

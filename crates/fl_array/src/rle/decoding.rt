@@ -1,0 +1,25 @@
+//! Decoding of run-length encoded arrays.
+
+ghost use Rattle.std.specs.Prelude.{Ok};
+ghost use Rattle.fl_types.specs.Refusals.{Answers};
+ghost use Rattle.fl_column.specs.Columns.{column_of_primitive};
+ghost use Rattle.fl_array.specs.RLEArrays.{tree_of_rle};
+ghost use Rattle.fl_array.specs.Trees.{column};
+
+use crate::rle::RLEArray;
+use fl_column::{FastLanesError, PrimitiveArray};
+use std::alloc::Global;
+
+/// The column of a run-length encoded array in a primitive array.
+///
+/// # Errors
+/// None but `OutOfMemory`.
+pub fn rle_decompress(alloc: Global, array: &RLEArray) -> Result<PrimitiveArray, FastLanesError>
+    ensures { Answers column_of_primitive result (Ok (column (tree_of_rle array.now))) }
+{
+    array.prove_integers();
+    let values = array.values().to_primitive(alloc)?;
+    let indices = array.indices().to_primitive(alloc)?;
+    let offsets = array.offsets().to_primitive(alloc)?;
+    array.decompress(alloc, &values, &indices, &offsets)
+}

@@ -1,0 +1,36 @@
+use Rattle.std.proofs.Common.{◌≡◌, ◌+◌, ◌*◌, ◌<◌, IsTrue, Some, None, length, length-set, map, unwrap_or, take, arith, subst, ap, refl, sym, ◌∙◌}
+use Rattle.fastlanes.proofs.Patterns.{pattern_filled}
+use Rattle.fl_types.specs.Integers.{fits, pattern_of}
+use Rattle.fl_codec.specs.Chunks.{chunk}
+use Rattle.fl_codec.specs.ForwardFill.{filled_from, last_some}
+use Rattle.fl_codec.proofs.ForwardFillLaws.{below_next, carried_next, get_or-chunk, last_of_chunk}
+use Rattle.fl_codec.proofs.WithoutNulls.{all_valid, item_read}
+use Rattle.fl_codec.proofs.fill_forward.fill_whole_chunk.Goals as goal
+
+pub loop-q-preserved : goal.loop-q-preserved
+loop-q-preserved g c =
+    let value = g.T.Number.value in
+    let ptype = g.T.NativePType.PTYPE in
+    let all = all_valid (map value c.args.items.now) in
+    let items = chunk c.args.k all in
+    let q = c.loop-q.q in
+    let more = c.loop-q-test.true in
+    let room = c.requires in
+    let item = c.index-items-start.result in
+    let read = get_or-chunk all c.args.k q None (omega arith) ∙ item_read value c.args.items.now (1024 * c.args.k + q) item (omega arith) c.index-items-start.is in
+    let here = carried_next (value c.args.before) (value c.loop-q.last) (value item) (Some (value item)) items q refl (sym read) c.loop-q.invariant.last in
+    let fit : IsTrue (fits ptype (filled_from (value c.args.before) items q)) = subst (λ z. IsTrue (fits ptype z)) here c.prove_in_range.ensures in
+    let inside : q < length c.loop-q.block = let whole = c.loop-q.invariant.whole in omega arith in
+    record {
+      last = here;
+      done = pattern_filled g.T.Physical.FastLanes.pattern (λ j. pattern_of ptype (filled_from (value c.args.before) items j)) c.loop-q.block q c.to_physical.result inside c.loop-q.invariant.done (c.to_physical.ensures ∙ ap (pattern_of ptype) here);
+      fit = below_next (λ j. IsTrue (fits ptype (filled_from (value c.args.before) items j))) q c.loop-q.invariant.fit fit;
+      whole = rw length-set c.loop-q.invariant.whole;
+    }
+
+pub returns-clause-last : goal.returns-clause-last
+returns-clause-last g c =
+    let value = g.T.Number.value in
+    let all = all_valid (map value c.args.items.now) in
+    let full : c.loop-q.q ≡ 1024 = omega arith in
+    c.loop-q.invariant.last ∙ ap (λ x. unwrap_or x (value c.args.before)) (ap (λ n. last_some (take n (chunk c.args.k all))) full ∙ last_of_chunk all c.args.k)

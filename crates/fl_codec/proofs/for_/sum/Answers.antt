@@ -1,5 +1,0 @@
-use Rattle.std.proofs.Common.{◌∙◌}
-use Rattle.fl_codec.proofs.for_.sum.Goals as goal
-
-pub returns : goal.returns
-returns g c = g.met.T.WrappingAdd.wrapping_add_law _ _ _ c.wrapping_add.ensures ∙ g.met.T.NativePType.wraps_law _

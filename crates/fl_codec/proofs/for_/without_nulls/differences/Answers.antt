@@ -1,0 +1,9 @@
+use Rattle.std.proofs.Common.{◌≡◌, ap, length, sym, ◌∙◌}
+use Rattle.fl_codec.proofs.WithoutNulls.{vec_written}
+use Rattle.fl_codec.proofs.for_.without_nulls.differences.Goals as goal
+
+pub returns : goal.returns
+returns g c =
+    let old = c.resize.new.self in
+    let kept : length c.subtract.new.slots ≡ length old.items = c.subtract.auto.slots ∙ ap length c.deref_mut.ensures.value in
+    rw (vec_written old.len c.subtract.new.slots old.items (kept ∙ sym old.ok.0)) c.subtract.ensures

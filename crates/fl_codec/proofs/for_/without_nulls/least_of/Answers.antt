@@ -1,0 +1,17 @@
+use Rattle.std.proofs.Common.{arith}
+use Rattle.fl_codec.proofs.WithoutNulls.{least_begun, least_found, least_next}
+use Rattle.fl_codec.proofs.for_.without_nulls.least_of.Goals as goal
+
+pub loop-i-init : goal.loop-i-init
+loop-i-init g c = let some = c.if-items-eq0.false in least_begun g.T.Number.value c.args.items.now c.index-items-0.result (omega arith) c.index-items-0.is
+
+pub loop-i-preserved : goal.loop-i-preserved
+loop-i-preserved g c =
+    least_next g.T.Number.value c.args.items.now c.loop-i.least c.index-items-i.result c.less-least.result c.loop-i.i c.loop-i-test.true c.index-items-i.is c.less-least.ensures c.loop-i.invariant
+
+pub returns : goal.returns
+returns g c =
+    let some = c.if-items-eq0.false in
+    let reached = c.loop-i.auto.i-end (omega arith) in
+    let over = c.loop-i-test.false in
+    least_found g.T.Number.value c.args.items.now c.loop-i.least c.loop-i.i (omega arith) c.loop-i.invariant

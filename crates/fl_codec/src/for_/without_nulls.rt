@@ -1,0 +1,178 @@
+//! Frames of reference of items none of which is null: loops over integers, in which the compiler works on
+//! several at once.
+
+ghost use Rattle.std.specs.Prelude.{◌≡◌, ◌<◌, ◌≤◌, ◌+◌, ◌-◌, ◌*◌, ◌/◌, ◌^◌, ◌+ℤ◌, ◌-ℤ◌, ℕ, pos, Some, IfOk, length, map, min, option_map, slice_index_or};
+ghost use Rattle.fl_types.specs.Integers.{wrap};
+ghost use Rattle.fl_codec.specs.Chunks.{chunks_of};
+ghost use Rattle.fl_codec.specs.FoRColumns.{chunked_slots, chunked_sums, least_valid, lesser};
+
+use crate::chunks::{chunk_count, chunk_end};
+use fastlanes::FL_CHUNK_SIZE;
+use fl_types::NativePType;
+use num_traits::{WrappingAdd, WrappingSub};
+use std::alloc::{AllocError, Global};
+
+/// The lesser of two integers.
+fn less<T: NativePType>(x: T, y: T) -> T
+    ensures { Some (T.value result) ≡ lesser (Some (T.value x)) (Some (T.value y)) }
+{
+    if y < x { y } else { x }
+}
+
+/// The least of these integers, if there is one.
+pub(crate) fn least_of<T: NativePType>(items: &[T]) -> Option<T>
+    ensures { option_map T.value result ≡ least_valid (map (λ z. Some z) (map T.value items.now)) }
+{
+    if items.len() == 0 {
+        return None;
+    }
+    let mut least = items[0];
+    for i in 1..items.len() {
+        least = less(least, items[i]);
+    }
+    Some(least)
+}
+
+/// An integer less a reference, modulo 2 to the type's bits.
+fn minus<T: NativePType + WrappingSub>(item: T, reference: T) -> T
+    ensures { T.value result ≡ wrap T.PTYPE (T.value item -ℤ T.value reference) }
+{
+    item.wrapping_sub(&reference)
+}
+
+/// An integer plus a reference, modulo 2 to the type's bits.
+fn plus<T: NativePType + WrappingAdd>(item: T, reference: T) -> T
+    ensures { T.value result ≡ wrap T.PTYPE (T.value item +ℤ T.value reference) }
+{
+    item.wrapping_add(&reference)
+}
+
+/// Writes each integer less a reference.
+fn subtract<T: NativePType + WrappingSub>(items: &[T], reference: T, slots: &mut [T])
+    requires { length slots.old ≡ length items.now }
+    ensures { map T.value slots.new ≡ map (λ z. wrap T.PTYPE (z -ℤ T.value reference)) (map T.value items.now) }
+{
+    for i in 0..items.len() {
+        slots[i] = minus(items[i], reference);
+    }
+}
+
+/// Writes each integer less the reference of its chunk of 1024.
+fn subtract_chunks<T: NativePType + WrappingSub>(items: &[T], references: &[T], slots: &mut [T])
+    requires slots { length slots.old ≡ length items.now }
+    requires references { length references.now ≡ chunks_of (length items.now) }
+    ensures { (j : ℕ) → j < length items.now → slice_index_or (map T.value slots.new) j (pos 0) ≡ wrap T.PTYPE (slice_index_or (map T.value items.now) j (pos 0) -ℤ slice_index_or (map T.value references.now) (j / 1024) (pos 0)) }
+{
+    for k in 0..references.len() {
+        let start = FL_CHUNK_SIZE * k;
+        let end = chunk_end(k, items.len());
+        let part = &mut slots[start..end];
+        subtract(&items[start..end], references[k], part);
+    }
+}
+
+/// Writes each integer plus a reference.
+fn add<T: NativePType + WrappingAdd>(items: &[T], reference: T, slots: &mut [T])
+    requires { length slots.old ≡ length items.now }
+    ensures { map T.value slots.new ≡ map (λ z. wrap T.PTYPE (z +ℤ T.value reference)) (map T.value items.now) }
+{
+    for i in 0..items.len() {
+        slots[i] = plus(items[i], reference);
+    }
+}
+
+/// Where the items of chunk `k` begin and end among `len` items, of which the first stands at `offset`.
+fn part_of_chunk(k: usize, offset: usize, len: usize) -> (usize, usize)
+    requires few { offset + len < 2 ^ 64 }
+    requires chunk { 1024 * k ≤ offset + len }
+    ensures start { result.0 ≡ 1024 * k - offset }
+    ensures end { result.1 ≡ min (1024 * (k + 1)) (offset + len) - offset }
+    ensures order { result.0 ≤ result.1 }
+    ensures range { result.1 ≤ len }
+{
+    let start = (FL_CHUNK_SIZE * k).saturating_sub(offset);
+    let end = chunk_end(k, offset + len).saturating_sub(offset);
+    (start, end)
+}
+
+/// Writes each integer plus the reference of its chunk of 1024, where the first one stands at `offset`.
+fn add_chunks<T: NativePType + WrappingAdd>(
+    items: &[T],
+    references: &[T],
+    offset: usize,
+    slots: &mut [T],
+)
+    requires slots { length slots.old ≡ length items.now }
+    requires few { offset + length items.now < 2 ^ 64 }
+    requires references { chunks_of (offset + length items.now) ≤ length references.now }
+    ensures { (j : ℕ) → j < length items.now → slice_index_or (map T.value slots.new) j (pos 0) ≡ wrap T.PTYPE (slice_index_or (map T.value items.now) j (pos 0) +ℤ slice_index_or (map T.value references.now) ((offset + j) / 1024) (pos 0)) }
+{
+    let len = items.len();
+    for k in 0..chunk_count(offset + len) {
+        let (start, end) = part_of_chunk(k, offset, len);
+        let part = &mut slots[start..end];
+        add(&items[start..end], references[k], part);
+    }
+}
+
+/// Each integer less a reference, modulo 2 to the type's bits.
+pub(crate) fn differences<T: NativePType + WrappingSub>(
+    alloc: Global,
+    items: &[T],
+    reference: T,
+) -> Result<Vec<T>, AllocError>
+    ensures { IfOk result (λ v. map T.value v.items ≡ map (λ z. wrap T.PTYPE (z -ℤ T.value reference)) (map T.value items.now)) }
+{
+    let mut slots = Vec::new(alloc);
+    slots.resize(items.len(), T::zero())?;
+    subtract(items, reference, &mut slots);
+    Ok(slots)
+}
+
+/// Each integer less the reference of its chunk of 1024, modulo 2 to the type's bits.
+pub(crate) fn chunked_differences<T: NativePType + WrappingSub>(
+    alloc: Global,
+    items: &[T],
+    references: &[T],
+) -> Result<Vec<T>, AllocError>
+    requires { length references.now ≡ chunks_of (length items.now) }
+    ensures { IfOk result (λ v. map T.value v.items ≡ chunked_slots T.PTYPE (map T.value references.now) (map (λ z. Some z) (map T.value items.now))) }
+{
+    let mut slots = Vec::new(alloc);
+    slots.resize(items.len(), T::zero())?;
+    subtract_chunks(items, references, &mut slots);
+    Ok(slots)
+}
+
+/// Each integer plus a reference, modulo 2 to the type's bits.
+pub(crate) fn sums<T: NativePType + WrappingAdd>(
+    alloc: Global,
+    items: &[T],
+    reference: T,
+) -> Result<Vec<T>, AllocError>
+    ensures { IfOk result (λ v. map T.value v.items ≡ map (λ z. wrap T.PTYPE (z +ℤ T.value reference)) (map T.value items.now)) }
+{
+    let mut sums = Vec::new(alloc);
+    sums.resize(items.len(), T::zero())?;
+    add(items, reference, &mut sums);
+    Ok(sums)
+}
+
+/// Each integer plus the reference of its chunk of 1024, modulo 2 to the type's bits. The first one stands at
+/// `offset` in its chunk.
+pub(crate) fn chunked_sums<T: NativePType + WrappingAdd>(
+    alloc: Global,
+    items: &[T],
+    references: &[T],
+    offset: usize,
+) -> Result<Vec<T>, AllocError>
+    requires few { offset + length items.now < 2 ^ 64 }
+    requires references { chunks_of (offset + length items.now) ≤ length references.now }
+    ensures long { IfOk result (λ v. length v.items ≡ length items.now) }
+    ensures sums { IfOk result (λ v. map T.value v.items ≡ chunked_sums T.PTYPE (map T.value references.now) offset (map T.value items.now)) }
+{
+    let mut sums = Vec::new(alloc);
+    sums.resize(items.len(), T::zero())?;
+    add_chunks(items, references, offset, &mut sums);
+    Ok(sums)
+}

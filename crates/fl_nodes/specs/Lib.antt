@@ -1,0 +1,4 @@
+pub mod Leaves
+pub mod Kinds
+pub mod Shapes
+pub mod Checks

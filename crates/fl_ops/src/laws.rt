@@ -1,0 +1,103 @@
+//! What holds of the arrays that operations make, and of answers.
+
+ghost use Rattle.std.specs.Prelude.{◌≡◌, ◌-◌, ◌<◌, ◌≤◌, IfOk, IsTrue, Ok, length, map};
+ghost use Rattle.fl_types.specs.Refusals.{Answers};
+ghost use Rattle.fl_types.specs.Values.{scalar_parts};
+ghost use Rattle.fl_column.specs.Columns.{column_of_bools};
+ghost use Rattle.fl_column.specs.Operations.{cast_column, item_named, moved};
+ghost use Rattle.fl_array.specs.Kinds.{kind};
+ghost use Rattle.fl_array.specs.Trees.{Tree, column};
+ghost use Rattle.fl_ops.specs.Normalized.{SameShown};
+ghost use Rattle.fl_ops.specs.Operations.{step_column, step_of};
+ghost use Rattle.fl_ops.specs.Questions.{is_comparable, negated};
+ghost use Rattle.fl_ops.specs.Results.{result_of};
+
+use crate::array_ops::ArrayOps;
+use crate::operations::{Op, apply};
+use fl_array::ArrayRef;
+use fl_column::{BoolArray, CompareOperator, DType, FastLanesError, Scalar};
+use std::alloc::Global;
+use std::ops::Range;
+
+/// Arrays that are the same but for slots under nulls and the forms of validities have one column and
+/// one kind.
+#[tactic(auto, using(crate::proofs::NormalizedLaws::same_columns, crate::proofs::NormalizedLaws::same_kinds))]
+pub fn same_shown()
+    ensures column { (a b : Tree) → SameShown a b → column a ≡ column b }
+    ensures kind { (a b : Tree) → SameShown a b → kind a ≡ kind b }
+{}
+
+/// What one operation makes of an array. The array that is stated for it has the operation's column, and its
+/// kind.
+///
+/// # Errors
+/// As `apply_all` of the one operation.
+#[tactic(auto, using(crate::proofs::NormalizedLaws::same_columns, crate::proofs::NormalizedLaws::same_kinds))]
+pub fn stated_result(array: &ArrayRef, alloc: Global, op: &Op) -> Result<ArrayRef, FastLanesError>
+    ensures column { Answers column result (step_column (column array.now) (step_of op.now)) }
+    ensures stated { IfOk result (λ a. column (result_of (step_of op.now) array.now) ≡ column a) }
+    ensures kind { IfOk result (λ a. kind (result_of (step_of op.now) array.now) ≡ kind a) }
+{
+    apply(alloc, array, op)
+}
+
+/// The cast of an array, and the cast of that, which has the column that the second cast gives of the array
+/// itself.
+///
+/// # Errors
+/// As the first cast, then as the second.
+pub fn cast_of_cast(
+    array: &ArrayRef,
+    alloc: Global,
+    first: DType,
+    second: DType,
+) -> Result<(ArrayRef, ArrayRef), FastLanesError>
+    ensures first { IfOk result (λ casts. cast_column first (column array.now) ≡ Ok (column casts.0)) }
+    ensures second { IfOk result (λ casts. cast_column second (column array.now) ≡ Ok (column casts.1)) }
+{
+    fl_column::laws::cast_of_cast(first, second);
+    let once = array.cast(alloc, first)?;
+    let twice = once.cast(alloc, second)?;
+    Ok((once, twice))
+}
+
+/// Whether each item equals a constant, and whether each differs from it: the one is the negation of the other
+/// at each item that is not null.
+///
+/// # Errors
+/// `NotInteger`.
+pub fn differing_is_not_equal(
+    array: &ArrayRef,
+    alloc: Global,
+    constant: &Scalar,
+) -> Result<(BoolArray, BoolArray), FastLanesError>
+    requires { IsTrue (is_comparable (column array.now) (scalar_parts constant.now)) }
+    ensures { IfOk result (λ answers. column_of_bools answers.1 ≡ negated (column_of_bools answers.0)) }
+{
+    let equal = array.compare(alloc, CompareOperator::Eq, constant)?;
+    let differing = array.compare(alloc, CompareOperator::NotEq, constant)?;
+    Ok((equal, differing))
+}
+
+/// A slice of an array, and a take from it, which has the items of the array that the indices, moved on to the
+/// slice's start, name.
+///
+/// # Errors
+/// As the take.
+#[tactic(auto, using(crate::proofs::NegatedLaws::taken_of_slice))]
+pub fn take_of_slice(
+    array: &ArrayRef,
+    alloc: Global,
+    range: Range<usize>,
+    indices: &ArrayRef,
+) -> Result<(ArrayRef, ArrayRef), FastLanesError>
+    requires order { range.start ≤ range.end }
+    requires range { range.end ≤ length (column array.now).items }
+    ensures { IfOk result (λ arrays. (column arrays.1).items ≡ map (λ index. item_named (column array.now).items (moved range.start index)) (column indices.now).items) }
+{
+    let (start, end) = (range.start, range.end);
+    fl_column::laws::take_of_slice(start, end);
+    let part = array.slice(alloc, start..end)?;
+    let taken = part.take(alloc, indices)?;
+    Ok((part, taken))
+}

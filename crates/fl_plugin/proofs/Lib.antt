@@ -1,0 +1,11 @@
+pub mod ViewLaws
+pub mod ReadLaws
+pub mod PlainLaws
+pub mod LeavesAgain
+pub mod ColumnsAgain
+pub mod NestedAgain
+pub mod ValiditiesAgain
+pub mod PlainAgain
+pub mod ChildrenAgain
+pub mod PackedAgain
+pub mod BackLaws

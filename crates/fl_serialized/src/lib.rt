@@ -1,0 +1,7 @@
+//! Serialized arrays: what a columnar file keeps of an array.
+#![tactic(auto)]
+
+pub mod array;
+pub mod ids;
+
+pub use crate::array::SerializedArray;

@@ -1,0 +1,14 @@
+//! Containers: serialized arrays as bytes.
+#![tactic(auto)]
+
+mod ascii;
+pub mod error;
+pub mod laws;
+pub mod limits;
+pub mod reading;
+pub mod writing;
+
+pub use crate::error::ContainerError;
+pub use crate::limits::MAX_DEPTH;
+pub use crate::reading::read_container;
+pub use crate::writing::write_container;

@@ -1,0 +1,11 @@
+-- said here, where the search finds it too: a body that breaks it is refused at once
+use Rattle.std.proofs.Common.{rules}
+use Rattle.flcol_engine.specs.Command.{parts_of_run}
+use Rattle.flcol_engine.proofs.RunLemmas.{refused_run}
+use Rattle.flcol_engine.proofs.engine.run.Goals as goal
+
+pub returns-in_err-write_all-clause-answer : goal.returns-in_err-write_all-clause-answer
+returns-in_err-write_all-clause-answer g c = search rules
+
+pub returns-in_err-answer-clause-answer : goal.returns-in_err-answer-clause-answer
+returns-in_err-answer-clause-answer g c = refused_run (parts_of_run c.args.command.now) (g.S.Source.left c.args.source.now) c.in_ok-input.input.items (g.K.Sink.written c.args.sink.now) c.in_err-answer.field-0.0 c.from_residual-in_err-answer.result c.in_ok-input.ensures.bytes c.from_residual-in_err-answer.ensures.1 c.in_err-answer.ensures

@@ -1,0 +1,107 @@
+//! The commands of the program, as its words say them.
+
+use vortex_fastlanes::array::Op;
+use vortex_fastlanes::{BetweenOptions, CompareOperator, Nullability, PType};
+
+/// The command `pack`: the type of the column, and the bits that are kept of each item.
+#[derive(Clone, Copy, Debug, PartialEq, Eq)]
+pub struct Pack {
+    /// The integer type of the column's items.
+    pub ptype: PType,
+    /// Whether nulls may stand in the column.
+    pub nullability: Nullability,
+    /// The bits that are kept of each item, as the word says; whether the type has as many is judged
+    /// when the column has been read.
+    pub width: u8,
+}
+
+/// How integers are bit-packed.
+#[derive(Clone, Copy, Debug, PartialEq, Eq)]
+pub enum Packing {
+    /// At the width of least cost.
+    BestWidth,
+    /// At this width, as the word says; whether the type has more bits is judged when the column has
+    /// been read.
+    Width(u8),
+    /// At a width for each block, of least cost.
+    BestWidths,
+}
+
+/// An encoding of a column, and where it has a child that can be packed, how that is packed, if at all.
+#[derive(Clone, Copy, Debug, PartialEq, Eq)]
+pub enum Encoding {
+    /// The integers as they are.
+    Primitive,
+    /// Bit-packed.
+    BitPacked(Packing),
+    /// A frame of reference for the column, and its child.
+    FoR(Option<Packing>),
+    /// A frame of reference for each chunk, and its child.
+    ChunkedFoR(Option<Packing>),
+    /// Delta, and the deltas.
+    Delta(Option<Packing>),
+    /// Run-length encoded, and the run indices.
+    RLE(Option<Packing>),
+}
+
+/// The command `encode`: the type of the column, and its encoding.
+#[derive(Clone, Copy, Debug, PartialEq, Eq)]
+pub struct Encode {
+    /// The integer type of the column's items.
+    pub ptype: PType,
+    /// Whether nulls may stand in the column.
+    pub nullability: Nullability,
+    /// How the column is encoded.
+    pub encoding: Encoding,
+}
+
+/// A question to a column. Compared constants are integers; one that lies outside of every type is
+/// `None`.
+#[derive(Clone, Copy, Debug, PartialEq, Eq)]
+pub enum ColumnQuestion {
+    /// All items.
+    Decode,
+    /// The item at an index.
+    At(usize),
+    /// How each item compares with a constant.
+    Compare(CompareOperator, Option<i128>),
+    /// Whether each item lies between a lower and an upper bound.
+    Between(BetweenOptions, Option<i128>, Option<i128>),
+    /// Whether all items are equal.
+    IsConstant,
+    /// Whether no item is above the next or, where set, each is below the next.
+    IsSorted(bool),
+}
+
+/// A question to an array.
+#[derive(Clone, Copy, Debug, PartialEq, Eq)]
+pub enum Question {
+    /// One to its column.
+    Column(ColumnQuestion),
+    /// The id of its encoding.
+    Id,
+    /// The array itself, as a container.
+    Store,
+    /// The array with a boundary for each block wherever it is bit-packed, as a container.
+    Migrate,
+}
+
+/// The command `run`: operations, and the question to their result.
+#[derive(Drop)]
+pub struct Run {
+    /// The operations, in order.
+    pub ops: Vec<Op>,
+    /// The question.
+    pub question: Question,
+}
+
+/// A command of the program.
+#[derive(Drop)]
+pub enum Command {
+    /// Packs a column of text.
+    Pack(Pack),
+    /// Encodes a column of text, as a container.
+    Encode(Encode),
+    /// Answers a question to the column of a container.
+    Run(Run),
+}

@@ -1,0 +1,9 @@
+//! Serialized arrays: what a columnar file keeps of an array, the messages in it, and the reader that any
+//! tree can be handed to.
+
+pub use fl_metadata::{BitPackedMetadata, DeltaMetadata, RLEMetadata};
+pub use fl_plugin::laws::round_trip;
+pub use fl_plugin::{
+    ArrayForm, BitPackedPlugin, FoRPlugin, SerializedArray, bitpacked_v1_id, bitpacked_v2_id,
+    deserialize, for_v1_id, for_v2_id, serialize,
+};

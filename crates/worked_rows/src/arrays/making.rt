@@ -1,0 +1,92 @@
+//! Encoded arrays of their parts. Every call that makes one stands here.
+
+use super::Built;
+use bytes::Bytes;
+use fl_array::bitpacking::BitPacked;
+use fl_array::delta::Delta;
+use fl_array::for_::FoR;
+use fl_array::rle::RLE;
+use fl_patches::Patches;
+use std::alloc::Global;
+use vortex_fastlanes::array::{ArrayRef, IntoArray};
+use vortex_fastlanes::{PType, Scalar, Validity};
+
+/// The parts of a bit-packed array, without the widths of its blocks.
+#[derive(Drop)]
+pub(super) struct Packed {
+    pub(super) bytes: Bytes,
+    pub(super) ptype: PType,
+    pub(super) validity: Validity,
+    pub(super) patches: Option<Patches>,
+    pub(super) offset: u16,
+    pub(super) len: usize,
+}
+
+/// A bit-packed array, whose blocks all have one width.
+pub(super) fn bitpacked(parts: Packed, width: u8) -> Built {
+    let Packed {
+        bytes,
+        ptype,
+        validity,
+        patches,
+        offset,
+        len,
+    } = parts;
+    let array = BitPacked::try_new(bytes, ptype, validity, patches, width, len, offset)?;
+    Ok(array.into_array())
+}
+
+/// A bit-packed array, whose blocks lie between boundaries.
+pub(super) fn blocked(alloc: Global, parts: Packed, boundaries: ArrayRef) -> Built {
+    let Packed {
+        bytes,
+        ptype,
+        validity,
+        patches,
+        offset,
+        len,
+    } = parts;
+    let array = BitPacked::try_new_with_block_offsets(
+        alloc, bytes, ptype, validity, patches, boundaries, len, offset,
+    )?;
+    Ok(array.into_array())
+}
+
+/// An array less one reference.
+pub(super) fn global_for(alloc: Global, encoded: ArrayRef, reference: Scalar) -> Built {
+    Ok(FoR::try_new(alloc, encoded, reference)?.into_array())
+}
+
+/// An array less a reference for each chunk.
+pub(super) fn chunked_for(
+    alloc: Global,
+    encoded: ArrayRef,
+    references: ArrayRef,
+    offset: u16,
+) -> Built {
+    Ok(FoR::try_new_chunked(alloc, encoded, references, offset)?.into_array())
+}
+
+/// An array of bases and deltas.
+pub(super) fn delta(
+    alloc: Global,
+    bases: ArrayRef,
+    deltas: ArrayRef,
+    validity: Validity,
+    offset: usize,
+    len: usize,
+) -> Built {
+    Ok(Delta::try_new(alloc, bases, deltas, validity, offset, len)?.into_array())
+}
+
+/// An array of run values, run indices and run offsets.
+pub(super) fn rle(
+    alloc: Global,
+    values: ArrayRef,
+    indices: ArrayRef,
+    offsets: ArrayRef,
+    offset: usize,
+    len: usize,
+) -> Built {
+    Ok(RLE::try_new(alloc, values, indices, offsets, offset, len)?.into_array())
+}

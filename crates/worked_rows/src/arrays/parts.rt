@@ -1,0 +1,272 @@
+//! What arrays of each kind are made of. Every call that looks into an encoded one stands here.
+
+use crate::text::Text;
+use crate::{packing, patches, shown};
+use fl_array::bitpacking::{BitPackedArray, BitWidthsView};
+use fl_array::delta::DeltaArray;
+use fl_array::for_::{FoRArray, FoRReferences};
+use fl_array::rle::RLEArray;
+use std::alloc::Global;
+use vortex_fastlanes::array::ArrayRef;
+
+/// The arrays inside an array, in the order of its slots.
+fn inside(array: &ArrayRef) -> [Option<&ArrayRef>; 3] {
+    if let Some(array) = array.as_bitpacked() {
+        match array.bit_widths() {
+            BitWidthsView::Global(_) => [None, None, None],
+            BitWidthsView::Blocked(boundaries) => [Some(boundaries), None, None],
+        }
+    } else if let Some(array) = array.as_for() {
+        match array.references() {
+            FoRReferences::Global(_) => [Some(array.encoded()), None, None],
+            FoRReferences::Blocked(references) => [Some(array.encoded()), Some(references), None],
+        }
+    } else if let Some(array) = array.as_delta() {
+        [Some(array.bases()), Some(array.deltas()), None]
+    } else if let Some(array) = array.as_rle() {
+        [
+            Some(array.values()),
+            Some(array.indices()),
+            Some(array.offsets()),
+        ]
+    } else {
+        [None, None, None]
+    }
+}
+
+/// The name of a kind of encoded arrays.
+fn encoding(array: &ArrayRef) -> &'static str {
+    if let Some(array) = array.as_bitpacked() {
+        match array.bit_widths() {
+            BitWidthsView::Global(_) => "bitpacked",
+            BitWidthsView::Blocked(_) => "blocked",
+        }
+    } else if let Some(array) = array.as_for() {
+        match array.references() {
+            FoRReferences::Global(_) => "for",
+            FoRReferences::Blocked(_) => "forc",
+        }
+    } else if array.as_delta().is_some() {
+        "delta"
+    } else if array.as_rle().is_some() {
+        "rle"
+    } else {
+        "none"
+    }
+}
+
+/// The name of a kind.
+fn name(array: &ArrayRef) -> &'static str {
+    if array.as_primitive().is_some() {
+        "plain"
+    } else if array.as_constant().is_some() {
+        "constant"
+    } else if array.as_bool().is_some() {
+        "bools"
+    } else {
+        encoding(array)
+    }
+}
+
+/// Adds the kinds of the arrays inside an array, in brackets.
+#[cycle(kind)]
+fn kinds_inside(array: &ArrayRef, depth: usize, answer: &mut Text) {
+    let mut is_first = true;
+    for inner in inside(array) {
+        if let Some(inner) = inner {
+            answer.piece(if is_first { "(" } else { "," });
+            kind_to(inner, depth, answer);
+            is_first = false;
+        }
+    }
+    if !is_first {
+        answer.piece(")");
+    }
+}
+
+/// Adds the kind of an array, and the kinds of at most this many levels inside it.
+#[cycle(kind)]
+fn kind_to(array: &ArrayRef, depth: usize, answer: &mut Text) {
+    answer.piece(name(array));
+    if depth > 0 {
+        kinds_inside(array, depth - 1, answer);
+    }
+}
+
+/// Adds the kind of an array, as `for(bitpacked)`.
+pub(super) fn kind(array: &ArrayRef, answer: &mut Text) {
+    kind_to(array, 8, answer);
+    answer.word("");
+}
+
+/// The place of a slot among those of its array.
+fn slot(name: &str) -> Option<usize> {
+    match name {
+        "boundaries" | "encoded" | "bases" | "values" => Some(0),
+        "references" | "deltas" | "indices" => Some(1),
+        "offsets" => Some(2),
+        _ => None,
+    }
+}
+
+/// The array in a slot of an array, if there is one.
+fn in_slot<'a>(array: &'a ArrayRef, name: &str) -> Option<&'a ArrayRef> {
+    let arrays = inside(array);
+    let inner = arrays.get(slot(name)?)?;
+    *inner
+}
+
+/// The array inside an array that words lead to, as `of encoded of bases`, and the words behind them.
+pub(super) fn descend<'a>(
+    array: &'a ArrayRef,
+    words: &'a [&'a str],
+) -> Option<(&'a ArrayRef, &'a [&'a str])> {
+    let (mut inner, mut rest) = (array, words);
+    for _ in 0..words.len() {
+        match rest {
+            ["of", name, behind @ ..] => {
+                inner = in_slot(inner, name)?;
+                rest = behind;
+            }
+            _ => return Some((inner, rest)),
+        }
+    }
+    Some((inner, rest))
+}
+
+/// Adds the type and the items of an array inside another one.
+fn part(alloc: Global, array: &ArrayRef, answer: &mut Text) {
+    answer.word("|");
+    shown::made(answer, array.to_primitive(alloc));
+}
+
+/// Adds the place of the first item in its block, and how many items there are.
+fn window(answer: &mut Text, offset: usize, len: usize) {
+    answer.word("offset");
+    answer.count(offset);
+    answer.word("len");
+    answer.count(len);
+}
+
+/// Adds the width of the blocks, or their boundaries.
+fn widths(alloc: Global, array: &BitPackedArray, answer: &mut Text) {
+    match array.bit_widths() {
+        BitWidthsView::Global(width) => {
+            answer.word("| width");
+            answer.count(usize::from(width));
+        }
+        BitWidthsView::Blocked(boundaries) => part(alloc, boundaries, answer),
+    }
+}
+
+/// Adds the parts of a bit-packed array, its bytes and its validity aside.
+fn packed_parts(alloc: Global, array: &BitPackedArray, answer: &mut Text) {
+    let data = array.packed_data();
+    window(answer, data.offset(), data.len());
+    answer.word("bytes");
+    answer.count(data.packed().len());
+    widths(alloc, array, answer);
+    answer.word("|");
+    match data.patches() {
+        Some(patches) => patches::parts(answer, patches),
+        None => answer.word("unpatched"),
+    }
+}
+
+/// Adds the parts of an array less references.
+fn for_parts(alloc: Global, array: &FoRArray, answer: &mut Text) {
+    answer.word("offset");
+    answer.count(array.offset());
+    answer.word("|");
+    match array.references() {
+        FoRReferences::Global(reference) => shown::scalar(answer, *reference),
+        FoRReferences::Blocked(references) => shown::made(answer, references.to_primitive(alloc)),
+    }
+    part(alloc, array.encoded(), answer);
+}
+
+/// Adds the parts of an array of deltas, its validity aside.
+fn delta_parts(alloc: Global, array: &DeltaArray, answer: &mut Text) {
+    window(answer, array.offset(), array.len());
+    part(alloc, array.bases(), answer);
+    part(alloc, array.deltas(), answer);
+}
+
+/// Adds the parts of a run-length encoded array.
+fn rle_parts(alloc: Global, array: &RLEArray, answer: &mut Text) {
+    window(answer, array.offset(), array.len());
+    part(alloc, array.values(), answer);
+    part(alloc, array.indices(), answer);
+    part(alloc, array.offsets(), answer);
+}
+
+/// Adds the parts of an encoded array.
+pub(super) fn parts(alloc: Global, array: &ArrayRef, answer: &mut Text) {
+    if let Some(array) = array.as_bitpacked() {
+        packed_parts(alloc, array, answer);
+    } else if let Some(array) = array.as_for() {
+        for_parts(alloc, array, answer);
+    } else if let Some(array) = array.as_delta() {
+        delta_parts(alloc, array, answer);
+    } else if let Some(array) = array.as_rle() {
+        rle_parts(alloc, array, answer);
+    } else {
+        answer.word("no parts");
+    }
+}
+
+/// How many blocks a bit-packed array keeps, by its bytes or its boundaries.
+fn packed_blocks(array: &BitPackedArray) -> usize {
+    match array.bit_widths() {
+        BitWidthsView::Global(0) => array.packed_data().block_count(),
+        BitWidthsView::Global(width) => array.packed_data().packed().len()
+            / 128
+            / usize::from(width),
+        BitWidthsView::Blocked(boundaries) => boundaries.len().saturating_sub(1),
+    }
+}
+
+/// Adds how many blocks an array keeps.
+fn kept_blocks(answer: &mut Text, blocks: usize) {
+    answer.count(blocks);
+    answer.word("blocks");
+}
+
+/// Adds how many blocks an encoded array keeps, the place of its first item in the first one, and its length.
+pub(super) fn kept(array: &ArrayRef, answer: &mut Text) {
+    let len = array.len();
+    if let Some(array) = array.as_bitpacked() {
+        kept_blocks(answer, packed_blocks(array));
+        window(answer, array.packed_data().offset(), len);
+    } else if let Some(array) = array.as_delta() {
+        kept_blocks(answer, array.deltas().len() / 1024);
+        window(answer, array.offset(), len);
+    } else if let Some(array) = array.as_rle() {
+        kept_blocks(answer, array.offsets().len());
+        window(answer, array.offset(), len);
+    } else if let Some(array) = array.as_for() {
+        if let FoRReferences::Blocked(references) = array.references() {
+            kept_blocks(answer, references.len());
+        }
+        window(answer, array.offset(), len);
+    }
+}
+
+/// Adds the packed bytes of a bit-packed array.
+pub(super) fn packed_bytes(array: &ArrayRef, answer: &mut Text) {
+    match array.as_bitpacked() {
+        Some(array) => packing::show(answer, array.packed_data().packed().as_slice()),
+        None => answer.word("no bytes"),
+    }
+}
+
+/// Adds the type and the stored integers of a plain array, those under nulls too.
+pub(super) fn slots(array: &ArrayRef, answer: &mut Text) {
+    match array.as_primitive() {
+        Some(array) => {
+            shown::dtype(answer, array.dtype());
+            shown::slots(answer, array);
+        }
+        None => answer.word("no slots"),
+    }
+}
