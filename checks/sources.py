@@ -122,8 +122,15 @@ def owners_of(text):
         yield head.end() - 1, end_of(text, head.end() - 1), name
 
 
+def traits_of(text):
+    """Where each impl of a trait begins and ends: its functions are as public as the trait."""
+    for head in OWNER.finditer(text):
+        if " for " in head.group(1):
+            yield head.end() - 1, end_of(text, head.end() - 1)
+
+
 def functions_of(file):
-    text, owners = file.text, [*owners_of(file.text)]
+    text, owners, traits = file.text, [*owners_of(file.text)], [*traits_of(file.text)]
     for found in FUNCTION.finditer(text):
         at = found.end()
         if text[at] == "<":
@@ -133,7 +140,7 @@ def functions_of(file):
         returned, body = rest_of(text, end)
         owner = next((name for start, stop, name in owners if start < found.start() < stop), "")
         line = text[text.rfind("\n", 0, found.start()) + 1 : found.start()]
-        is_public = line.lstrip().startswith("pub ")
+        is_public = line.lstrip().startswith("pub ") or any(start < found.start() < stop for start, stop in traits)
         yield Function(file, owner, found.group(1), generics, parameters, returned, body, is_public)
 
 

@@ -8,7 +8,7 @@ ghost use Rattle.fastlanes.specs.Compared.{is_bit_set, has_bit, IsAnswer, Compar
 
 use crate::counts::Work;
 use crate::facts::prove_bytes_fit;
-use crate::storage::AsWords;
+use crate::storage::{AsBytes, AsWords, Storage};
 use crate::unpacking::items_of_row;
 use crate::widths::{at_eight, bits, lanes};
 use crate::words::FastLanes;
@@ -38,9 +38,9 @@ fn compare_lanes<W: FastLanes, F: Fn(W, W) -> bool>(
 
 /// Adds the answers for row `r` of the lanes of group `g` to those for the rows below.
 #[inline(always)]
-fn compare_row<W: FastLanes, F: Fn(W, W) -> bool>(
+fn compare_row<W: FastLanes, S: Storage<W>, F: Fn(W, W) -> bool>(
     width: usize,
-    words: &[W],
+    words: &[S::Unit],
     cmp: &F,
     rhs: W,
     r: usize,
@@ -48,20 +48,20 @@ fn compare_row<W: FastLanes, F: Fn(W, W) -> bool>(
     answers: Simd<W, 16>,
 ) -> Simd<W, 16>
     requires row { r < W.T }
-    requires group { IsGroup W.T W.LANES width (length words.now) g }
+    requires group { IsGroup W.T W.LANES width (S.count (length words.now)) g }
     requires callable { F.IsAlwaysCallable cmp.now }
-    requires answers { Compares W.pattern (F.post cmp.now) rhs (item_of_row W.T W.LANES width (pattern_at W.pattern words.now)) g r (W.lane answers) }
-    ensures answers { Compares W.pattern (F.post cmp.now) rhs (item_of_row W.T W.LANES width (pattern_at W.pattern words.now)) g (r + 1) (W.lane result) }
+    requires answers { Compares W.pattern (F.post cmp.now) rhs (item_of_row W.T W.LANES width (S.word words.now)) g r (W.lane answers) }
+    ensures answers { Compares W.pattern (F.post cmp.now) rhs (item_of_row W.T W.LANES width (S.word words.now)) g (r + 1) (W.lane result) }
 {
-    let row = items_of_row::<W, AsWords>(width, words, r, g);
+    let row = items_of_row::<W, S>(width, words, r, g);
     W::or(answers, compare_lanes(row, cmp, rhs, r))
 }
 
 /// Adds the answers for the four rows from `r` on of the lanes of group `g` to those for the rows below.
 #[inline(always)]
-fn compare_4<W: FastLanes, F: Fn(W, W) -> bool>(
+fn compare_4<W: FastLanes, S: Storage<W>, F: Fn(W, W) -> bool>(
     width: usize,
-    words: &[W],
+    words: &[S::Unit],
     cmp: &F,
     rhs: W,
     r: usize,
@@ -69,22 +69,22 @@ fn compare_4<W: FastLanes, F: Fn(W, W) -> bool>(
     answers: Simd<W, 16>,
 ) -> Simd<W, 16>
     requires row { r + 4 ≤ W.T }
-    requires group { IsGroup W.T W.LANES width (length words.now) g }
+    requires group { IsGroup W.T W.LANES width (S.count (length words.now)) g }
     requires callable { F.IsAlwaysCallable cmp.now }
-    requires answers { Compares W.pattern (F.post cmp.now) rhs (item_of_row W.T W.LANES width (pattern_at W.pattern words.now)) g r (W.lane answers) }
-    ensures answers { Compares W.pattern (F.post cmp.now) rhs (item_of_row W.T W.LANES width (pattern_at W.pattern words.now)) g (r + 4) (W.lane result) }
+    requires answers { Compares W.pattern (F.post cmp.now) rhs (item_of_row W.T W.LANES width (S.word words.now)) g r (W.lane answers) }
+    ensures answers { Compares W.pattern (F.post cmp.now) rhs (item_of_row W.T W.LANES width (S.word words.now)) g (r + 4) (W.lane result) }
 {
-    let answers = compare_row(width, words, cmp, rhs, r, g, answers);
-    let answers = compare_row(width, words, cmp, rhs, r + 1, g, answers);
-    let answers = compare_row(width, words, cmp, rhs, r + 2, g, answers);
-    compare_row(width, words, cmp, rhs, r + 3, g, answers)
+    let answers = compare_row::<W, S, F>(width, words, cmp, rhs, r, g, answers);
+    let answers = compare_row::<W, S, F>(width, words, cmp, rhs, r + 1, g, answers);
+    let answers = compare_row::<W, S, F>(width, words, cmp, rhs, r + 2, g, answers);
+    compare_row::<W, S, F>(width, words, cmp, rhs, r + 3, g, answers)
 }
 
 /// Adds the answers for the eight rows from `r` on of the lanes of group `g` to those for the rows below.
 #[inline(always)]
-fn compare_8<W: FastLanes, F: Fn(W, W) -> bool>(
+fn compare_8<W: FastLanes, S: Storage<W>, F: Fn(W, W) -> bool>(
     width: usize,
-    words: &[W],
+    words: &[S::Unit],
     cmp: &F,
     rhs: W,
     r: usize,
@@ -92,71 +92,70 @@ fn compare_8<W: FastLanes, F: Fn(W, W) -> bool>(
     answers: Simd<W, 16>,
 ) -> Simd<W, 16>
     requires row { r + 8 ≤ W.T }
-    requires group { IsGroup W.T W.LANES width (length words.now) g }
+    requires group { IsGroup W.T W.LANES width (S.count (length words.now)) g }
     requires callable { F.IsAlwaysCallable cmp.now }
-    requires answers { Compares W.pattern (F.post cmp.now) rhs (item_of_row W.T W.LANES width (pattern_at W.pattern words.now)) g r (W.lane answers) }
-    ensures answers { Compares W.pattern (F.post cmp.now) rhs (item_of_row W.T W.LANES width (pattern_at W.pattern words.now)) g (r + 8) (W.lane result) }
+    requires answers { Compares W.pattern (F.post cmp.now) rhs (item_of_row W.T W.LANES width (S.word words.now)) g r (W.lane answers) }
+    ensures answers { Compares W.pattern (F.post cmp.now) rhs (item_of_row W.T W.LANES width (S.word words.now)) g (r + 8) (W.lane result) }
 {
-    let answers = compare_4(width, words, cmp, rhs, r, g, answers);
-    compare_4(width, words, cmp, rhs, r + 4, g, answers)
+    let answers = compare_4::<W, S, F>(width, words, cmp, rhs, r, g, answers);
+    compare_4::<W, S, F>(width, words, cmp, rhs, r + 4, g, answers)
 }
 
 /// Adds the answers for the sixteen rows from `FROM` on of the lanes of group `g` to those for the rows below.
 fn compare_16<
     W: FastLanes,
+    S: Storage<W>,
     F: Fn(W, W) -> bool,
     const FIRST: usize,
     const MORE: usize,
     const FROM: usize,
->(width: usize, words: &[W], cmp: &F, rhs: W, g: usize, answers: Simd<W, 16>) -> Simd<W, 16>
+>(width: usize, words: &[S::Unit], cmp: &F, rhs: W, g: usize, answers: Simd<W, 16>) -> Simd<W, 16>
     requires row { FROM + 16 ≤ W.T }
-    requires group { IsGroup W.T W.LANES width (length words.now) g }
+    requires group { IsGroup W.T W.LANES width (S.count (length words.now)) g }
     requires callable { F.IsAlwaysCallable cmp.now }
-    requires answers { Compares W.pattern (F.post cmp.now) rhs (item_of_row W.T W.LANES width (pattern_at W.pattern words.now)) g FROM (W.lane answers) }
-    ensures answers { Compares W.pattern (F.post cmp.now) rhs (item_of_row W.T W.LANES width (pattern_at W.pattern words.now)) g (FROM + 16) (W.lane result) }
+    requires answers { Compares W.pattern (F.post cmp.now) rhs (item_of_row W.T W.LANES width (S.word words.now)) g FROM (W.lane answers) }
+    ensures answers { Compares W.pattern (F.post cmp.now) rhs (item_of_row W.T W.LANES width (S.word words.now)) g (FROM + 16) (W.lane result) }
 {
-    let answers = compare_8(width, words, cmp, rhs, FROM, g, answers);
-    compare_8(width, words, cmp, rhs, FROM + 8, g, answers)
+    let answers = compare_8::<W, S, F>(width, words, cmp, rhs, FROM, g, answers);
+    compare_8::<W, S, F>(width, words, cmp, rhs, FROM + 8, g, answers)
 }
 
 /// The answers for the 32 rows of the lanes of group `g`.
-fn compare_32<W: FastLanes, F: Fn(W, W) -> bool, const FIRST: usize, const MORE: usize>(
-    width: usize,
-    words: &[W],
-    cmp: &F,
-    rhs: W,
-    g: usize,
-    answers: Simd<W, 16>,
-) -> Simd<W, 16>
+fn compare_32<
+    W: FastLanes,
+    S: Storage<W>,
+    F: Fn(W, W) -> bool,
+    const FIRST: usize,
+    const MORE: usize,
+>(width: usize, words: &[S::Unit], cmp: &F, rhs: W, g: usize, answers: Simd<W, 16>) -> Simd<W, 16>
     requires row { 32 ≤ W.T }
-    requires group { IsGroup W.T W.LANES width (length words.now) g }
+    requires group { IsGroup W.T W.LANES width (S.count (length words.now)) g }
     requires callable { F.IsAlwaysCallable cmp.now }
-    requires answers { Compares W.pattern (F.post cmp.now) rhs (item_of_row W.T W.LANES width (pattern_at W.pattern words.now)) g 0 (W.lane answers) }
-    ensures answers { Compares W.pattern (F.post cmp.now) rhs (item_of_row W.T W.LANES width (pattern_at W.pattern words.now)) g 32 (W.lane result) }
+    requires answers { Compares W.pattern (F.post cmp.now) rhs (item_of_row W.T W.LANES width (S.word words.now)) g 0 (W.lane answers) }
+    ensures answers { Compares W.pattern (F.post cmp.now) rhs (item_of_row W.T W.LANES width (S.word words.now)) g 32 (W.lane result) }
 {
-    let answers = compare_16::<W, F, FIRST, MORE, 0>(width, words, cmp, rhs, g, answers);
-    compare_16::<W, F, FIRST, MORE, 16>(width, words, cmp, rhs, g, answers)
+    let answers = compare_16::<W, S, F, FIRST, MORE, 0>(width, words, cmp, rhs, g, answers);
+    compare_16::<W, S, F, FIRST, MORE, 16>(width, words, cmp, rhs, g, answers)
 }
 
 /// The answers for the 64 rows of the lanes of group `g`.
-fn compare_64<W: FastLanes, F: Fn(W, W) -> bool, const FIRST: usize, const MORE: usize>(
-    width: usize,
-    words: &[W],
-    cmp: &F,
-    rhs: W,
-    g: usize,
-    answers: Simd<W, 16>,
-) -> Simd<W, 16>
+fn compare_64<
+    W: FastLanes,
+    S: Storage<W>,
+    F: Fn(W, W) -> bool,
+    const FIRST: usize,
+    const MORE: usize,
+>(width: usize, words: &[S::Unit], cmp: &F, rhs: W, g: usize, answers: Simd<W, 16>) -> Simd<W, 16>
     requires row { 64 ≤ W.T }
-    requires group { IsGroup W.T W.LANES width (length words.now) g }
+    requires group { IsGroup W.T W.LANES width (S.count (length words.now)) g }
     requires callable { F.IsAlwaysCallable cmp.now }
-    requires answers { Compares W.pattern (F.post cmp.now) rhs (item_of_row W.T W.LANES width (pattern_at W.pattern words.now)) g 0 (W.lane answers) }
-    ensures answers { Compares W.pattern (F.post cmp.now) rhs (item_of_row W.T W.LANES width (pattern_at W.pattern words.now)) g 64 (W.lane result) }
+    requires answers { Compares W.pattern (F.post cmp.now) rhs (item_of_row W.T W.LANES width (S.word words.now)) g 0 (W.lane answers) }
+    ensures answers { Compares W.pattern (F.post cmp.now) rhs (item_of_row W.T W.LANES width (S.word words.now)) g 64 (W.lane result) }
 {
-    let answers = compare_16::<W, F, FIRST, MORE, 0>(width, words, cmp, rhs, g, answers);
-    let answers = compare_16::<W, F, FIRST, MORE, 16>(width, words, cmp, rhs, g, answers);
-    let answers = compare_16::<W, F, FIRST, MORE, 32>(width, words, cmp, rhs, g, answers);
-    compare_16::<W, F, FIRST, MORE, 48>(width, words, cmp, rhs, g, answers)
+    let answers = compare_16::<W, S, F, FIRST, MORE, 0>(width, words, cmp, rhs, g, answers);
+    let answers = compare_16::<W, S, F, FIRST, MORE, 16>(width, words, cmp, rhs, g, answers);
+    let answers = compare_16::<W, S, F, FIRST, MORE, 32>(width, words, cmp, rhs, g, answers);
+    compare_16::<W, S, F, FIRST, MORE, 48>(width, words, cmp, rhs, g, answers)
 }
 
 /// No answer yet.
@@ -170,27 +169,27 @@ fn no_answers<W: FastLanes>() -> Simd<W, 16>
 /// The answers for all rows of the lanes of group `g`.
 #[inline(always)]
 #[tactic(auto, using(crate::proofs::ComparedBits::answers_none))]
-fn compare_group<W: FastLanes, F: Fn(W, W) -> bool, const FIRST: usize, const MORE: usize>(
-    width: usize,
-    words: &[W],
-    cmp: &F,
-    rhs: W,
-    g: usize,
-) -> Simd<W, 16>
-    requires group { IsGroup W.T W.LANES width (length words.now) g }
+fn compare_group<
+    W: FastLanes,
+    S: Storage<W>,
+    F: Fn(W, W) -> bool,
+    const FIRST: usize,
+    const MORE: usize,
+>(width: usize, words: &[S::Unit], cmp: &F, rhs: W, g: usize) -> Simd<W, 16>
+    requires group { IsGroup W.T W.LANES width (S.count (length words.now)) g }
     requires callable { F.IsAlwaysCallable cmp.now }
-    ensures answers { Compares W.pattern (F.post cmp.now) rhs (item_of_row W.T W.LANES width (pattern_at W.pattern words.now)) g W.T (W.lane result) }
+    ensures answers { Compares W.pattern (F.post cmp.now) rhs (item_of_row W.T W.LANES width (S.word words.now)) g W.T (W.lane result) }
 {
     let answers = no_answers::<W>();
     let t = bits::<W>();
     if t == 8 {
-        compare_8(width, words, cmp, rhs, 0, g, answers)
+        compare_8::<W, S, F>(width, words, cmp, rhs, 0, g, answers)
     } else if t == 16 {
-        compare_16::<W, F, FIRST, MORE, 0>(width, words, cmp, rhs, g, answers)
+        compare_16::<W, S, F, FIRST, MORE, 0>(width, words, cmp, rhs, g, answers)
     } else if t == 32 {
-        compare_32::<W, F, FIRST, MORE>(width, words, cmp, rhs, g, answers)
+        compare_32::<W, S, F, FIRST, MORE>(width, words, cmp, rhs, g, answers)
     } else {
-        compare_64::<W, F, FIRST, MORE>(width, words, cmp, rhs, g, answers)
+        compare_64::<W, S, F, FIRST, MORE>(width, words, cmp, rhs, g, answers)
     }
 }
 
@@ -212,22 +211,22 @@ fn write_group<W: FastLanes>(answers: Simd<W, 16>, g: usize, bytes: &mut [u8; 12
 /// Sets bit `r` of word `l` of these bytes where `cmp` holds of the item at row `r` of lane `l` and `rhs`.
 ///
 /// `FIRST` and `MORE` give each width a function of its own, in which the compiler knows it.
-fn compare_groups<W: FastLanes, F: Fn(W, W) -> bool, const FIRST: usize, const MORE: usize>(
-    width: usize,
-    words: &[W],
-    cmp: &F,
-    rhs: W,
-    bytes: &mut [u8; 128],
-)
+fn compare_groups<
+    W: FastLanes,
+    S: Storage<W>,
+    F: Fn(W, W) -> bool,
+    const FIRST: usize,
+    const MORE: usize,
+>(width: usize, words: &[S::Unit], cmp: &F, rhs: W, bytes: &mut [u8; 128])
     requires width { width ≤ W.T }
-    requires block { length words.now ≡ width * W.LANES }
+    requires block { S.count (length words.now) ≡ width * W.LANES }
     requires callable { F.IsAlwaysCallable cmp.now }
-    ensures set { (r l : ℕ) → r < W.T → l < W.LANES → IsAnswer W.pattern (F.post cmp.now) rhs (item_of_row W.T W.LANES width (pattern_at W.pattern words.now) r l) (is_bit_set (word_at W.T bytes.new l) r) }
+    ensures set { (r l : ℕ) → r < W.T → l < W.LANES → IsAnswer W.pattern (F.post cmp.now) rhs (item_of_row W.T W.LANES width (S.word words.now) r l) (is_bit_set (word_at W.T bytes.new l) r) }
 {
     W::prove_in_memory();
     for g in 0..lanes::<W>() / 16 {
         write_group::<W>(
-            compare_group::<W, F, FIRST, MORE>(width, words, cmp, rhs, g),
+            compare_group::<W, S, F, FIRST, MORE>(width, words, cmp, rhs, g),
             g,
             bytes,
         );
@@ -236,24 +235,25 @@ fn compare_groups<W: FastLanes, F: Fn(W, W) -> bool, const FIRST: usize, const M
 
 /// Compares at a width that is a constant: `FIRST` bits and `MORE`.
 #[inline(never)]
-fn compare_at<W: FastLanes, F: Fn(W, W) -> bool, const FIRST: usize, const MORE: usize>(
-    words: &[W],
-    cmp: &F,
-    rhs: W,
-    bytes: &mut [u8; 128],
-)
+fn compare_at<
+    W: FastLanes,
+    S: Storage<W>,
+    F: Fn(W, W) -> bool,
+    const FIRST: usize,
+    const MORE: usize,
+>(words: &[S::Unit], cmp: &F, rhs: W, bytes: &mut [u8; 128])
     requires width { FIRST + MORE ≤ W.T }
-    requires block { length words.now ≡ (FIRST + MORE) * W.LANES }
+    requires block { S.count (length words.now) ≡ (FIRST + MORE) * W.LANES }
     requires callable { F.IsAlwaysCallable cmp.now }
-    ensures set { (r l : ℕ) → r < W.T → l < W.LANES → IsAnswer W.pattern (F.post cmp.now) rhs (item_of_row W.T W.LANES (FIRST + MORE) (pattern_at W.pattern words.now) r l) (is_bit_set (word_at W.T bytes.new l) r) }
+    ensures set { (r l : ℕ) → r < W.T → l < W.LANES → IsAnswer W.pattern (F.post cmp.now) rhs (item_of_row W.T W.LANES (FIRST + MORE) (S.word words.now) r l) (is_bit_set (word_at W.T bytes.new l) r) }
 {
-    compare_groups::<W, F, FIRST, MORE>(FIRST + MORE, words, cmp, rhs, bytes);
+    compare_groups::<W, S, F, FIRST, MORE>(FIRST + MORE, words, cmp, rhs, bytes);
 }
 
 /// Compares at one of the eight widths from `FIRST` on.
-fn compare_eight<W: FastLanes, F: Fn(W, W) -> bool, const FIRST: usize>(
+fn compare_eight<W: FastLanes, S: Storage<W>, F: Fn(W, W) -> bool, const FIRST: usize>(
     width: usize,
-    words: &[W],
+    words: &[S::Unit],
     cmp: &F,
     rhs: W,
     bytes: &mut [u8; 128],
@@ -261,48 +261,48 @@ fn compare_eight<W: FastLanes, F: Fn(W, W) -> bool, const FIRST: usize>(
     requires first { FIRST ≤ width }
     requires below { width < FIRST + 8 }
     requires width { width ≤ W.T }
-    requires block { length words.now ≡ width * W.LANES }
+    requires block { S.count (length words.now) ≡ width * W.LANES }
     requires callable { F.IsAlwaysCallable cmp.now }
-    ensures set { (r l : ℕ) → r < W.T → l < W.LANES → IsAnswer W.pattern (F.post cmp.now) rhs (item_of_row W.T W.LANES width (pattern_at W.pattern words.now) r l) (is_bit_set (word_at W.T bytes.new l) r) }
+    ensures set { (r l : ℕ) → r < W.T → l < W.LANES → IsAnswer W.pattern (F.post cmp.now) rhs (item_of_row W.T W.LANES width (S.word words.now) r l) (is_bit_set (word_at W.T bytes.new l) r) }
 {
     at_eight!(
         width - FIRST,
         compare_at,
-        [W, F, FIRST],
+        [W, S, F, FIRST],
         (words, cmp, rhs, bytes)
     )
 }
 
 /// Compares at a width below 32 bits.
-fn compare_below_32<W: FastLanes, F: Fn(W, W) -> bool>(
+fn compare_below_32<W: FastLanes, S: Storage<W>, F: Fn(W, W) -> bool>(
     width: usize,
-    words: &[W],
+    words: &[S::Unit],
     cmp: &F,
     rhs: W,
     bytes: &mut [u8; 128],
 )
     requires below { width < 32 }
     requires width { width < W.T }
-    requires block { length words.now ≡ width * W.LANES }
+    requires block { S.count (length words.now) ≡ width * W.LANES }
     requires callable { F.IsAlwaysCallable cmp.now }
-    ensures set { (r l : ℕ) → r < W.T → l < W.LANES → IsAnswer W.pattern (F.post cmp.now) rhs (item_of_row W.T W.LANES width (pattern_at W.pattern words.now) r l) (is_bit_set (word_at W.T bytes.new l) r) }
+    ensures set { (r l : ℕ) → r < W.T → l < W.LANES → IsAnswer W.pattern (F.post cmp.now) rhs (item_of_row W.T W.LANES width (S.word words.now) r l) (is_bit_set (word_at W.T bytes.new l) r) }
 {
     let t = bits::<W>();
     if t == 8 || width < 8 {
-        compare_eight::<W, F, 0>(width, words, cmp, rhs, bytes);
+        compare_eight::<W, S, F, 0>(width, words, cmp, rhs, bytes);
     } else if t == 16 || width < 16 {
-        compare_eight::<W, F, 8>(width, words, cmp, rhs, bytes);
+        compare_eight::<W, S, F, 8>(width, words, cmp, rhs, bytes);
     } else if width < 24 {
-        compare_eight::<W, F, 16>(width, words, cmp, rhs, bytes);
+        compare_eight::<W, S, F, 16>(width, words, cmp, rhs, bytes);
     } else {
-        compare_eight::<W, F, 24>(width, words, cmp, rhs, bytes);
+        compare_eight::<W, S, F, 24>(width, words, cmp, rhs, bytes);
     }
 }
 
 /// Compares at a width of 32 to 63 bits.
-fn compare_from_32<W: FastLanes, F: Fn(W, W) -> bool>(
+fn compare_from_32<W: FastLanes, S: Storage<W>, F: Fn(W, W) -> bool>(
     width: usize,
-    words: &[W],
+    words: &[S::Unit],
     cmp: &F,
     rhs: W,
     bytes: &mut [u8; 128],
@@ -310,56 +310,56 @@ fn compare_from_32<W: FastLanes, F: Fn(W, W) -> bool>(
     requires from { 32 ≤ width }
     requires below { width < 64 }
     requires width { width < W.T }
-    requires block { length words.now ≡ width * W.LANES }
+    requires block { S.count (length words.now) ≡ width * W.LANES }
     requires callable { F.IsAlwaysCallable cmp.now }
-    ensures set { (r l : ℕ) → r < W.T → l < W.LANES → IsAnswer W.pattern (F.post cmp.now) rhs (item_of_row W.T W.LANES width (pattern_at W.pattern words.now) r l) (is_bit_set (word_at W.T bytes.new l) r) }
+    ensures set { (r l : ℕ) → r < W.T → l < W.LANES → IsAnswer W.pattern (F.post cmp.now) rhs (item_of_row W.T W.LANES width (S.word words.now) r l) (is_bit_set (word_at W.T bytes.new l) r) }
 {
     if width < 40 {
-        compare_eight::<W, F, 32>(width, words, cmp, rhs, bytes);
+        compare_eight::<W, S, F, 32>(width, words, cmp, rhs, bytes);
     } else if width < 48 {
-        compare_eight::<W, F, 40>(width, words, cmp, rhs, bytes);
+        compare_eight::<W, S, F, 40>(width, words, cmp, rhs, bytes);
     } else if width < 56 {
-        compare_eight::<W, F, 48>(width, words, cmp, rhs, bytes);
+        compare_eight::<W, S, F, 48>(width, words, cmp, rhs, bytes);
     } else {
-        compare_eight::<W, F, 56>(width, words, cmp, rhs, bytes);
+        compare_eight::<W, S, F, 56>(width, words, cmp, rhs, bytes);
     }
 }
 
 /// Compares at the width of a whole word.
 #[inline(never)]
-fn compare_whole<W: FastLanes, F: Fn(W, W) -> bool>(
-    words: &[W],
+fn compare_whole<W: FastLanes, S: Storage<W>, F: Fn(W, W) -> bool>(
+    words: &[S::Unit],
     cmp: &F,
     rhs: W,
     bytes: &mut [u8; 128],
 )
-    requires block { length words.now ≡ W.T * W.LANES }
+    requires block { S.count (length words.now) ≡ W.T * W.LANES }
     requires callable { F.IsAlwaysCallable cmp.now }
-    ensures set { (r l : ℕ) → r < W.T → l < W.LANES → IsAnswer W.pattern (F.post cmp.now) rhs (item_of_row W.T W.LANES W.T (pattern_at W.pattern words.now) r l) (is_bit_set (word_at W.T bytes.new l) r) }
+    ensures set { (r l : ℕ) → r < W.T → l < W.LANES → IsAnswer W.pattern (F.post cmp.now) rhs (item_of_row W.T W.LANES W.T (S.word words.now) r l) (is_bit_set (word_at W.T bytes.new l) r) }
 {
-    compare_groups::<W, F, 64, 0>(bits::<W>(), words, cmp, rhs, bytes);
+    compare_groups::<W, S, F, 64, 0>(bits::<W>(), words, cmp, rhs, bytes);
 }
 
 /// Compares at any width.
-fn compare_block<W: FastLanes, F: Fn(W, W) -> bool>(
+fn compare_block<W: FastLanes, S: Storage<W>, F: Fn(W, W) -> bool>(
     width: usize,
-    words: &[W],
+    words: &[S::Unit],
     cmp: &F,
     rhs: W,
     bytes: &mut [u8; 128],
 )
     requires width { width ≤ W.T }
-    requires block { length words.now ≡ width * W.LANES }
+    requires block { S.count (length words.now) ≡ width * W.LANES }
     requires callable { F.IsAlwaysCallable cmp.now }
-    ensures set { (r l : ℕ) → r < W.T → l < W.LANES → IsAnswer W.pattern (F.post cmp.now) rhs (item_of_row W.T W.LANES width (pattern_at W.pattern words.now) r l) (is_bit_set (word_at W.T bytes.new l) r) }
+    ensures set { (r l : ℕ) → r < W.T → l < W.LANES → IsAnswer W.pattern (F.post cmp.now) rhs (item_of_row W.T W.LANES width (S.word words.now) r l) (is_bit_set (word_at W.T bytes.new l) r) }
 {
     let t = bits::<W>();
     if width == t {
-        compare_whole(words, cmp, rhs, bytes);
+        compare_whole::<W, S, F>(words, cmp, rhs, bytes);
     } else if t <= 32 || width < 32 {
-        compare_below_32(width, words, cmp, rhs, bytes);
+        compare_below_32::<W, S, F>(width, words, cmp, rhs, bytes);
     } else {
-        compare_from_32(width, words, cmp, rhs, bytes);
+        compare_from_32::<W, S, F>(width, words, cmp, rhs, bytes);
     }
 }
 
@@ -395,7 +395,31 @@ pub fn unpack_cmp<W: FastLanes, F: Fn(W, W) -> bool + Drop>(
 {
     work.add_block();
     let mut bytes = [0u8; 128];
-    compare_block(width, words, &cmp, rhs, &mut bytes);
+    compare_block::<W, AsWords, F>(width, words, &cmp, rhs, &mut bytes);
+    prove_bytes_fit(&bytes);
+    words_of_bytes(&bytes, bits);
+}
+
+/// The same of a block that is kept as its `128 * width` bytes.
+pub fn unpack_cmp_bytes<W: FastLanes, F: Fn(W, W) -> bool + Drop>(
+    width: usize,
+    packed: &[u8],
+    bits: &mut [u64; 16],
+    cmp: F,
+    rhs: W,
+    work: &mut Work,
+)
+    requires width { width ≤ W.T }
+    requires block { length packed.now ≡ 128 * width }
+    requires callable { F.IsAlwaysCallable cmp }
+    ensures bits { (r l : ℕ) → r < W.T → l < W.LANES → IsAnswer W.pattern (F.post cmp) rhs (item_of_row W.T W.LANES width (word_at W.T packed.now) r l) (has_bit bits.new (l * W.T + r)) }
+    ensures whole { length bits.new ≡ 16 }
+    ensures blocks { work.new.blocks ≡ min (work.old.blocks + 1) u64.MAX }
+    ensures words { work.new.words ≡ work.old.words }
+{
+    work.add_block();
+    let mut bytes = [0u8; 128];
+    compare_block::<W, AsBytes, F>(width, packed, &cmp, rhs, &mut bytes);
     prove_bytes_fit(&bytes);
     words_of_bytes(&bytes, bits);
 }

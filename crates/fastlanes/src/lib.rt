@@ -22,7 +22,7 @@ pub(crate) mod widths;
 pub mod words;
 
 pub use bit_transpose::transpose_bits;
-pub use compare::unpack_cmp;
+pub use compare::{unpack_cmp, unpack_cmp_bytes};
 pub use counts::Work;
 pub use deltas::{delta, undelta};
 pub use layout::{FL_CHUNK_SIZE, pos, seg};
@@ -30,5 +30,5 @@ pub use packing::{pack, pack_bytes};
 pub use runs::{rle_decode, rle_encode};
 pub use single_items::{unpack_indices, unpack_single};
 pub use transposing::{transpose, untranspose};
-pub use unpacking::{unfor_pack, unpack, unpack_bytes};
+pub use unpacking::{unfor_pack, unfor_pack_bytes, unpack, unpack_bytes};
 pub use words::FastLanes;

@@ -432,3 +432,24 @@ pub fn unpack_bytes<W: FastLanes>(
     work.add_block();
     unpack_block::<W, AsBytes, false>(width, bytes, W::zero(), items);
 }
+
+/// Unpacks a block of bytes and adds the reference to each item, modulo 2 to the number of bits.
+///
+/// The bytes are those of the block's words, the low byte of each first.
+pub fn unfor_pack_bytes<W: FastLanes>(
+    width: usize,
+    bytes: &[u8],
+    reference: W,
+    items: &mut [W; FL_CHUNK_SIZE],
+    work: &mut Work,
+)
+    requires width { width ≤ W.T }
+    requires block { length bytes.now ≡ 128 * width }
+    ensures items { (i : ℕ) → i < 1024 → pattern_at W.pattern items.new i ≡ (unpacked_item W.T W.LANES width (word_at W.T bytes.now) i + W.pattern reference) % 2 ^ W.T }
+    ensures whole { length items.new ≡ 1024 }
+    ensures blocks { work.new.blocks ≡ min (work.old.blocks + 1) u64.MAX }
+    ensures words { work.new.words ≡ work.old.words }
+{
+    work.add_block();
+    unpack_block::<W, AsBytes, true>(width, bytes, reference, items);
+}

@@ -9,9 +9,10 @@ use Rattle.fl_types.specs.Integers.{bits_of_type}
 use Rattle.fl_types.specs.Types.{is_index_type, is_integer}
 use Rattle.fl_types.specs.Values.{ScalarParts}
 use Rattle.fl_column.specs.Columns.{Column, PrimitiveParts, column_of_primitive, integers_in, numbers_of}
+use Rattle.fl_column.specs.Operations.{take_column}
 use Rattle.fl_column.specs.Questions.{scalar_in}
 use Rattle.fl_column.specs.Numbers.{numbers}
-use Rattle.fl_bitpacking.specs.Blocks.{are_blocks, boundary_blocks}
+use Rattle.fl_bitpacking.specs.Blocks.{are_blocks, boundary_blocks, global_blocks}
 use Rattle.fl_bitpacking.specs.Columns.{BitPackedParts, block_count, column_of_packed}
 use Rattle.fl_bitpacking.specs.Refusals.{positions_refusal}
 use Rattle.fl_bitpacking.specs.SingleItems.{HasBlock}
@@ -19,7 +20,7 @@ use Rattle.fl_bitpacking.specs.SlicedParts.{HasEnds, end_block, first_block}
 use Rattle.fl_bitpacking.proofs.BoundaryLaws.{above_first, ends_at, length-numbers_of, rising, within_bytes}
 use Rattle.fl_bitpacking.proofs.IndexNumbers.{counted, numbers_of_index}
 use Rattle.fl_bitpacking.proofs.SoundParts.{AreBlocked, are_blocked, neither}
-use Rattle.fl_array.specs.BitPackedArrays.{BitPackedArrayParts, BitWidthsParts, BlockBoundaries, bit_widths_refusal, bitpacked_tree, refusal_before_boundaries, refusal_of_bitpacked, tree_of_bitpacked}
+use Rattle.fl_array.specs.BitPackedArrays.{BitPackedArrayParts, BitWidthsParts, BlockBoundaries, GlobalWidth, bit_widths_refusal, bitpacked_tree, refusal_before_boundaries, refusal_of_bitpacked, tree_of_bitpacked}
 use Rattle.fl_array.specs.Reads.{integer_column}
 use Rattle.fl_array.specs.Trees.{Tree, column}
 
@@ -51,6 +52,15 @@ numbers_read a b p h same e =
 -- the column, by boundaries that were read
 pub column_read : (a : BitPackedArrayParts) (b : Tree) (p : PrimitiveParts) → refusal_of_bitpacked a ≡ None → BlockBoundaries b ≡ a.widths → column_of_primitive p ≡ column b → Ok (column_of_packed a.parts (boundary_blocks (numbers p))) ≡ integer_column (column (tree_of_bitpacked a))
 column_read a b p h same e = rw (blocked_column a b same, numbers_read a b p h same e) refl
+
+-- the column, by the width of all blocks
+pub global_column : (a : BitPackedArrayParts) (width : ℕ) → GlobalWidth width ≡ a.widths → column (tree_of_bitpacked a) ≡ column_of_packed a.parts (global_blocks width)
+global_column a width same = ap (λ (w : BitWidthsParts). column (bitpacked_tree a.parts w)) (sym same)
+
+-- what is taken of the column, by the boundaries that were decoded
+pub taken_read : (a : BitPackedArrayParts) (b : Tree) (p : PrimitiveParts) (indices : Column) → refusal_of_bitpacked a ≡ None → BlockBoundaries b ≡ a.widths → column_of_primitive p ≡ column b
+    → take_column indices (column_of_packed a.parts (boundary_blocks (numbers p))) ≡ take_column indices (column (tree_of_bitpacked a))
+taken_read a b p indices h same e = rw (blocked_column a b same, numbers_read a b p h same e) refl
 
 pub blocks_read : (a : BitPackedArrayParts) (b : Tree) (p : PrimitiveParts) → refusal_of_bitpacked a ≡ None → BlockBoundaries b ≡ a.widths → column_of_primitive p ≡ column b → are_blocks (bits_of_type a.parts.ptype) (length a.parts.packed) (numbers p) ≡ true
 blocks_read a b p h same e = rw (numbers_read a b p h same e) (blocked_by a b h same).blocks

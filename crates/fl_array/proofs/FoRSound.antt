@@ -105,7 +105,7 @@ answered_column c p h e =
     let same : (let left : Result Column FastLanesError = Ok (column_of_primitive p) in left) ≡ Ok c = e ∙ is in
     cc
 
-non_nullable_is : (n : Nullability) → can_be_null n ≡ false → n ≡ NonNullable
+pub non_nullable_is : (n : Nullability) → can_be_null n ≡ false → n ≡ NonNullable
 non_nullable_is NonNullable h = refl
 non_nullable_is Nullable h = cc
 

@@ -2,6 +2,7 @@ pub mod Sizes
 pub mod ValidityLaws
 pub mod BitPackedLaws
 pub mod BlockedLaws
+pub mod ComparedLaws
 pub mod FoRLaws
 pub mod FoRSound
 pub mod DeltaLaws
@@ -17,3 +18,5 @@ pub mod SliceLaws
 pub mod ToBlockedLaws
 pub mod FoREncoding
 pub mod DeltaEncoding
+pub mod EmptyChunks
+pub mod PackedFoR

@@ -1,5 +1,5 @@
 -- FoR arrays (frame of reference) by their parts, and when parts make one.
-use Rattle.std.specs.Prelude.{◌+◌, ◌*◌, ◌==◌, ◌&&◌, ℕ, Bool, true, not, max, length, Option, Some, None, Result, is_none, if◌then◌else◌}
+use Rattle.std.specs.Prelude.{◌+◌, ◌*◌, ◌==◌, ◌&&◌, ℕ, Bool, true, not, max, length, Option, Some, None, Result, is_none, option_and_then, if◌then◌else◌}
 use Rattle.fl_types.specs.declared.dtype.DType.{DType}
 use Rattle.fl_types.specs.declared.error.FastLanesError.{FastLanesError}
 use Rattle.fl_types.specs.declared.error.FastLanesError.TheVariants.{NotInteger, NullReference, TypeMismatch, ReferenceCount}
@@ -8,6 +8,7 @@ use Rattle.fl_types.specs.Values.{ScalarParts}
 use Rattle.fl_column.specs.Columns.{Column}
 use Rattle.fl_column.specs.Chunks.{chunk_count}
 use Rattle.fl_bitpacking.specs.Refusals.{accepted, otherwise, positions_refusal}
+use Rattle.fl_array.specs.BitPackedArrays.{BitPackedArrayParts, bitpacked_in}
 use Rattle.fl_array.specs.Reads.{constant_in}
 use Rattle.fl_array.specs.Trees.{Tree, Constant, FoRChunked, FoRGlobal, column, height}
 use Rattle.fl_array.specs.Trees as tree
@@ -51,6 +52,10 @@ abbrev pub for_in : Tree → Option FoRArrayParts
 for_in (tree.FoRGlobal encoded reference) = Some (record { encoded = encoded; references = GlobalReference reference })
 for_in (tree.FoRChunked encoded references offset) = Some (record { encoded = encoded; references = ChunkReferences references offset })
 for_in other = None
+
+-- the bit-packed array that the encoded items are, if its blocks are the chunks of the references
+abbrev pub packed_in_chunks : FoRArrayParts → Option BitPackedArrayParts
+packed_in_chunks a = option_and_then (λ (p : BitPackedArrayParts). if p.parts.offset == offset_of_references a.references then Some p else None) (bitpacked_in a.encoded)
 
 -- ---- constructors
 -- why a scalar is no reference of items of a type, if it is none

@@ -22,3 +22,4 @@ pub mod DeltaCasts
 pub mod EncodedBitPacked
 pub mod BitPackedFields
 pub mod OwnedParts
+pub mod UnpackedBlocks

@@ -1,5 +1,6 @@
 //! Arrays of one of a closed set of kinds.
 
+mod counted;
 mod ranges;
 
 ghost use Rattle.std.specs.Prelude.{false, ◌≡◌, ◌≤◌, ◌<◌, length, Ok, IfErr, IfOk, IfSome, IsTrue};
@@ -362,6 +363,7 @@ impl ArrayRef {
     ///
     /// # Errors
     /// `NotInteger` where the column is of booleans.
+    #[cycle(decoding)]
     pub fn to_primitive(&self, alloc: Global) -> Result<PrimitiveArray, FastLanesError>
         ensures { Answers column_of_primitive result (integer_column (column self.now)) }
     {
@@ -371,24 +373,19 @@ impl ArrayRef {
             Node::Bool(_) => Err(FastLanesError::NotInteger),
             Node::BitPacked(array) => match array.bit_widths() {
                 BitWidthsView::Global(width) => array.decode_global(alloc, width),
-                BitWidthsView::Blocked(boundaries) => {
-                    array.prove_boundaries_are_integers(boundaries);
-                    let plain = boundaries.to_primitive(alloc)?;
-                    array.decode_blocked(alloc, boundaries, &plain)
-                }
+                BitWidthsView::Blocked(boundaries) => match boundaries.as_constant() {
+                    Some(constant) => array.decode_without_bytes(alloc, boundaries, constant),
+                    None => {
+                        array.prove_boundaries_are_integers(boundaries);
+                        let plain = boundaries.to_primitive(alloc)?;
+                        array.decode_blocked(alloc, boundaries, &plain)
+                    }
+                },
             },
             Node::FoR(array) => {
-                let plain = array.encoded().to_primitive(alloc)?;
-                match array.references() {
-                    FoRReferences::Global(reference) => array.decode_global(
-                        alloc, &plain, reference,
-                    ),
-                    FoRReferences::Blocked(references) => {
-                        array.prove_references_are_integers(references);
-                        let references_plain = references.to_primitive(alloc)?;
-                        array.decode_chunked(alloc, &plain, references, &references_plain)
-                    }
-                }
+                array.prove_integers();
+                array.prove_smaller();
+                array.to_primitive(alloc)
             }
             Node::Delta(array) => {
                 array.prove_integers();

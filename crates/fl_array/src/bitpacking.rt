@@ -3,9 +3,13 @@
 mod bit_packed_array_ext;
 pub mod bitpack_compress;
 pub mod bitpack_decompress;
+mod comparing;
 mod compute;
+mod constant_boundaries;
 mod counted;
 mod data;
+mod taking;
+mod unfor;
 
 ghost use Rattle.std.specs.Prelude.{◌≡◌, ◌+◌, ◌-◌, ◌*◌, ◌/◌, ◌^◌, ◌<◌, ◌≤◌, IfErr, IfOk, IsTrue, None, Ok, length, IfSome};
 ghost use Rattle.fl_types.specs.declared.error.FastLanesError.TheVariants.{OutOfMemory};
@@ -39,7 +43,8 @@ use fastlanes::Work;
 use fl_bitpacking::decoding::PackedColumn;
 use fl_bitpacking::packed_data::PackedData;
 use fl_bitpacking::refusals::{
-    block_offsets_refusal, blocked_refusal, global_refusal, positions_refusal,
+    block_offsets_refusal, blocked_refusal, constant_boundaries_refusal, global_refusal,
+    positions_refusal,
 };
 pub use fl_bitpacking::unpack_iter::BitUnpackedChunks;
 use fl_column::{DType, FastLanesError, PType, PrimitiveArray, Scalar, Validity, chunk_count};
@@ -210,7 +215,7 @@ impl BitPacked {
 
     /// An array whose blocks lie between boundaries: block `j` from `block_offsets[j]` to
     /// `block_offsets[j + 1]`, in bytes counted from `block_offsets[0]`. The boundaries are decoded at once,
-    /// into memory that is asked for by one allocation.
+    /// into memory that is asked for by one allocation, unless they are a constant array.
     ///
     /// # Errors
     /// The first of `OffsetTooLarge`, `LengthOverflow`, `BlockOffsetsType`, `BlockOffsetsCount`,
@@ -328,7 +333,7 @@ fn refusal_before_boundaries(parts: &PackedColumn, boundaries: &ArrayRef) -> Opt
 
 /// Accepts parts whose blocks lie between the boundaries, or says why they make no array. The boundaries are
 /// decoded at once, into memory that is asked for by one allocation.
-fn accept_boundaries(
+fn accept_decoded(
     alloc: Global,
     parts: &PackedColumn,
     boundaries: &ArrayRef,
@@ -343,6 +348,24 @@ fn accept_boundaries(
         Some(refusal) => Err(refusal),
         None => Ok(()),
     }
+}
+
+/// Accepts parts whose blocks lie between the boundaries, or says why they make no array. Those of a constant
+/// array are judged as they are, all others are decoded.
+fn accept_boundaries(
+    alloc: Global,
+    parts: &PackedColumn,
+    boundaries: &ArrayRef,
+) -> Result<(), FastLanesError>
+    ensures { Answers (λ u. u) result (accepted tt (blocked_refusal (parts_of parts.now) (column boundaries.now))) }
+{
+    let Some(constant) = boundaries.as_constant() else {
+        return accept_decoded(alloc, parts, boundaries);
+    };
+    if let Some(refusal) = constant_boundaries_refusal(parts, constant) {
+        return Err(refusal);
+    }
+    Ok(())
 }
 
 impl BitPackedArray {

@@ -7,14 +7,14 @@ mod rle_array_ext;
 mod rle_data;
 mod rle_probe;
 
-ghost use Rattle.std.specs.Prelude.{◌≡◌, ◌+◌, ◌-◌, ◌*◌, ◌/◌, ◌%◌, ◌<◌, ◌≤◌, IfErr, IfOk, IsTrue, None, Ok, length, pos, unsigned_abs, unwrap_or};
+ghost use Rattle.std.specs.Prelude.{◌≡◌, ◌+◌, ◌-◌, ◌*◌, ◌/◌, ◌%◌, ◌<◌, ◌≤◌, ℕ, IfErr, IfOk, IsTrue, None, Ok, false, length, pos, true, unsigned_abs, unwrap_or};
 ghost use Rattle.fl_types.specs.declared.error.FastLanesError.TheVariants.{OutOfMemory};
 ghost use Rattle.fl_types.specs.Refusals.{Answers};
 ghost use Rattle.fl_types.specs.Values.{scalar_parts};
 ghost use Rattle.fl_column.specs.Columns.{column_of_primitive, numbers_of};
 ghost use Rattle.fl_column.specs.Operations.{slice_of};
 ghost use Rattle.fl_column.specs.Questions.{scalar_in};
-ghost use Rattle.fl_codec.specs.RunColumns.{chunk_start};
+ghost use Rattle.fl_codec.specs.RunColumns.{are_run_offsets, chunk_start};
 ghost use Rattle.fl_bitpacking.specs.Refusals.{accepted};
 ghost use Rattle.fl_codec.specs.RunRefusals.{kept_values_end, kept_values_start, rle_refusal, rle_types_refusal};
 ghost use Rattle.fl_codec.specs.ChunkSlices.{end_chunk, first_chunk};
@@ -98,8 +98,19 @@ fn refusal_by_types(
     )
 }
 
+/// Whether the run offsets of two chunks or more are one constant: the first chunk has no run value then.
+#[tactic(auto, using(crate::proofs::EmptyChunks::constant_offsets))]
+fn has_empty_chunk(offsets: &ArrayRef) -> bool
+    ensures { result ≡ true → (count : ℕ) → are_run_offsets (numbers_of (column offsets.now)) count ≡ false }
+{
+    match offsets.as_constant() {
+        Some(constant) => constant.len() > 1,
+        None => false,
+    }
+}
+
 /// Accepts run values, run indices and run offsets, or says why they make no array. Each is decoded for it,
-/// into memory that is asked for by one allocation.
+/// into memory that is asked for by one allocation, unless the run offsets of several chunks are a constant array.
 fn accept_children(
     alloc: Global,
     values: &ArrayRef,
@@ -112,6 +123,9 @@ fn accept_children(
 {
     if let Some(refusal) = refusal_by_types(values, indices, offsets, offset, len) {
         return Err(refusal);
+    }
+    if has_empty_chunk(offsets) {
+        return Err(FastLanesError::RunOffsets);
     }
     let named = values.to_primitive(alloc)?;
     let names = indices.to_primitive(alloc)?;

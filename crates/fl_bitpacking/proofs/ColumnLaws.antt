@@ -18,7 +18,7 @@ use Rattle.fl_bitpacking.specs.Columns.{BitPackedParts, column_of_packed, packed
 use Rattle.fl_bitpacking.specs.Parts.{Fit}
 use Rattle.fl_bitpacking.proofs.Natives.{lanes_is}
 
-items_made : {X : Type 0} (value : X → ℤ) (parts : BitPackedParts) (blocks : Blocks) (items : List X) → IsTrue (covers parts.validity parts.len) → length items ≡ parts.len
+pub items_made : {X : Type 0} (value : X → ℤ) (parts : BitPackedParts) (blocks : Blocks) (items : List X) → IsTrue (covers parts.validity parts.len) → length items ≡ parts.len
     → ((i : ℕ) → i < parts.len → value_at value items i ≡ unwrap_or (patched_in parts.patches i) (stored parts blocks i))
     → items_of parts.validity (map value items) ≡ table (packed_item parts blocks) parts.len
 unfolding value_at packed_item

@@ -27,7 +27,7 @@ all_found slots xs index n is = elim (cases_rank xs index) [
   | inr some ↦ (let at = rank_at xs index some.0 some.1 in rw (some.1, lt-ltb some.0 n (rw is at.0)) refl)
 ]
 
-skipped : (slots : List ℤ) (k : ℕ) (rank : Option ℕ) → rank ≢ Some k → found_below slots k rank ≡ found_below slots (k + 1) rank
+pub skipped : (slots : List ℤ) (k : ℕ) (rank : Option ℕ) → rank ≢ Some k → found_below slots k rank ≡ found_below slots (k + 1) rank
 skipped slots k None other = refl
 skipped slots k (Some rank) other = elim (cases_lt rank k) [
   | inl below ↦ rw (lt-ltb rank k below, lt-ltb rank (k + 1) (omega arith)) refl
@@ -37,18 +37,18 @@ skipped slots k (Some rank) other = elim (cases_lt rank k) [
   ]
 ]
 
--- one more patch
-pub patch_more : {X : Type 0} (value : X → ℤ) (items : List X) (was : ℕ → ℤ) (slots : List ℤ) (xs : List ℕ) (offset k at : ℕ) (x : X) → is_rising xs ≡ true → k < length xs → get_or xs k 0 ≡ offset + at → at < length items → value x ≡ get_or slots k (pos 0)
-    → ((i : ℕ) → i < length items → value_at value items i ≡ unwrap_or (found_below slots k (rank_of (offset + i) xs)) (was i))
-    → (i : ℕ) → i < length items → value_at value (set items at x) i ≡ unwrap_or (found_below slots (k + 1) (rank_of (offset + i) xs)) (was i)
-patch_more value items was slots xs offset k at x rise inside is room read done i h =
+-- one more patch, whose value becomes an item by its place
+pub patch_more : {X : Type 0} (value : X → ℤ) (item : ℕ → ℤ → ℤ) (items : List X) (was : ℕ → ℤ) (slots : List ℤ) (xs : List ℕ) (offset k at : ℕ) (x : X) → is_rising xs ≡ true → k < length xs → get_or xs k 0 ≡ offset + at → at < length items → value x ≡ item at (get_or slots k (pos 0))
+    → ((i : ℕ) → i < length items → value_at value items i ≡ unwrap_or (option_map (item i) (found_below slots k (rank_of (offset + i) xs))) (was i))
+    → (i : ℕ) → i < length items → value_at value (set items at x) i ≡ unwrap_or (option_map (item i) (found_below slots (k + 1) (rank_of (offset + i) xs))) (was i)
+patch_more value item items was slots xs offset k at x rise inside is room read done i h =
     elim (cases_eq i at) [
       | inl same ↦
           let found = rank_found xs (offset + i) k rise inside (is ∙ ap (λ n. offset + n) (sym same)) in
-          value_at_set_same value items at i x same room ∙ (read ∙ sym (rw (found, lt-ltb k (k + 1) (omega arith)) refl))
+          value_at_set_same value items at i x same room ∙ (read ∙ (ap (λ n. item n (get_or slots k (pos 0))) (sym same) ∙ sym (rw (found, lt-ltb k (k + 1) (omega arith)) refl)))
       | inr other ↦
           let apart : rank_of (offset + i) xs ≢ Some k = λ e. other (let here = rank_at xs (offset + i) k e in omega (arith, here.1)) in
-          value_at_set_other value items at i x other ∙ (done i h ∙ ap (λ o. unwrap_or o (was i)) (skipped slots k (rank_of (offset + i) xs) apart))
+          value_at_set_other value items at i x other ∙ (done i h ∙ ap (λ o. unwrap_or (option_map (item i) o) (was i)) (skipped slots k (rank_of (offset + i) xs) apart))
     ]
 
 -- the parts of patches are placed

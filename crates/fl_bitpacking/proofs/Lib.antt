@@ -1,3 +1,4 @@
+pub mod BlockSums
 pub mod Bounds
 pub mod ColumnLaws
 pub mod FoundBelow
@@ -19,3 +20,10 @@ pub mod SoundSlices
 pub mod EncodedParts
 pub mod OneWidth
 pub mod NullLaws
+pub mod RangeLaws
+pub mod DecidedLaws
+pub mod ComparedLaws
+pub mod UndecidedLaws
+pub mod TakenLaws
+pub mod TakenColumns
+pub mod EqualBoundaries

@@ -1,4 +1,5 @@
 pub mod Blocks
+pub mod BlockSums
 pub mod BlockLends
 pub mod Columns
 pub mod Lending
@@ -6,6 +7,7 @@ pub mod Lent
 pub mod Parts
 pub mod Placed
 pub mod Readers
+pub mod References
 pub mod Restored
 pub mod Spans
 pub mod WholeBlocks
@@ -17,3 +19,8 @@ pub mod BlockedWidths
 pub mod Words
 pub mod Casts
 pub mod Sources
+pub mod Decided
+pub mod LeastIntegers
+pub mod RangeTests
+pub mod Compared
+pub mod Taken

@@ -1,13 +1,13 @@
 //! The integer types that are packed in blocks.
 
-ghost use Rattle.std.specs.Prelude.{◌≡◌, ◌+◌, ◌*◌, ◌<◌, ◌≤◌, ℕ, length, map, min};
+ghost use Rattle.std.specs.Prelude.{◌≡◌, ◌+◌, ◌*◌, ◌<◌, ◌≤◌, ◌+ℤ◌, ℕ, length, map, min};
 ghost use Rattle.std.specs.Mem.{type_size};
 ghost use Rattle.std.proofs.Common.{refl};
 ghost use Rattle.fastlanes.specs.Layout.{Packed, pattern_at, word_at};
-ghost use Rattle.fl_types.specs.Integers.{bits_of_type, lanes_of_type};
+ghost use Rattle.fl_types.specs.Integers.{bits_of_type, lanes_of_type, wrap};
 ghost use Rattle.fl_bitpacking.specs.Blocks.{block_item, pattern_in, value_at};
 
-use fastlanes::{FL_CHUNK_SIZE, FastLanes, Work, pack_bytes, unpack_bytes};
+use fastlanes::{FL_CHUNK_SIZE, FastLanes, Work, pack_bytes, unfor_pack_bytes, unpack_bytes};
 use fl_column::PhysicalPType;
 use fl_column::patterns::write_patterns;
 use fl_types::NativePType;
@@ -28,6 +28,21 @@ pub trait BitPacked: NativePType + BitCount {
         requires width { width ≤ bits_of_type Self.PTYPE }
         requires block { length block.now ≡ 128 * width }
         ensures items { (i : ℕ) → i < 1024 → value_at Self.value items.new i ≡ block_item Self.PTYPE width block.now i }
+        ensures whole { length items.new ≡ 1024 }
+        ensures blocks { work.new.blocks ≡ min (work.old.blocks + 1) u64.MAX }
+        ensures words { work.new.words ≡ work.old.words };
+
+    /// Unpacks a block of `128 * width` bytes and adds a reference to each item, modulo 2 to the type's bits.
+    fn unfor_block(
+        width: usize,
+        block: &[u8],
+        reference: Self,
+        items: &mut [Self; FL_CHUNK_SIZE],
+        work: &mut Work,
+    )
+        requires width { width ≤ bits_of_type Self.PTYPE }
+        requires block { length block.now ≡ 128 * width }
+        ensures items { (i : ℕ) → i < 1024 → value_at Self.value items.new i ≡ wrap Self.PTYPE (block_item Self.PTYPE width block.now i +ℤ Self.value reference) }
         ensures whole { length items.new ≡ 1024 }
         ensures blocks { work.new.blocks ≡ min (work.old.blocks + 1) u64.MAX }
         ensures words { work.new.words ≡ work.old.words };
@@ -65,6 +80,29 @@ fn unpack_patterns<T: PhysicalPType>(
     T::Physical::prove_in_memory();
     let mut patterns = [T::Physical::zero(); FL_CHUNK_SIZE];
     unpack_bytes(width, block, &mut patterns, work);
+    for i in 0..FL_CHUNK_SIZE {
+        items[i] = T::from_physical(patterns[i]);
+    }
+}
+
+/// Unpacks a block of patterns, adds that of the reference to each, and reads the sums as the type.
+fn unfor_patterns<T: PhysicalPType>(
+    width: usize,
+    block: &[u8],
+    reference: T,
+    items: &mut [T; FL_CHUNK_SIZE],
+    work: &mut Work,
+)
+    requires width { width ≤ T.Physical.T }
+    requires block { length block.now ≡ 128 * width }
+    ensures items { (i : ℕ) → i < 1024 → value_at T.value items.new i ≡ wrap T.PTYPE (block_item T.PTYPE width block.now i +ℤ T.value reference) }
+    ensures whole { length items.new ≡ 1024 }
+    ensures blocks { work.new.blocks ≡ min (work.old.blocks + 1) u64.MAX }
+    ensures words { work.new.words ≡ work.old.words }
+{
+    T::Physical::prove_in_memory();
+    let mut patterns = [T::Physical::zero(); FL_CHUNK_SIZE];
+    unfor_pack_bytes(width, block, reference.to_physical(), &mut patterns, work);
     for i in 0..FL_CHUNK_SIZE {
         items[i] = T::from_physical(patterns[i]);
     }
@@ -111,6 +149,17 @@ impl BitPacked for u8 {
         unpack_bytes(width, block, items, work);
     }
 
+    fn unfor_block(
+        width: usize,
+        block: &[u8],
+        reference: u8,
+        items: &mut [u8; FL_CHUNK_SIZE],
+        work: &mut Work,
+    ) {
+        FastLanes::prove_in_range(reference);
+        unfor_pack_bytes(width, block, reference, items, work);
+    }
+
     fn pack_block(width: usize, items: &[u8], block: &mut [u8]) {
         match items.first_chunk::<FL_CHUNK_SIZE>() {
             Some(whole) => pack_bytes(width, whole, block),
@@ -132,6 +181,17 @@ impl BitPacked for u16 {
 
     fn unpack_block(width: usize, block: &[u8], items: &mut [u16; FL_CHUNK_SIZE], work: &mut Work) {
         unpack_bytes(width, block, items, work);
+    }
+
+    fn unfor_block(
+        width: usize,
+        block: &[u8],
+        reference: u16,
+        items: &mut [u16; FL_CHUNK_SIZE],
+        work: &mut Work,
+    ) {
+        FastLanes::prove_in_range(reference);
+        unfor_pack_bytes(width, block, reference, items, work);
     }
 
     fn pack_block(width: usize, items: &[u16], block: &mut [u8]) {
@@ -157,6 +217,17 @@ impl BitPacked for u32 {
         unpack_bytes(width, block, items, work);
     }
 
+    fn unfor_block(
+        width: usize,
+        block: &[u8],
+        reference: u32,
+        items: &mut [u32; FL_CHUNK_SIZE],
+        work: &mut Work,
+    ) {
+        FastLanes::prove_in_range(reference);
+        unfor_pack_bytes(width, block, reference, items, work);
+    }
+
     fn pack_block(width: usize, items: &[u32], block: &mut [u8]) {
         match items.first_chunk::<FL_CHUNK_SIZE>() {
             Some(whole) => pack_bytes(width, whole, block),
@@ -178,6 +249,17 @@ impl BitPacked for u64 {
 
     fn unpack_block(width: usize, block: &[u8], items: &mut [u64; FL_CHUNK_SIZE], work: &mut Work) {
         unpack_bytes(width, block, items, work);
+    }
+
+    fn unfor_block(
+        width: usize,
+        block: &[u8],
+        reference: u64,
+        items: &mut [u64; FL_CHUNK_SIZE],
+        work: &mut Work,
+    ) {
+        FastLanes::prove_in_range(reference);
+        unfor_pack_bytes(width, block, reference, items, work);
     }
 
     fn pack_block(width: usize, items: &[u64], block: &mut [u8]) {
@@ -203,6 +285,16 @@ impl BitPacked for i8 {
         unpack_patterns(width, block, items, work);
     }
 
+    fn unfor_block(
+        width: usize,
+        block: &[u8],
+        reference: i8,
+        items: &mut [i8; FL_CHUNK_SIZE],
+        work: &mut Work,
+    ) {
+        unfor_patterns(width, block, reference, items, work);
+    }
+
     fn pack_block(width: usize, items: &[i8], block: &mut [u8]) {
         pack_patterns(width, items, block);
     }
@@ -221,6 +313,16 @@ impl BitPacked for i16 {
 
     fn unpack_block(width: usize, block: &[u8], items: &mut [i16; FL_CHUNK_SIZE], work: &mut Work) {
         unpack_patterns(width, block, items, work);
+    }
+
+    fn unfor_block(
+        width: usize,
+        block: &[u8],
+        reference: i16,
+        items: &mut [i16; FL_CHUNK_SIZE],
+        work: &mut Work,
+    ) {
+        unfor_patterns(width, block, reference, items, work);
     }
 
     fn pack_block(width: usize, items: &[i16], block: &mut [u8]) {
@@ -243,6 +345,16 @@ impl BitPacked for i32 {
         unpack_patterns(width, block, items, work);
     }
 
+    fn unfor_block(
+        width: usize,
+        block: &[u8],
+        reference: i32,
+        items: &mut [i32; FL_CHUNK_SIZE],
+        work: &mut Work,
+    ) {
+        unfor_patterns(width, block, reference, items, work);
+    }
+
     fn pack_block(width: usize, items: &[i32], block: &mut [u8]) {
         pack_patterns(width, items, block);
     }
@@ -261,6 +373,16 @@ impl BitPacked for i64 {
 
     fn unpack_block(width: usize, block: &[u8], items: &mut [i64; FL_CHUNK_SIZE], work: &mut Work) {
         unpack_patterns(width, block, items, work);
+    }
+
+    fn unfor_block(
+        width: usize,
+        block: &[u8],
+        reference: i64,
+        items: &mut [i64; FL_CHUNK_SIZE],
+        work: &mut Work,
+    ) {
+        unfor_patterns(width, block, reference, items, work);
     }
 
     fn pack_block(width: usize, items: &[i64], block: &mut [u8]) {

@@ -3,17 +3,18 @@
 ghost use Rattle.std.specs.Prelude.{◌≡◌, ◌+◌, ◌-◌, ◌*◌, ◌<◌, ◌≤◌, ◌^◌, ℕ, length, min};
 ghost use Rattle.fl_types.specs.Bits.{between};
 ghost use Rattle.fl_types.specs.Integers.{bits_of_type};
-ghost use Rattle.fl_bitpacking.specs.Blocks.{block_item, blocks_of, bytes_of_block, global_blocks, item_of_blocks, value_at};
+ghost use Rattle.fl_bitpacking.specs.BlockSums.{decoded_item};
+ghost use Rattle.fl_bitpacking.specs.Blocks.{block_item, blocks_of, bytes_of_block, global_blocks, value_at};
 ghost use Rattle.fl_bitpacking.specs.Parts.{AreReadable, blocks_in};
 
-use crate::unpack_iter::UnpackStrategy;
+use crate::block_decoding::BlockDecoder;
 use fastlanes::{FL_CHUNK_SIZE, Work};
 use fl_bit_widths::Widths;
 use fl_column::chunk_count;
 use fl_types::NativePType;
 
 /// The bytes of the block that starts there.
-fn block_at(packed: &[u8], start: usize, width: usize) -> &[u8]
+pub(crate) fn block_at(packed: &[u8], start: usize, width: usize) -> &[u8]
     requires { start + 128 * width ≤ length packed.now }
     ensures bytes { result.now ≡ between start (start + 128 * width) packed.now }
     ensures long { length result.now ≡ 128 * width }
@@ -31,10 +32,11 @@ pub(crate) fn global_block(packed: &[u8], width: usize, j: usize) -> &[u8]
     block_at(packed, FL_CHUNK_SIZE / 8 * width * j, width)
 }
 
-/// Writes the items of a block from position `low` on. A whole block is unpacked straight into its
+/// Writes the items of block `j` from position `low` on. A whole block is decoded straight into its
 /// place, another one by way of the scratch block.
-fn unpack_part<T: NativePType, S: UnpackStrategy<T>>(
-    strategy: &S,
+fn decode_part<T: NativePType, D: BlockDecoder<T>>(
+    decoder: &D,
+    j: usize,
     width: usize,
     block: &[u8],
     low: usize,
@@ -45,16 +47,16 @@ fn unpack_part<T: NativePType, S: UnpackStrategy<T>>(
     requires width { width ≤ bits_of_type T.PTYPE }
     requires block { length block.now ≡ 128 * width }
     requires within { low + length items.old ≤ 1024 }
-    ensures items { (i : ℕ) → i < length items.old → value_at T.value items.new i ≡ block_item T.PTYPE width block.now (low + i) }
+    ensures items { (i : ℕ) → i < length items.old → value_at T.value items.new i ≡ D.item decoder.now j (block_item T.PTYPE width block.now (low + i)) }
     ensures blocks { work.new.blocks ≡ min (work.old.blocks + 1) u64.MAX }
     ensures words { work.new.words ≡ work.old.words }
 {
     match items.as_mut_array::<FL_CHUNK_SIZE>() {
-        Some(whole) => strategy.unpack_chunk(width, block, whole, work),
+        Some(whole) => decoder.decode_block(j, width, block, whole, work),
         None => {
-            strategy.unpack_chunk(width, block, scratch, work);
-            let unpacked = &scratch[..];
-            items.copy_from_slice(&unpacked[low..low + items.len()]);
+            decoder.decode_block(j, width, block, scratch, work);
+            let decoded = &scratch[..];
+            items.copy_from_slice(&decoded[low..low + items.len()]);
         }
     }
 }
@@ -107,9 +109,9 @@ impl PackedBlocks<'_> {
 
     /// Writes the items of block `j`, whose bytes start at `start`, and gives where those of the next
     /// block start.
-    pub(crate) fn unpack_block<T: NativePType, S: UnpackStrategy<T>>(
+    pub(crate) fn decode_block<T: NativePType, D: BlockDecoder<T>>(
         self,
-        strategy: &S,
+        decoder: &D,
         j: usize,
         start: usize,
         items: &mut [T],
@@ -120,7 +122,7 @@ impl PackedBlocks<'_> {
         requires block { j < blocks_in self }
         requires start { start ≡ (blocks_of self.widths).start j }
         requires room { 1024 * j - self.offset + length items.old ≤ 1024 * (j + 1) - self.offset }
-        ensures items { (i : ℕ) → i < length items.old → value_at T.value items.new i ≡ item_of_blocks T.PTYPE (blocks_of self.entry.widths) self.entry.packed.now (self.entry.offset + (1024 * j - self.entry.offset + i)) }
+        ensures items { (i : ℕ) → i < length items.old → value_at T.value items.new i ≡ decoded_item (D.item decoder.now) T.PTYPE (blocks_of self.entry.widths) self.entry.packed.now (self.entry.offset + (1024 * j - self.entry.offset + i)) }
         ensures next { result ≡ (blocks_of self.entry.widths).start (j + 1) }
         ensures blocks { work.new.blocks ≡ min (work.old.blocks + 1) u64.MAX }
         ensures words { work.new.words ≡ work.old.words }
@@ -128,21 +130,21 @@ impl PackedBlocks<'_> {
         let width = self.widths.of_block(j);
         let block = block_at(self.packed, start, width);
         let low = self.offset.saturating_sub(FL_CHUNK_SIZE * j);
-        unpack_part(strategy, width, block, low, items, scratch, work);
+        decode_part(decoder, j, width, block, low, items, scratch, work);
         start + block.len()
     }
 
     /// Writes all items, each block unpacked once.
-    pub(crate) fn unpack_into<T: NativePType, S: UnpackStrategy<T>>(
+    pub(crate) fn decode_into<T: NativePType, D: BlockDecoder<T>>(
         self,
-        strategy: &S,
+        decoder: &D,
         items: &mut [T],
         scratch: &mut [T; FL_CHUNK_SIZE],
         work: &mut Work,
     )
         requires readable { AreReadable (bits_of_type T.PTYPE) self }
         requires long { length items.old ≡ self.len }
-        ensures items { (i : ℕ) → i < length items.old → value_at T.value items.new i ≡ item_of_blocks T.PTYPE (blocks_of self.entry.widths) self.entry.packed.now (self.entry.offset + i) }
+        ensures items { (i : ℕ) → i < length items.old → value_at T.value items.new i ≡ decoded_item (D.item decoder.now) T.PTYPE (blocks_of self.entry.widths) self.entry.packed.now (self.entry.offset + i) }
         ensures blocks { work.new.blocks ≡ min (work.old.blocks + blocks_in self.entry) u64.MAX }
         ensures words { work.new.words ≡ work.old.words }
     {
@@ -151,7 +153,7 @@ impl PackedBlocks<'_> {
         for j in 0..self.count() {
             let (from, to) = self.places(j);
             let part = &mut items[from..to];
-            start = self.unpack_block(strategy, j, start, part, scratch, work);
+            start = self.decode_block(decoder, j, start, part, scratch, work);
         }
     }
 }

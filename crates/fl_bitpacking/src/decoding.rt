@@ -1,6 +1,6 @@
 //! Columns read back from their packed blocks.
 
-ghost use Rattle.std.specs.Prelude.{◌≡◌, ◌+◌, ◌-◌, ◌*◌, ◌/◌, ◌<◌, ◌≤◌, ◌^◌, ℕ, IfOk, IfSome, IsTrue, Ok, OnOk, length, min, unwrap_or};
+ghost use Rattle.std.specs.Prelude.{◌≡◌, ◌+◌, ◌-◌, ◌*◌, ◌/◌, ◌<◌, ◌≤◌, ◌^◌, ℕ, IfOk, IfSome, IsTrue, Ok, OnOk, length, map, min, option_map, unwrap_or};
 ghost use Rattle.std.specs.Option.{option_copied};
 ghost use Rattle.fastlanes.specs.Layout.{row_of, words_of_item};
 ghost use Rattle.fl_types.specs.Integers.{bits_of_type, lanes_of_type, read_as};
@@ -9,18 +9,20 @@ ghost use Rattle.fl_column.specs.Columns.{column_of_primitive};
 ghost use Rattle.fl_column.specs.Numbers.{numbers};
 ghost use Rattle.fl_patches.specs.PatchMaps.{patched_in};
 ghost use Rattle.fl_bitpacking.specs.Blocks.{are_blocks, block_item, blocks_of, boundary_blocks, global_blocks, item_of_blocks, value_at};
+ghost use Rattle.fl_bitpacking.specs.BlockSums.{decoded_item, plus_block_reference};
 ghost use Rattle.fl_bitpacking.specs.Columns.{block_count, column_of_packed};
 ghost use Rattle.fl_bitpacking.specs.Parts.{AreReadable, Fit, blocks_in, blocks_to_read, parts_of};
 
 use crate::bit_packed::BitPacked;
+use crate::block_decoding::PlusReferences;
 use crate::blocks::{PackedBlocks, global_block, prove_count_fits};
 use crate::patching::write_patches;
-use crate::unpack_iter::BitPackingStrategy;
 use fastlanes::{FL_CHUNK_SIZE, FastLanes, Work, unpack_single};
 use fl_bit_widths::Widths;
 use fl_column::{PhysicalPType, PrimitiveArray};
 use fl_patches::Patches;
 use fl_types::{FastLanesError, NativePType, PType, Validity, match_each_integer_ptype};
+use num_traits::WrappingAdd;
 use std::alloc::{AllocError, Global};
 
 /// The parts of a bit-packed column, without the widths of its blocks.
@@ -74,10 +76,11 @@ pub fn unpack_single_primitive<T: PhysicalPType>(packed: &[u8], width: usize, i:
 }
 
 /// Adds the items of block `j`, whose bytes start at `start`, and gives where those of the next block
-/// start. The list grows by these items alone, so that they are filled with 0 and unpacked while they
+/// start. The list grows by these items alone, so that they are filled with 0 and decoded while they
 /// lie in the first-level cache.
 fn push_block<T: BitPacked>(
     blocks: PackedBlocks,
+    references: &[T],
     j: usize,
     start: usize,
     items: &mut Vec<T>,
@@ -90,7 +93,7 @@ fn push_block<T: BitPacked>(
     requires begun { length items.old.items ≡ 1024 * j - blocks.offset }
     ensures long { OnOk result (length items.new.items ≡ min (1024 * (j + 1)) (blocks.entry.offset + blocks.entry.len) - blocks.entry.offset) }
     ensures before { OnOk result ((i : ℕ) → i < length items.old.items → value_at T.value items.new.items i ≡ value_at T.value items.old.items i) }
-    ensures part { OnOk result ((i : ℕ) → length items.old.items + i < length items.new.items → value_at T.value items.new.items (length items.old.items + i) ≡ item_of_blocks T.PTYPE (blocks_of blocks.entry.widths) blocks.entry.packed.now (blocks.entry.offset + (length items.old.items + i))) }
+    ensures part { OnOk result ((i : ℕ) → length items.old.items + i < length items.new.items → value_at T.value items.new.items (length items.old.items + i) ≡ decoded_item (plus_block_reference T.PTYPE (map T.value references.now)) T.PTYPE (blocks_of blocks.entry.widths) blocks.entry.packed.now (blocks.entry.offset + (length items.old.items + i))) }
     ensures next { IfOk result (λ next. next ≡ (blocks_of blocks.entry.widths).start (j + 1)) }
     ensures blocks { OnOk result (work.new.blocks ≡ min (work.old.blocks + 1) u64.MAX) }
     ensures words { work.new.words ≡ work.old.words }
@@ -98,18 +101,20 @@ fn push_block<T: BitPacked>(
     let (from, to) = blocks.places(j);
     items.resize(to, T::zero())?;
     let part = &mut items[from..];
-    Ok(blocks.unpack_block(&BitPackingStrategy, j, start, part, scratch, work))
+    let decoder = PlusReferences { references };
+    Ok(blocks.decode_block(&decoder, j, start, part, scratch, work))
 }
 
-/// The items of packed blocks, each block unpacked once.
-fn unpack_blocks<T: BitPacked>(
+/// The items of packed blocks, plus their references; each block is unpacked once.
+pub(crate) fn decode_blocks<T: BitPacked>(
     alloc: Global,
     blocks: PackedBlocks,
+    references: &[T],
     work: &mut Work,
 ) -> Result<Vec<T>, AllocError>
     requires { AreReadable (bits_of_type T.PTYPE) blocks }
     ensures long { IfOk result (λ v. length v.items ≡ blocks.entry.len) }
-    ensures items { IfOk result (λ v. (i : ℕ) → i < blocks.entry.len → value_at T.value v.items i ≡ item_of_blocks T.PTYPE (blocks_of blocks.entry.widths) blocks.entry.packed.now (blocks.entry.offset + i)) }
+    ensures items { IfOk result (λ v. (i : ℕ) → i < blocks.entry.len → value_at T.value v.items i ≡ decoded_item (plus_block_reference T.PTYPE (map T.value references.now)) T.PTYPE (blocks_of blocks.entry.widths) blocks.entry.packed.now (blocks.entry.offset + i)) }
     ensures blocks { OnOk result (work.new.blocks ≡ min (work.old.blocks + blocks_in blocks.entry) u64.MAX) }
     ensures words { work.new.words ≡ work.old.words }
 {
@@ -119,7 +124,7 @@ fn unpack_blocks<T: BitPacked>(
     let mut scratch = [T::zero(); FL_CHUNK_SIZE];
     let mut start = 0;
     for j in 0..blocks.count() {
-        start = push_block(blocks, j, start, &mut items, &mut scratch, work)?;
+        start = push_block(blocks, references, j, start, &mut items, &mut scratch, work)?;
     }
     Ok(items)
 }
@@ -135,7 +140,7 @@ fn zeros<T: NativePType>(alloc: Global, len: usize) -> Result<Vec<T>, AllocError
 }
 
 /// The items of packed blocks. None is unpacked where all are known to have width 0.
-fn unpack_values<T: BitPacked>(
+pub(crate) fn unpack_values<T: BitPacked>(
     alloc: Global,
     blocks: PackedBlocks,
     work: &mut Work,
@@ -150,23 +155,43 @@ fn unpack_values<T: BitPacked>(
             let items = zeros(alloc, blocks.len)?;
             Ok(items)
         }
-        _ => unpack_blocks(alloc, blocks, work),
+        _ => decode_blocks(alloc, blocks, &[], work),
     }
 }
 
-/// These items, with the patches' values in their places, if there are patches.
-fn with_patches<T: NativePType>(mut items: Vec<T>, patches: Option<&Patches>) -> Vec<T>
-    requires { IfSome (option_copied patches) (λ p. (p.array_len ≡ length items.items) × (p.values.ptype ≡ T.PTYPE)) }
+/// These items, with the patches' values, plus the references of their blocks, in their places, if there are
+/// patches. Item 0 stands at `first` in its block.
+pub(crate) fn with_patches<T: NativePType + WrappingAdd>(
+    mut items: Vec<T>,
+    patches: Option<&Patches>,
+    references: &[T],
+    first: usize,
+) -> Vec<T>
+    requires patches { IfSome (option_copied patches) (λ p. (p.array_len ≡ length items.items) × (p.values.ptype ≡ T.PTYPE)) }
+    requires few { first + length items.items < 2 ^ 64 }
     ensures long { length result.items ≡ length items.items }
-    ensures items { (i : ℕ) → i < length items.items → value_at T.value result.items i ≡ unwrap_or (patched_in (option_copied patches.entry) i) (value_at T.value items.items i) }
+    ensures items { (i : ℕ) → i < length items.items → value_at T.value result.items i ≡ unwrap_or (option_map (plus_block_reference T.PTYPE (map T.value references.now) ((first + i) / 1024)) (patched_in (option_copied patches.entry) i)) (value_at T.value items.items i) }
 {
     if let Some(patches) = patches {
-        write_patches(patches, &mut items);
+        write_patches(patches, references, first, &mut items);
     }
     items
 }
 
-fn unpack_typed<T: BitPacked>(
+/// These items, with the patches' values in their places, if there are patches.
+pub(crate) fn with_values<T: NativePType + WrappingAdd>(
+    items: Vec<T>,
+    patches: Option<&Patches>,
+) -> Vec<T>
+    requires { IfSome (option_copied patches) (λ p. (p.array_len ≡ length items.items) × (p.values.ptype ≡ T.PTYPE)) }
+    ensures long { length result.items ≡ length items.items }
+    ensures items { (i : ℕ) → i < length items.items → value_at T.value result.items i ≡ unwrap_or (patched_in (option_copied patches.entry) i) (value_at T.value items.items i) }
+{
+    let _len = items.len();
+    with_patches(items, patches, &[], 0)
+}
+
+fn unpack_typed<T: BitPacked + WrappingAdd>(
     alloc: Global,
     column: &PackedColumn,
     widths: Widths,
@@ -184,7 +209,7 @@ fn unpack_typed<T: BitPacked>(
         len: column.len,
     };
     let values = unpack_values::<T>(alloc, blocks, work)?;
-    let items = with_patches(values, column.patches);
+    let items = with_patches(values, column.patches, &[], column.offset);
     let validity = column.validity.try_clone(alloc)?;
     PrimitiveArray::new(items, validity)
 }

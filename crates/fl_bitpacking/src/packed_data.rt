@@ -1,6 +1,6 @@
 //! The parts of a bit-packed array, without the widths of its blocks: decoding, single items and slices.
 
-ghost use Rattle.std.specs.Prelude.{◌≡◌, ◌+◌, ◌-◌, ◌*◌, ◌/◌, ◌%◌, ◌<◌, ◌≤◌, ℕ, IfOk, IfSome, IsTrue, None, Ok, length, option_and_then, option_map};
+ghost use Rattle.std.specs.Prelude.{◌≡◌, ◌+◌, ◌-◌, ◌*◌, ◌/◌, ◌%◌, ◌<◌, ◌≤◌, ℕ, IfOk, IfSome, IsTrue, None, Ok, OnOk, length, min, option_and_then, option_map};
 ghost use Rattle.std.specs.Option.{option_copied};
 ghost use Rattle.fl_types.specs.declared.dtype.DType.TheVariants.{Primitive};
 ghost use Rattle.fl_types.specs.Bits.{between};
@@ -8,7 +8,7 @@ ghost use Rattle.fl_types.specs.Integers.{bits_of_type};
 ghost use Rattle.fl_types.specs.Refusals.{Answers};
 ghost use Rattle.fl_types.specs.Validities.{nullability_of};
 ghost use Rattle.fl_types.specs.Values.{scalar_parts, integer_of, ptype_of_value};
-ghost use Rattle.fl_column.specs.Columns.{Column, column_of_primitive, numbers_of};
+ghost use Rattle.fl_column.specs.Columns.{Column, column_of_constant, column_of_primitive, numbers_of};
 ghost use Rattle.fl_column.specs.Operations.{slice_of};
 ghost use Rattle.fl_column.specs.Questions.{scalar_in};
 ghost use Rattle.fl_patches.specs.PatchMaps.{patched_in, slice_patches};
@@ -17,15 +17,17 @@ ghost use Rattle.fl_bitpacking.specs.Blocks.{are_blocks, block_item, boundary_ar
 ghost use Rattle.fl_bitpacking.specs.BlockedWidths.{width_per_block};
 ghost use Rattle.fl_bitpacking.specs.Columns.{block_count, column_of_packed};
 ghost use Rattle.fl_bitpacking.specs.Parts.{parts_of};
+ghost use Rattle.fl_bitpacking.specs.References.{AreReferencesOf, plus_references};
 ghost use Rattle.fl_bitpacking.specs.Refusals.{AreConsistent, blocked_refusal, global_refusal};
 ghost use Rattle.fl_bitpacking.specs.SingleItems.{HasBlock, item_in_block, stored_in_block, stored_scalar};
 ghost use Rattle.fl_bitpacking.specs.SlicedParts.{HasEnds, IsBlockedSlice, end_block, first_block, sliced_parts};
 
 use crate::boundaries::global_boundary_array;
 use crate::decoding::{PackedColumn, unpack_block_item, unpack_blocked, unpack_global};
+use crate::for_decoding::{References, unfor_blocked, unfor_global};
 use bytes::Bytes;
 use fastlanes::{FL_CHUNK_SIZE, Work};
-use fl_column::{PhysicalPType, PrimitiveArray, chunk_count};
+use fl_column::{ConstantArray, PhysicalPType, PrimitiveArray, chunk_count};
 use fl_patches::Patches;
 use fl_types::{DType, FastLanesError, PType, PValue, Scalar, Validity, match_each_integer_ptype};
 use std::alloc::Global;
@@ -225,7 +227,7 @@ impl PackedData {
     }
 
     /// The parts as they are read.
-    fn column(&self) -> PackedColumn<'_>
+    pub(crate) fn column(&self) -> PackedColumn<'_>
         ensures { parts_of result ≡ self.now }
     {
         PackedColumn {
@@ -264,6 +266,56 @@ impl PackedData {
     {
         self.prove_well_formed();
         unpack_blocked(alloc, &self.column(), boundaries)
+    }
+
+    /// The column of the items, whose blocks lie between boundaries that are all equal: no block has a byte.
+    pub fn decode_without_bytes(
+        &self,
+        alloc: Global,
+        boundaries: &ConstantArray,
+    ) -> Result<PrimitiveArray, FastLanesError>
+        ensures { Answers column_of_primitive result (Ok (column_of_packed self.now (boundary_blocks (numbers_of (column_of_constant boundaries.now))))) }
+    {
+        self.decode_global(alloc, 0)
+    }
+
+    /// The column of the items plus the references, whose blocks all have one width. Each block is unpacked once.
+    pub fn unfor_global(
+        &self,
+        alloc: Global,
+        width: usize,
+        references: References,
+        work: &mut Work,
+    ) -> Result<PrimitiveArray, FastLanesError>
+        requires references { AreReferencesOf self.now.ptype (block_count self.now) references }
+        requires width { width ≤ bits_of_type self.now.ptype }
+        requires room { 128 * width * block_count self.now ≤ length self.now.packed }
+        ensures column { Answers column_of_primitive result (Ok (plus_references references.entry self.now.offset (column_of_packed self.now (global_blocks width)))) }
+        ensures blocks { OnOk result (work.new.blocks ≡ min (work.old.blocks + block_count self.now) u64.MAX) }
+        ensures words { work.new.words ≡ work.old.words }
+    {
+        self.prove_well_formed();
+        unfor_global(alloc, &self.column(), width, references, work)
+    }
+
+    /// The column of the items plus the references, whose blocks lie between the boundaries. Each block is
+    /// unpacked once.
+    pub fn unfor_blocked<'a>(
+        &'a self,
+        alloc: Global,
+        boundaries: &'a PrimitiveArray,
+        references: References,
+        work: &mut Work,
+    ) -> Result<PrimitiveArray, FastLanesError>
+        requires references { AreReferencesOf self.now.ptype (block_count self.now) references }
+        requires count { length boundaries.now.slots ≡ block_count self.now + 1 }
+        requires blocks { IsTrue (are_blocks (bits_of_type self.now.ptype) (length self.now.packed) (numbers boundaries.now)) }
+        ensures column { Answers column_of_primitive result (Ok (plus_references references.entry self.now.offset (column_of_packed self.now (boundary_blocks (numbers boundaries.now))))) }
+        ensures blocks { OnOk result (work.new.blocks ≡ min (work.old.blocks + block_count self.now) u64.MAX) }
+        ensures words { work.new.words ≡ work.old.words }
+    {
+        self.prove_well_formed();
+        unfor_blocked(alloc, &self.column(), boundaries, references, work)
     }
 
     /// The patch of item `i`, if there is one.

@@ -3,7 +3,7 @@
 ghost use Rattle.std.specs.Prelude.{◌≡◌, ◌+◌, ◌^◌, ◌<◌, ◌==◌, length};
 ghost use Rattle.std.specs.Option.{option_copied};
 ghost use Rattle.fl_types.specs.Integers.{same_ptype};
-ghost use Rattle.fl_column.specs.Columns.{column_of_primitive, option_all};
+ghost use Rattle.fl_column.specs.Columns.{column_of_constant, column_of_primitive, option_all};
 ghost use Rattle.fl_column.specs.Chunks.{chunk_count};
 ghost use Rattle.fl_column.specs.Numbers.{numbers};
 ghost use Rattle.fl_bitpacking.specs.Columns.{block_count};
@@ -13,7 +13,7 @@ ghost use Rattle.fl_bitpacking.specs.Refusals.{blocked_refusal, boundaries_refus
 use crate::boundary_checks::{are_blocks, is_span};
 use crate::decoding::PackedColumn;
 use fastlanes::FL_CHUNK_SIZE;
-use fl_column::{PrimitiveArray, chunk_count};
+use fl_column::{ConstantArray, PrimitiveArray, chunk_count};
 use fl_patches::Patches;
 use fl_types::{DType, FastLanesError, PType};
 
@@ -133,6 +133,27 @@ pub fn blocked_refusal(column: &PackedColumn, boundaries: &PrimitiveArray) -> Op
     }
     if let Some(refusal) = boundaries_refusal(column, boundaries) {
         return Some(refusal);
+    }
+    validity_and_patches_refusal(column)
+}
+
+/// Why these parts make no array whose blocks lie between boundaries that are all equal, as `blocked_refusal`
+/// has it, if they make none: each block has width 0, so there may be no byte. No boundary is written out.
+pub fn constant_boundaries_refusal(
+    column: &PackedColumn,
+    boundaries: &ConstantArray,
+) -> Option<FastLanesError>
+    ensures { result ≡ blocked_refusal (parts_of column.now) (column_of_constant boundaries.now) }
+{
+    if let Some(refusal) = positions_refusal(column.offset, column.len) {
+        return Some(refusal);
+    }
+    let blocks = chunk_count(column.offset + column.len);
+    if let Some(refusal) = block_offsets_refusal(blocks, boundaries.dtype(), boundaries.len()) {
+        return Some(refusal);
+    }
+    if column.packed.len() != 0 {
+        return Some(FastLanesError::BlockSpan);
     }
     validity_and_patches_refusal(column)
 }

@@ -8,6 +8,7 @@ ghost use Rattle.fl_bitpacking.specs.Readers.{lends_first, lends_last};
 
 pub use crate::bit_packed::{BitCount, BitPacked};
 pub use crate::bit_unpack_iterator::BitUnpackIterator;
+use crate::block_decoding::AsStored;
 use crate::blocks::{PackedBlocks, global_block};
 use crate::unpacked_items::Span;
 pub use crate::unpacked_items::UnpackedItems;
@@ -217,6 +218,7 @@ impl<'a, T: BitPacked, S: UnpackStrategy<T> + Drop> UnpackedChunks<'a, T, S> {
     }
 
     /// Writes all items, each block unpacked once, a whole one straight into its place.
+    #[tactic(auto, unfolding(crate::specs::BlockSums::decoded_item))]
     pub fn decode_into(&mut self, output: &mut [T])
         requires { length output.old ≡ self.old.len }
         ensures items { (i : ℕ) → i < length output.old → value_at T.value output.new i ≡ item_of_blocks T.PTYPE (global_blocks self.old.bit_width) self.old.packed (self.old.offset + i) }
@@ -231,7 +233,10 @@ impl<'a, T: BitPacked, S: UnpackStrategy<T> + Drop> UnpackedChunks<'a, T, S> {
             offset: self.offset,
             len: self.len,
         };
-        blocks.unpack_into(&self.strategy, output, self.scratch, &mut self.work);
+        let decoder = AsStored {
+            strategy: &self.strategy,
+        };
+        blocks.decode_into(&decoder, output, self.scratch, &mut self.work);
     }
 }
 

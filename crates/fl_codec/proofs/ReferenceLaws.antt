@@ -7,7 +7,7 @@ use Rattle.std.proofs.lemmas.List.FromFn.{get_or-map-range_with_len, length-map-
 use Rattle.std.proofs.lemmas.Bool.{cases_lt, true≢false}
 use Rattle.std.proofs.lemmas.Bool.Decides.{Decides-int_eq}
 use Rattle.fl_types.specs.Bits.{table}
-use Rattle.std.proofs.Common.{append_assoc, subst, IsTrue, is_none, length-drop, ◌-◌, ◌*◌, min}
+use Rattle.std.proofs.Common.{subst, IsTrue, is_none, length-drop, ◌-◌, ◌*◌, min}
 use Rattle.std.proofs.lemmas.List.{get_or-map, length-map, map-append, map_more, take_all}
 use Rattle.fl_types.specs.Bits.{between}
 use Rattle.fl_types.specs.Validities.{covers, is_valid_at, items_of}
@@ -120,12 +120,6 @@ table_push value f new old x n pushed before here = rw (pushed, map-append, befo
 -- one more element of a list that is mapped, seen through its values
 pub map_push : {A B C : Type 0} (value : A → B) (f : C → B) (xs : List C) (new old : List A) (x : A) (n : ℕ) (d : C) → n < length xs → new ≡ old ++ x ∷ [] → map value old ≡ map f (take n xs) → value x ≡ f (get_or xs n d) → map value new ≡ map f (take (n + 1) xs)
 map_push value f xs new old x n d h pushed before here = rw (pushed, map-append, before, here) (sym (map_more f xs n d h))
-
--- one more value of words that are read, behind the values that stood before
-pub values_pushed : {A B W : Type 0} (value : A → B) (read : W → B) (words : List W) (start : List B) (new old : List A) (x : A) (w : W) (n : ℕ) → n < length words → w ≡ get_or words n w → new ≡ old ++ x ∷ [] → map value old ≡ start ++ map read (take n words) → value x ≡ read w
-    → map value new ≡ start ++ map read (take (n + 1) words)
-values_pushed value read words start new old x w n h is pushed before here =
-    rw (pushed, map-append, before, here, append_assoc) (ap (λ ys. start ++ ys) (ap (λ v. map read (take n words) ++ read v ∷ []) is ∙ sym (map_more read words n w h)))
 
 -- one more value of elements that are read, each mapped
 pub read_push : {A B : Type 0} (value : A → B) (f : B → B) (xs new old : List A) (x y : A) (n : ℕ) → n < length xs → y ≡ get_or xs n y → new ≡ old ++ x ∷ [] → map value old ≡ map f (map value (take n xs)) → value x ≡ f (value y)

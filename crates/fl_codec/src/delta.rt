@@ -20,6 +20,7 @@ use crate::fill_forward::fill_chunk;
 use crate::plain::{non_nullable, under_validity};
 use fastlanes::facts::prove_all_in_range;
 use fastlanes::{FL_CHUNK_SIZE, FastLanes, delta, transpose, undelta, untranspose};
+use fl_column::patterns::{push_values, write_patterns};
 use fl_column::{PhysicalPType, PrimitiveArray};
 use fl_types::{FastLanesError, Validity, match_each_integer_ptype};
 use std::alloc::{AllocError, Global};
@@ -44,19 +45,6 @@ fn encode_block<W: FastLanes>(block: &mut [W; FL_CHUNK_SIZE], stored: &mut [W; F
     prove_all_in_range(block);
     transpose(block, stored);
     delta(stored, first_row(stored), block);
-}
-
-/// Adds the values of these patterns.
-pub(crate) fn push_values<T: PhysicalPType>(
-    patterns: &[T::Physical],
-    values: &mut Vec<T>,
-) -> Result<(), AllocError>
-    ensures { OnOk result (map T.value values.new.items ≡ map T.value values.old.items ++ map (λ w. read_as T.PTYPE (T.Physical.pattern w)) patterns.now) }
-{
-    for pattern in patterns {
-        values.push(T::from_physical(*pattern))?;
-    }
-    Ok(())
 }
 
 /// Adds the bases and the deltas of chunk `k`, and gives its last item.
@@ -126,20 +114,6 @@ pub fn delta_compress(
     ensures { Answers (λ parts. parts) result (Ok (compress_deltas array.now)) }
 {
     match_each_integer_ptype!(array.ptype(), compress_typed(alloc, array))
-}
-
-/// Writes the patterns of these values, at most a block of them.
-pub(crate) fn write_patterns<T: PhysicalPType>(
-    values: &[T],
-    block: &mut [T::Physical; FL_CHUNK_SIZE],
-)
-    requires { length values.now ≤ 1024 }
-    ensures block { (i : ℕ) → i < length values.now → pattern_at T.Physical.pattern block.new i ≡ pattern_of T.PTYPE (slice_index_or (map T.value values.now) i (pos 0)) }
-    ensures whole { length block.new ≡ 1024 }
-{
-    for i in 0..values.len() {
-        block[i] = values[i].to_physical();
-    }
 }
 
 /// The items of a block of deltas, which are put in their place.

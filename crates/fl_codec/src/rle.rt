@@ -19,10 +19,11 @@ ghost use Rattle.fl_codec.specs.RunColumns.{IsRunChunk, chunk_end, chunk_start, 
 ghost use Rattle.fl_codec.specs.Runs.{indices_to, offsets_to, run_validity, values_to};
 
 use crate::chunks::chunk_count;
-use crate::delta::{push_block, push_values, write_patterns};
+use crate::delta::push_block;
 use crate::fill_forward::fill_chunk;
 use crate::plain::{non_nullable, with_validity};
 use fastlanes::{FL_CHUNK_SIZE, FastLanes, rle_decode, rle_encode};
+use fl_column::patterns::{push_values, write_patterns};
 use fl_column::{PhysicalPType, PrimitiveArray, item_at};
 use fl_types::{BitList, FastLanesError, NativePType, PValue, Validity, match_each_integer_ptype};
 use std::alloc::{AllocError, Global};

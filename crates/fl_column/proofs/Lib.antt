@@ -1,3 +1,4 @@
+pub mod BuilderLaws
 pub mod CastLaws
 pub mod ChunkLaws
 pub mod ColumnAlgebra
@@ -6,6 +7,7 @@ pub mod FullLaws
 pub mod GatherLaws
 pub mod ItemLaws
 pub mod ListLaws
+pub mod NamedLaws
 pub mod NumberLaws
 pub mod PatternLaws
 pub mod QuestionLaws

@@ -6,6 +6,7 @@ pub use Rattle.fl_types.specs.Buffers
 pub use Rattle.fl_types.specs.Types
 pub use Rattle.fl_types.specs.Validities
 pub use Rattle.fl_types.specs.Values
+pub mod Builders
 pub mod Chunks
 pub mod Columns
 pub mod Numbers

@@ -1,5 +1,5 @@
 -- Items at positions.
-use Rattle.std.specs.Prelude.{ℕ, Bool, false, List, Option, None, map, slice_index_or, nat_lt, option_and_then, option_map, unsigned_abs, ℤ, Result, Ok, Err, if◌then◌else◌}
+use Rattle.std.specs.Prelude.{ℕ, Bool, true, false, List, Option, None, Some, length, map, pos, slice_index_or, nat_lt, option_and_then, option_map, unsigned_abs, ℤ, Result, Ok, Err, if◌then◌else◌}
 use Rattle.std.specs.List.{list_all}
 use Rattle.fl_column.specs.Columns.{option_all}
 use Rattle.fl_types.specs.Bits.{true_count}
@@ -35,3 +35,18 @@ any_null valid.NonNullable len = false
 any_null valid.AllValid len = false
 any_null valid.AllInvalid len = nat_lt 0 len
 any_null (valid.Array bits) len = nat_lt (true_count bits) len
+
+-- all items are valid by the form of their validity
+abbrev pub is_full : Validity → Bool
+is_full valid.NonNullable = true
+is_full valid.AllValid = true
+is_full valid.AllInvalid = false
+is_full (valid.Array bits) = false
+
+-- the slot that an index names
+abbrev pub slot_named : List ℤ → ℤ → ℤ
+slot_named slots index = slice_index_or slots (unsigned_abs index) (pos 0)
+
+-- the slots that indices name, or why there are none
+abbrev pub slots_named : List ℤ → List ℤ → Result (List ℤ) FastLanesError
+slots_named slots indices = if list_all (λ index. is_in_range (length slots) (Some index)) indices then Ok (map (slot_named slots) indices) else Err IndexOutOfBounds

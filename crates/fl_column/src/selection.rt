@@ -1,5 +1,7 @@
 //! Items of plain arrays that are selected: by positions, by ranges, by a mask.
 
+mod without_nulls;
+
 ghost use Rattle.std.specs.Prelude.{◌≡◌, ◌<◌, ◌||◌, ◌+◌, ◌^◌, ◌++◌, IsTrue, is_some, map, length, Ok, OnOk, IfErr, None, option_map, slice_index_or, unsigned_abs};
 ghost use Rattle.std.specs.List.{flat_map, list_all};
 ghost use Rattle.fl_types.specs.Buffers.{integers_of, ptype_of};
@@ -16,6 +18,7 @@ ghost use Rattle.fl_types.specs.declared.error.FastLanesError.TheVariants.{OutOf
 
 use crate::builder::PrimitiveBuilder;
 use crate::primitive::PrimitiveArray;
+use crate::selection::without_nulls::is_full;
 use fl_types::{
     BitList, FastLanesError, Mask, NativePType, Nullability, PrimitiveBuffer, Validity,
     match_each_integer_ptype,
@@ -295,6 +298,9 @@ impl PrimitiveArray {
     ) -> Result<PrimitiveArray, FastLanesError>
         ensures { Answers column_of_primitive result (take_column (column_of_primitive indices.now) (column_of_primitive self.now)) }
     {
+        if is_full(self.validity()) && is_full(indices.validity()) {
+            return without_nulls::take(alloc, self, indices);
+        }
         let positions = positions(alloc, indices, self.len())?;
         let nullability = self.nullability().or(indices.nullability());
         take_positions(alloc, self, &positions, nullability)

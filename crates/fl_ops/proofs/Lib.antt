@@ -9,3 +9,4 @@ mod CastedTrees
 mod NormalizedLaws
 mod ComparedLaws
 mod NegatedLaws
+mod TakenShown

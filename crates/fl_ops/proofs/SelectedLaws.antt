@@ -121,7 +121,7 @@ selected_of_global (picks.Indices indices) reference c = take_column_of_global r
 selected_of_global (picks.Ranges ranges) reference c = ranges_column_of_global reference ranges.now c
 selected_of_global (picks.Mask mask) reference c = filter_column_of_global reference mask.now c
 
-ok_of_three : {A : Type 0} (a b : Bool) (e g : FastLanesError) (x d : A) → (if a then Err e else if b then Err g else Ok x) ≡ Ok d → x ≡ d
+pub ok_of_three : {A : Type 0} (a b : Bool) (e g : FastLanesError) (x d : A) → (if a then Err e else if b then Err g else Ok x) ≡ Ok d → x ≡ d
 ok_of_three true b e g x d h = cc
 ok_of_three false true e g x d h = cc
 ok_of_three false false e g x d h = cc

@@ -4,3 +4,4 @@ pub mod Normalized
 pub mod Results
 pub mod Selections
 pub mod CastForms
+pub mod Takes

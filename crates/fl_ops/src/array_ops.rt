@@ -1,6 +1,6 @@
 //! Operations and questions on arrays.
 
-ghost use Rattle.std.specs.Prelude.{◌≡◌, ℕ, IfOk, IsTrue, Ok, length};
+ghost use Rattle.std.specs.Prelude.{◌*◌, ◌≡◌, ◌≤◌, IfOk, IfSome, IsTrue, Ok, length, ℕ};
 ghost use Rattle.fl_types.specs.declared.mask.Mask.TheVariants.{AllTrue};
 ghost use Rattle.fl_types.specs.Masks.{mask_len};
 ghost use Rattle.fl_types.specs.Refusals.{Answers};
@@ -8,14 +8,19 @@ ghost use Rattle.fl_types.specs.Types.{has_ptype, is_integer};
 ghost use Rattle.fl_types.specs.Values.{scalar_parts, integer_of, ptype_of_value};
 ghost use Rattle.fl_column.specs.Columns.{column_of_bools};
 ghost use Rattle.fl_column.specs.Operations.{cast_column, filter_column, ranges_column, ranges_of, take_column, take_of};
-ghost use Rattle.fl_column.specs.Questions.{between_column, compare_column, is_constant_column, is_sorted_column};
+ghost use Rattle.fl_column.specs.Questions.{between_column, compare_column, holds, is_between, is_constant_column, is_sorted_column};
+ghost use Rattle.fl_array.specs.BitPackedArrays.{bitpacked_in};
 ghost use Rattle.fl_array.specs.Trees.{Tree, column};
+ghost use Rattle.fl_array.specs.UnpackedBlocks.{IsComparisonOf};
 ghost use Rattle.fl_ops.specs.Normalized.{SameShown};
 ghost use Rattle.fl_ops.specs.Results.{cast_to, filtered, picked};
+ghost use Rattle.fl_ops.specs.Takes.{has_block_widths};
 ghost use Rattle.fl_ops.specs.Questions.{integer_in, is_comparable};
 
 use crate::selection::{Selection, select};
+use crate::takes::take_packed_counted;
 use crate::{casting, equality, plain_ops};
+use fastlanes::Work;
 use fl_array::ArrayRef;
 use fl_column::{
     BetweenOptions, BoolArray, CompareOperator, DType, FastLanesError, Mask, PValue, Scalar,
@@ -38,6 +43,22 @@ pub trait ArrayOps {
     fn take(&self, alloc: Global, indices: &ArrayRef) -> Result<ArrayRef, FastLanesError>
         ensures column { Answers column result (take_column (column indices.now) (column (tree self.now))) }
         ensures tree { IfOk result (λ a. SameShown a (picked (take_of (column indices.now)) (tree self.now))) };
+
+    /// As `take`, and what was read of packed bytes for it, where this is a bit-packed array; nothing is
+    /// counted for any other. Where each block has a width of its own, a block is unpacked for seventeen
+    /// indices at least, and at most two words are read for an index.
+    ///
+    /// # Errors
+    /// Those of `take`.
+    fn take_counted(
+        &self,
+        alloc: Global,
+        indices: &ArrayRef,
+    ) -> Result<(ArrayRef, Work), FastLanesError>
+        ensures column { Answers (λ r. column r.0) result (take_column (column indices.now) (column (tree self.now))) }
+        ensures tree { IfOk result (λ r. SameShown r.0 (picked (take_of (column indices.now)) (tree self.now))) }
+        ensures blocks { IsTrue (has_block_widths (tree self.now)) → IfOk result (λ r. 17 * r.1.blocks ≤ length (column indices.now).items) }
+        ensures words { IsTrue (has_block_widths (tree self.now)) → IfOk result (λ r. r.1.words ≤ 2 * length (column indices.now).items) };
 
     /// The items of the ranges, each a start and a length, one range after another. A range without
     /// items is skipped, wherever it starts.
@@ -108,6 +129,38 @@ pub trait ArrayOps {
         requires upper { IsTrue (is_comparable (column (tree self.now)) (scalar_parts upper.now)) }
         ensures { Answers column_of_bools result (between_column (integer_in (scalar_parts lower.now)) (integer_in (scalar_parts upper.now)) options.now (column (tree self.now))) };
 
+    /// The same as `compare`, and what was unpacked for it of the packed bytes of a bit-packed array: of one width each block, or
+    /// none where there is no item or the width decides the comparison; of a width for each block those blocks whose own width
+    /// does not decide it. Of any other array the count says nothing.
+    ///
+    /// # Errors
+    /// `NotInteger`.
+    fn compare_counted(
+        &self,
+        alloc: Global,
+        operator: CompareOperator,
+        constant: &Scalar,
+    ) -> Result<(BoolArray, Work), FastLanesError>
+        requires { IsTrue (is_comparable (column (tree self.now)) (scalar_parts constant.now)) }
+        ensures answer { Answers (λ r. column_of_bools r.0) result (compare_column operator (integer_in (scalar_parts constant.now)) (column (tree self.now))) }
+        ensures work { IfOk result (λ r. IfSome (bitpacked_in (tree self.now)) (λ a. IsComparisonOf a (holds operator (integer_in (scalar_parts constant.now))) r.1)) };
+
+    /// The same as `between`, and what was unpacked for it, as by `compare_counted`.
+    ///
+    /// # Errors
+    /// `NotInteger`.
+    fn between_counted(
+        &self,
+        alloc: Global,
+        lower: &Scalar,
+        upper: &Scalar,
+        options: &BetweenOptions,
+    ) -> Result<(BoolArray, Work), FastLanesError>
+        requires lower { IsTrue (is_comparable (column (tree self.now)) (scalar_parts lower.now)) }
+        requires upper { IsTrue (is_comparable (column (tree self.now)) (scalar_parts upper.now)) }
+        ensures answer { Answers (λ r. column_of_bools r.0) result (between_column (integer_in (scalar_parts lower.now)) (integer_in (scalar_parts upper.now)) options.now (column (tree self.now))) }
+        ensures work { IfOk result (λ r. IfSome (bitpacked_in (tree self.now)) (λ a. IsComparisonOf a (is_between options.now (integer_in (scalar_parts lower.now)) (integer_in (scalar_parts upper.now))) r.1)) };
+
     /// Whether all items are equal; a null equals a null. An empty array is constant.
     ///
     /// # Errors
@@ -142,6 +195,17 @@ impl ArrayOps for ArrayRef {
 
     fn take(&self, alloc: Global, indices: &ArrayRef) -> Result<ArrayRef, FastLanesError> {
         select(alloc, self, Selection::Indices(indices))
+    }
+
+    fn take_counted(
+        &self,
+        alloc: Global,
+        indices: &ArrayRef,
+    ) -> Result<(ArrayRef, Work), FastLanesError> {
+        match self.as_bitpacked() {
+            Some(packed) => take_packed_counted(alloc, packed, indices),
+            None => Ok((self.take(alloc, indices)?, Work::new())),
+        }
     }
 
     fn take_ranges(
@@ -191,6 +255,45 @@ impl ArrayOps for ArrayRef {
         };
         let (lower, upper) = (integer_for(self, lower), integer_for(self, upper));
         plain_ops::between(alloc, self, lower, upper, *options)
+    }
+
+    fn compare_counted(
+        &self,
+        alloc: Global,
+        operator: CompareOperator,
+        constant: &Scalar,
+    ) -> Result<(BoolArray, Work), FastLanesError> {
+        let DType::Primitive(_, _) = self.dtype() else {
+            return Err(FastLanesError::NotInteger);
+        };
+        let constant = integer_for(self, constant);
+        match self.as_bitpacked() {
+            Some(packed) => packed.compare_counted(alloc, operator, constant),
+            None => {
+                let answers = equality::compare(alloc, self, operator, constant)?;
+                Ok((answers, Work::new()))
+            }
+        }
+    }
+
+    fn between_counted(
+        &self,
+        alloc: Global,
+        lower: &Scalar,
+        upper: &Scalar,
+        options: &BetweenOptions,
+    ) -> Result<(BoolArray, Work), FastLanesError> {
+        let DType::Primitive(_, _) = self.dtype() else {
+            return Err(FastLanesError::NotInteger);
+        };
+        let (lower, upper) = (integer_for(self, lower), integer_for(self, upper));
+        match self.as_bitpacked() {
+            Some(packed) => packed.between_counted(alloc, lower, upper, *options),
+            None => {
+                let answers = plain_ops::between(alloc, self, lower, upper, *options)?;
+                Ok((answers, Work::new()))
+            }
+        }
     }
 
     fn is_constant(&self, alloc: Global) -> Result<bool, FastLanesError> {

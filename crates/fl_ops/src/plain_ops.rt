@@ -1,16 +1,18 @@
 //! Operations and questions on arrays, answered by the plain array of the same column.
 
-ghost use Rattle.std.specs.Prelude.{◌≡◌, IsTrue, length};
+ghost use Rattle.std.specs.Prelude.{◌≡◌, IsTrue, Ok, length};
 ghost use Rattle.fl_types.specs.Masks.{mask_len};
 ghost use Rattle.fl_types.specs.Refusals.{Answers};
 ghost use Rattle.fl_types.specs.Types.{has_ptype, is_integer};
 ghost use Rattle.fl_types.specs.Values.{integer_of, ptype_of_value};
 ghost use Rattle.fl_column.specs.Columns.{column_of_bools, column_of_constant, column_of_primitive};
 ghost use Rattle.fl_column.specs.Operations.{cast_column, filter_column, ranges_column, take_column};
-ghost use Rattle.fl_column.specs.Questions.{between_column, compare_column, is_constant_column, is_sorted_column};
+ghost use Rattle.fl_column.specs.Questions.{between_column, compare_column, holds, is_between, is_constant_column, is_sorted_column, tested};
+ghost use Rattle.fl_array.specs.BitPackedArrays.{tree_of_bitpacked};
 ghost use Rattle.fl_array.specs.Trees.{column};
 
 use fl_array::ArrayRef;
+use fl_array::bitpacking::BitPackedArray;
 use fl_column::{
     BetweenOptions, BoolArray, CompareOperator, ConstantArray, DType, FastLanesError, Mask, PValue,
     PrimitiveArray,
@@ -30,6 +32,9 @@ fn take_plain(
     }
     if let Some(constant_array) = array.as_constant() {
         return constant_array.take(alloc, indices);
+    }
+    if let Some(packed) = array.as_bitpacked() {
+        return packed.take(alloc, indices);
     }
     array.to_primitive(alloc)?.take(alloc, indices)
 }
@@ -110,6 +115,33 @@ pub(crate) fn cast(
     array.to_primitive(alloc)?.cast(alloc, target)
 }
 
+/// How each item of a bit-packed array compares with a constant, by its packed blocks.
+fn compare_packed(
+    alloc: Global,
+    packed: &BitPackedArray,
+    operator: CompareOperator,
+    constant: PValue,
+) -> Result<BoolArray, FastLanesError>
+    ensures { Answers column_of_bools result (Ok (tested (holds operator (integer_of constant)) (column (tree_of_bitpacked packed.now)))) }
+{
+    let (answers, _work) = packed.compare_counted(alloc, operator, constant)?;
+    Ok(answers)
+}
+
+/// Whether each item of a bit-packed array lies between two bounds, by its packed blocks.
+fn between_packed(
+    alloc: Global,
+    packed: &BitPackedArray,
+    lower: PValue,
+    upper: PValue,
+    options: BetweenOptions,
+) -> Result<BoolArray, FastLanesError>
+    ensures { Answers column_of_bools result (Ok (tested (is_between options (integer_of lower) (integer_of upper)) (column (tree_of_bitpacked packed.now)))) }
+{
+    let (answers, _work) = packed.between_counted(alloc, lower, upper, options)?;
+    Ok(answers)
+}
+
 /// How each item compares with a constant.
 pub(crate) fn compare(
     alloc: Global,
@@ -126,6 +158,9 @@ pub(crate) fn compare(
     }
     if let Some(constant_array) = array.as_constant() {
         return constant_array.compare(alloc, operator, constant);
+    }
+    if let Some(packed) = array.as_bitpacked() {
+        return compare_packed(alloc, packed, operator, constant);
     }
     array
         .to_primitive(alloc)?
@@ -150,6 +185,9 @@ pub(crate) fn between(
     }
     if let Some(constant_array) = array.as_constant() {
         return constant_array.between(alloc, lower, upper, options);
+    }
+    if let Some(packed) = array.as_bitpacked() {
+        return between_packed(alloc, packed, lower, upper, options);
     }
     array
         .to_primitive(alloc)?

@@ -20,7 +20,7 @@ pub(crate) fn count_below_typed<I: NativePType>(indices: &[I], limit: u128) -> u
 }
 
 /// The place of a number among the rising indices, if it is one of them.
-pub(crate) fn rank_typed<I: NativePType>(indices: &[I], index: u128) -> Option<usize>
+pub fn rank_typed<I: NativePType>(indices: &[I], index: u128) -> Option<usize>
     requires { IsTrue (is_rising (numbers_by I.value indices.now)) }
     ensures { result ≡ rank_of index (numbers_by I.value indices.now) }
 {

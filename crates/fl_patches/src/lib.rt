@@ -3,7 +3,7 @@
 
 mod builder;
 mod checks;
-mod indices;
+pub mod indices;
 pub mod patches;
 mod selection;
 

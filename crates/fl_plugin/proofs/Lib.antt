@@ -1,6 +1,7 @@
 pub mod ViewLaws
 pub mod ReadLaws
 pub mod PlainLaws
+pub mod EarlyLaws
 pub mod LeavesAgain
 pub mod ColumnsAgain
 pub mod NestedAgain
@@ -9,3 +10,4 @@ pub mod PlainAgain
 pub mod ChildrenAgain
 pub mod PackedAgain
 pub mod BackLaws
+pub mod ShapesRead

@@ -2,6 +2,8 @@ pub mod Views
 pub mod Writing
 pub mod Plain
 pub mod Reading
+pub mod EarlyRefusals
+pub mod ReadShapes
 pub mod Firsts
 pub mod Plugins
 pub mod RoundTrip

@@ -65,21 +65,30 @@ validity_over head m trees =
     else full_validity (nullability_in head.dtype)
 
 -- ---- what is made of them
--- the chunk offsets that the first array is, where patches have them
-abbrev pub chunk_offsets_over : Option PType → List Tree → Result (Option PrimitiveParts) FastLanesError
-chunk_offsets_over None trees = Ok None
-chunk_offsets_over (Some ptype) [] = Err ChildCount
-chunk_offsets_over (Some ptype) (tree ∷ others) = decoded tree >>= λ offsets. Ok (Some offsets)
+-- the array of chunk offsets, which is the first one, where patches have them
+abbrev pub chunk_offsets_in : Option PType → List Tree → Result (Option Tree) FastLanesError
+chunk_offsets_in None trees = Ok None
+chunk_offsets_in (Some ptype) [] = Err ChildCount
+chunk_offsets_in (Some ptype) (tree ∷ others) = Ok (Some tree)
 
--- the patches of a message over the arrays of its children, held plain
+-- chunk offsets, held plain
+abbrev pub decoded_offsets : Option Tree → Result (Option PrimitiveParts) FastLanesError
+decoded_offsets None = Ok None
+decoded_offsets (Some tree) = decoded tree >>= λ offsets. Ok (Some offsets)
+
+-- the patches of these arrays, held plain
+abbrev pub plain_patches : ℕ → ℕ → Tree → Tree → Option Tree → Result PatchesParts FastLanesError
+plain_patches len offset indices values offsets = do
+  plain_indices ← decoded indices
+  plain_values ← decoded values
+  plain_offsets ← decoded_offsets offsets
+  new_patches len offset plain_indices plain_values plain_offsets
+
+-- the patches of a message over the arrays of its children
 abbrev pub patches_over : ℕ → PatchesMetadata → List Tree → Result PatchesParts FastLanesError
 patches_over len m [] = Err ChildCount
 patches_over len m (indices ∷ []) = Err ChildCount
-patches_over len m (indices ∷ values ∷ others) = do
-  plain_indices ← decoded indices
-  plain_values ← decoded values
-  chunk_offsets ← chunk_offsets_over m.chunk_offsets others
-  new_patches len m.offset plain_indices plain_values chunk_offsets
+patches_over len m (indices ∷ values ∷ others) = chunk_offsets_in m.chunk_offsets others >>= λ offsets. plain_patches len m.offset indices values offsets
 
 -- the same where there may be no message of patches
 abbrev pub patches_found : ℕ → Option PatchesMetadata → List Tree → Result (Option PatchesParts) FastLanesError

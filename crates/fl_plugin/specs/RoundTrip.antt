@@ -1,5 +1,5 @@
 -- The array that is read where an array was written: the same column, kinds and parts, but for the form of validities, and whether references and patches may be null.
-use Rattle.std.specs.Prelude.{◌≡◌, ◌&&◌, ℕ, Bool, false, true, length, Some, None, Ok, IfSome, IsTrue, is_none, option_map, replicate}
+use Rattle.std.specs.Prelude.{◌≡◌, ℕ, false, length, Some, None, Ok, IfSome, IsTrue, option_map, replicate}
 use Rattle.std.specs.List.{list_all}
 use Rattle.fl_types.specs.declared.dtype.PType.{PType}
 use Rattle.fl_types.specs.Integers.{FitsIn, fits}
@@ -15,7 +15,6 @@ use Rattle.fl_patches.specs.PatchMaps.{PatchesParts, refusal_of}
 use Rattle.fl_bitpacking.specs.Columns.{BitPackedParts}
 use Rattle.fl_array.specs.Trees.{BitPackedBlocked, BitPackedGlobal, Constant, Delta, FoRChunked, FoRGlobal, Primitive, RLE, Tree}
 use Rattle.fl_array.specs.Trees as tree
-use Rattle.fl_array.specs.Reads.{constant_in}
 use Rattle.fl_plugin.specs.Plain.{plain_of}
 use Rattle.fl_plugin.specs.Reading.{reading}
 use Rattle.fl_plugin.specs.Writing.{written}
@@ -68,22 +67,10 @@ read_back (FoRChunked encoded references offset) = FoRChunked (read_back encoded
 read_back (Delta bases deltas parts) = Delta (read_back bases) (read_back deltas) (record { validity = read_validity parts.len parts.validity; offset = parts.offset; len = parts.len })
 read_back (RLE values indices offsets window) = RLE (read_back values) (read_back indices) (read_back offsets) window
 
--- ---- which arrays are read as they were written
--- no FoR array in it has constant references for its chunks: its constructor makes them one reference for all items
-abbrev pub has_varied_references : Tree → Bool
-has_varied_references (Primitive p) = true
-has_varied_references (Constant c) = true
-has_varied_references (tree.Bool b) = true
-has_varied_references (BitPackedGlobal parts width) = true
-has_varied_references (BitPackedBlocked parts boundaries) = has_varied_references boundaries
-has_varied_references (FoRGlobal encoded reference) = has_varied_references encoded
-has_varied_references (FoRChunked encoded references offset) = is_none (constant_in references) && (has_varied_references encoded && has_varied_references references)
-has_varied_references (Delta bases deltas parts) = has_varied_references bases && has_varied_references deltas
-has_varied_references (RLE values indices offsets window) = has_varied_references values && (has_varied_references indices && has_varied_references offsets)
-
+-- ---- the law
 -- The node of an array is read as that array.
 pub record IsReadBack (t : Tree) : Type 0 where
-  pub reads : IsTrue (has_varied_references t) → reading (written t) ≡ Ok (read_back t)
+  pub reads : reading (written t) ≡ Ok (read_back t)
 
 -- Patches are ones that there can be, of integers of their types.
 pub record ArePatchesOfTypes (q : PatchesParts) : Type 0 where

@@ -15,7 +15,7 @@ ghost use Rattle.fl_array.specs.DeltaArrays.{tree_of_delta};
 ghost use Rattle.fl_array.specs.FoRArrays.{ChunkReferences, GlobalReference, offset_of_references, tree_of_for};
 ghost use Rattle.fl_array.specs.Kinds.{kind};
 ghost use Rattle.fl_array.specs.RLEArrays.{tree_of_rle};
-ghost use Rattle.fl_plugin.specs.RoundTrip.{ArePatchesOfTypes, HasFittingInteger, IsReadBack, has_varied_references, read_back};
+ghost use Rattle.fl_plugin.specs.RoundTrip.{ArePatchesOfTypes, HasFittingInteger, IsReadBack, read_back};
 ghost use Rattle.fl_plugin.specs.Writing.{patches_message};
 
 use crate::nodes::patches_message;
@@ -170,6 +170,7 @@ fn prove_for_chunked(array: &FoRArray, references: &ArrayRef)
 {
     written_is_read();
     array.prove_well_formed();
+    array.prove_no_constant();
 }
 
 /// A delta array is read as it was written, as its bases and its deltas are.
@@ -243,9 +244,9 @@ pub fn prove_read_back(array: &ArrayRef)
 /// # Errors
 /// None but `OutOfMemory`.
 pub fn round_trip(alloc: Global, array: &ArrayRef) -> Result<ArrayRef, FastLanesError>
-    ensures read { IsTrue (has_varied_references array.now) → Answers (λ a. a) result (Ok (read_back array.now)) }
-    ensures column { IsTrue (has_varied_references array.now) → Answers column result (Ok (column array.now)) }
-    ensures kind { IsTrue (has_varied_references array.now) → IfOk result (λ a. kind a ≡ kind array.now) }
+    ensures read { Answers (λ a. a) result (Ok (read_back array.now)) }
+    ensures column { Answers column result (Ok (column array.now)) }
+    ensures kind { IfOk result (λ a. kind a ≡ kind array.now) }
 {
     prove_read_back(array);
     same_column_and_kind();

@@ -3,6 +3,7 @@
 
 pub mod laws;
 mod nodes;
+mod patches;
 mod plain;
 pub mod plugins;
 pub mod reading;

@@ -1,6 +1,6 @@
 //! The array that a node is read as.
 
-ghost use Rattle.std.specs.Prelude.{◌≡◌, ◌-◌, ◌++◌, [], IfNone, IfSome, Ok, length, nat_lt, slice_get, if◌then◌else◌};
+ghost use Rattle.std.specs.Prelude.{◌≡◌, ◌-◌, ◌++◌, [], IfNone, IfOk, IfSome, Ok, length, nat_lt, slice_get, if◌then◌else◌};
 ghost use Rattle.std.specs.Option.{option_to_list};
 ghost use Rattle.fl_types.specs.Integers.{FitsIn};
 ghost use Rattle.fl_types.specs.Refusals.{Answers};
@@ -9,11 +9,12 @@ ghost use Rattle.fl_array.specs.BitPackedArrays.{BlockBoundaries, GlobalWidth};
 ghost use Rattle.fl_serialized.specs.Nodes.{head_of};
 ghost use Rattle.fl_nodes.specs.Leaves.{bits_size, slots_size};
 ghost use Rattle.fl_plugin.specs.Firsts.{IsFirstTwo};
+ghost use Rattle.fl_plugin.specs.ReadShapes.{IsOfShape};
 ghost use Rattle.fl_nodes.specs.Checks.{IsChecked, own_bytes};
-ghost use Rattle.fl_plugin.specs.Reading.{bitpacked_over, chunk_offsets_over, delta_over, for_chunked_over, for_over, made, patches_found, patches_over, reading, rle_over, scalar_over, validity_at, validity_of, validity_over};
+ghost use Rattle.fl_plugin.specs.Reading.{bitpacked_over, delta_over, for_chunked_over, for_over, made, reading, rle_over, scalar_over, validity_at, validity_of, validity_over};
 ghost use Rattle.fl_nodes.specs.declared.messages.Message.TheVariants as says;
 
-use crate::plain::decoded;
+use crate::patches::patches_found;
 use bytes::Bytes;
 use fl_array::bitpacking::BitPacked;
 use fl_array::delta::Delta;
@@ -21,10 +22,9 @@ use fl_array::for_::FoR;
 use fl_array::rle::RLE;
 use fl_array::{ArrayRef, IntoArray};
 use fl_column::{
-    BitList, BoolArray, ConstantArray, DType, FastLanesError, Nullability, PType, PrimitiveArray,
-    Scalar, Validity,
+    BitList, BoolArray, ConstantArray, DType, FastLanesError, Nullability, PType, Scalar, Validity,
 };
-use fl_metadata::{BitPackedBlockedMetadata, BitPackedMetadata, DeltaMetadata, PatchesMetadata};
+use fl_metadata::{BitPackedBlockedMetadata, BitPackedMetadata, DeltaMetadata};
 use fl_nodes::bit_bytes::bits_of_bytes;
 use fl_nodes::checks::own_bytes;
 use fl_nodes::scalars::value_of;
@@ -68,64 +68,6 @@ fn validity_over(
         validity_at(alloc, front_count(node, message), trees)
     } else {
         Ok(Validity::from(node.dtype().nullability()))
-    }
-}
-
-/// The chunk offsets that the array at place 2 is, where patches have them.
-fn chunk_offsets_over(
-    alloc: Global,
-    ptype: Option<PType>,
-    others: &[ArrayRef],
-) -> Result<Option<PrimitiveArray>, FastLanesError>
-    ensures { Answers (λ c. c) result (chunk_offsets_over ptype others.now) }
-{
-    if ptype.is_none() {
-        return Ok(None);
-    }
-    match others {
-        [] => Err(FastLanesError::ChildCount),
-        [offsets, ..] => {
-            let offsets = decoded(alloc, offsets)?;
-            Ok(Some(offsets))
-        }
-    }
-}
-
-/// The patches of a message over the arrays of its children, held plain.
-fn patches_over(
-    alloc: Global,
-    len: usize,
-    metadata: &PatchesMetadata,
-    trees: &[ArrayRef],
-) -> Result<Patches, FastLanesError>
-    ensures { Answers (λ p. p) result (patches_over len metadata.now trees.now) }
-{
-    match trees {
-        [indices, values, others @ ..] => {
-            let indices = decoded(alloc, indices)?;
-            let values = decoded(alloc, values)?;
-            let offsets = chunk_offsets_over(alloc, metadata.chunk_offsets, others)?;
-            Patches::new(len, metadata.offset as usize, indices, values, offsets)
-        }
-        _ => Err(FastLanesError::ChildCount),
-    }
-}
-
-/// The patches of a node over the arrays of its children, where its message names some.
-fn patches_found(
-    alloc: Global,
-    len: usize,
-    metadata: &Option<PatchesMetadata>,
-    trees: &[ArrayRef],
-) -> Result<Option<Patches>, FastLanesError>
-    ensures { Answers (λ p. p) result (patches_found len metadata.now trees.now) }
-{
-    match metadata {
-        None => Ok(None),
-        Some(metadata) => {
-            let patches = patches_over(alloc, len, metadata, trees)?;
-            Ok(Some(patches))
-        }
     }
 }
 
@@ -430,14 +372,8 @@ fn make(
     }
 }
 
-/// The array that a node is read as, with patches and validities held plain and packed bytes shared with the
-/// node. No memory is asked for by a length that the node's bytes don't bear out.
-///
-/// # Errors
-/// The first that holds: those of `check`; then for each child in order `ChildMismatch`, where its type or its
-/// length isn't the one that is asked of it, else its own; then `PatchType`, `PatchLength` and `PatchContent`;
-/// then those of the kind's constructor.
-pub fn deserialize(alloc: Global, node: &SerializedArray) -> Result<ArrayRef, FastLanesError>
+/// The array that a node is read as.
+fn read(alloc: Global, node: &SerializedArray) -> Result<ArrayRef, FastLanesError>
     ensures { Answers (λ a. a) result (reading node.now) }
 {
     let message = check(node)?;
@@ -452,7 +388,23 @@ pub fn deserialize(alloc: Global, node: &SerializedArray) -> Result<ArrayRef, Fa
         if !shapes[i].is_of(child) {
             return Err(FastLanesError::ChildMismatch);
         }
-        trees.push(deserialize(alloc, child)?)?;
+        trees.push(read(alloc, child)?)?;
     }
     make(alloc, node, &message, children.len(), trees)
+}
+
+/// The array that a node is read as, of the node's type and length, with patches and validities held plain and packed
+/// bytes shared with the node. No memory is asked for by a length that the node's bytes don't bear out, but for
+/// items that the array's own kind has to look at: patches, boundaries, run offsets and run indices.
+///
+/// # Errors
+/// The first that holds: those of `check`; then for each child in order `ChildMismatch`, where its type or its
+/// length isn't the one that is asked of it, else its own; then `PatchType`, `PatchLength` and `PatchContent`;
+/// then those of the kind's constructor.
+#[tactic(auto, using(crate::proofs::ShapesRead::answer_shape))]
+pub fn deserialize(alloc: Global, node: &SerializedArray) -> Result<ArrayRef, FastLanesError>
+    ensures array { Answers (λ a. a) result (reading node.now) }
+    ensures shape { IfOk result (λ a. IsOfShape a (head_of node.now).dtype (head_of node.now).len) }
+{
+    read(alloc, node)
 }

@@ -39,12 +39,12 @@ bit_kept word at j h e = ap (λ b. b == 1) (bit_at_set_other w64 word at h j e)
 pub ruleset set_bits = (bit_set, bit_kept)
 
 -- a bit that is taken out of a word
-bit_cleared : (word at : ℕ) → at < 64 → bit_of_word (bit_and word (bit_not w64 (1 * 2 ^ at % 18446744073709551616))) at ≡ false
+pub bit_cleared : (word at : ℕ) → at < 64 → bit_of_word (bit_and word (bit_not w64 (1 * 2 ^ at % 18446744073709551616))) at ≡ false
 unfolding bit_of_word
 bit_cleared word at h = ap (λ b. b == 1) (bit_at_clear_same w64 word at h)
 
 -- and the others
-bit_left : (word at j : ℕ) → at < 64 → j < 64 → j ≢ at → bit_of_word (bit_and word (bit_not w64 (1 * 2 ^ at % 18446744073709551616))) j ≡ bit_of_word word j
+pub bit_left : (word at j : ℕ) → at < 64 → j < 64 → j ≢ at → bit_of_word (bit_and word (bit_not w64 (1 * 2 ^ at % 18446744073709551616))) j ≡ bit_of_word word j
 unfolding bit_of_word
 bit_left word at j h k e = ap (λ b. b == 1) (bit_at_clear_other w64 word at h j k e)
 
@@ -113,15 +113,15 @@ bit_in_new_word words word n bit len zero_rest is =
     (let from : n - 64 * length words ≡ 0 = omega arith in
     is_set_last words word n (omega arith) (omega arith) ∙ (rw from is))
 
-is_set_in : (words : List ℕ) (word k i : ℕ) → k < length words → i / 64 ≡ k → is_set (set words k word) i ≡ bit_of_word word (i % 64)
+pub is_set_in : (words : List ℕ) (word k i : ℕ) → k < length words → i / 64 ≡ k → is_set (set words k word) i ≡ bit_of_word word (i % 64)
 unfolding is_set
 is_set_in words word k i h e = rw e (ap (λ w. bit_of_word w (i % 64)) (get_or-set_same words k word 0 h))
 
-is_set_out : (words : List ℕ) (word k i : ℕ) → i / 64 ≢ k → is_set (set words k word) i ≡ is_set words i
+pub is_set_out : (words : List ℕ) (word k i : ℕ) → i / 64 ≢ k → is_set (set words k word) i ≡ is_set words i
 unfolding is_set
 is_set_out words word k i e = ap (λ w. bit_of_word w (i % 64)) (get_or-set_other words k (i / 64) word 0 e)
 
-is_set_at : (words : List ℕ) (i k : ℕ) → i / 64 ≡ k → is_set words i ≡ bit_of_word (get_or words k 0) (i % 64)
+pub is_set_at : (words : List ℕ) (i k : ℕ) → i / 64 ≡ k → is_set words i ≡ bit_of_word (get_or words k 0) (i % 64)
 unfolding is_set
 is_set_at words i k e = rw e refl
 

@@ -1,5 +1,5 @@
 -- Lists of booleans, kept 64 to a word.
-use Rattle.std.specs.Prelude.{◌==◌, ◌-◌, ◌/◌, ◌%◌, ℕ, Bool, List, map, slice_index, take, drop, count_by}
+use Rattle.std.specs.Prelude.{◌==◌, ◌+◌, ◌-◌, ◌/◌, ◌%◌, ℕ, Bool, List, map, slice_index, take, drop, count_by}
 use Rattle.std.specs.Int.{bit_at}
 use Rattle.std.specs.List.{range_with_len}
 
@@ -22,6 +22,10 @@ is_set words i = bit_of_word (slice_index words (i / 64)) (i % 64)
 -- the first n bits of these words
 unfoldable pub first_bits : List ℕ → ℕ → List Bool
 first_bits words n = table (is_set words) n
+
+-- the n bits of these words from bit `start` on
+unfoldable pub bits_from : List ℕ → ℕ → ℕ → List Bool
+bits_from words start n = table (λ i. is_set words (start + i)) n
 
 -- how many are true
 abbrev pub true_count : List Bool → ℕ

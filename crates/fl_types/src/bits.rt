@@ -1,11 +1,11 @@
 //! Lists of booleans.
 
-ghost use Rattle.std.specs.Prelude.{◌≡◌, ◌≢◌, ◌<◌, ◌≤◌, ◌+◌, ◌^◌, ◌*◌, ◌/◌, ℕ, Bool, [], ◌∷◌, ◌++◌, length, slice_get, slice_index, slice_index_or, false, Some, IfOk, IfErr, OnOk, OnErr, Ok};
+ghost use Rattle.std.specs.Prelude.{◌≡◌, ◌≢◌, ◌<◌, ◌≤◌, ◌+◌, ◌^◌, ◌*◌, ◌/◌, ◌%◌, ℕ, Bool, [], ◌∷◌, ◌++◌, length, slice_get, slice_index, slice_index_or, slice_set, false, Some, IfOk, IfErr, OnOk, OnErr, Ok};
 ghost use Rattle.std.specs.Bool.{beq};
 ghost use Rattle.std.specs.Cmp.{bool_eq_equiv, partial_equiv_from_equiv};
 ghost use Rattle.std.specs.Cmp.Lexicographic.{lists_equiv, lists_per, pointwise};
 ghost use Rattle.std.specs.Int.{bit_at};
-ghost use Rattle.fl_types.specs.Bits.{between, bit_of_word, first_bits, is_set, table, true_count};
+ghost use Rattle.fl_types.specs.Bits.{between, bit_of_word, bits_from, first_bits, is_set, table, true_count};
 ghost use Rattle.fl_types.specs.Refusals.{Answers};
 ghost use Rattle.fl_types.specs.declared.error.FastLanesError.TheVariants.{OutOfMemory};
 
@@ -49,6 +49,17 @@ impl BitList {
         ensures { result ≡ length self.now }
     {
         self.len
+    }
+
+    /// The `len` bits of these words from bit `start` on, the lowest bit of each word first. It takes no memory.
+    pub fn from_words(mut words: Vec<u64>, start: usize, len: usize) -> BitList
+        requires room { start + len ≤ 64 * length words.items }
+        requires few { start + len < 2 ^ 64 }
+        ensures { result ≡ bits_from words.items start len }
+    {
+        shift_words(&mut words, start, len);
+        words.truncate(word_count(len));
+        BitList { words, len }
     }
 
     /// The boolean at an index.
@@ -96,6 +107,14 @@ impl BitList {
         push_bit(&mut self.words, self.len, bit)?;
         self.len += 1;
         Ok(())
+    }
+
+    /// Puts a boolean at an index.
+    pub fn set(&mut self, i: usize, bit: bool)
+        requires { i < length self.old }
+        ensures { self.new ≡ slice_set self.old i bit }
+    {
+        set_bit(&mut self.words, i, bit);
     }
 
     /// Those from `start` to below `end`.
@@ -205,5 +224,54 @@ fn push_bit(words: &mut Vec<u64>, len: usize, bit: bool) -> Result<(), AllocErro
             words[len / 64] = with_bit(word & !(1 << at), at, bit);
             Ok(())
         }
+    }
+}
+
+/// Puts a bit at an index of these words.
+fn set_bit(words: &mut Vec<u64>, i: usize, bit: bool)
+    requires { i < 64 * length words.old.items }
+    ensures whole { length words.new.items ≡ length words.old.items }
+    ensures here { is_set words.new.items i ≡ bit }
+    ensures others { (j : ℕ) → j ≢ i → is_set words.new.items j ≡ is_set words.old.items j }
+{
+    let (k, at) = (i / 64, i % 64);
+    let word = words[k];
+    words[k] = with_bit(word & !(1 << at), at, bit);
+}
+
+/// The 64 bits from bit `at` of these words on.
+fn word_from(words: &[u64], at: usize) -> u64
+    requires { at < 64 * length words.now }
+    ensures { (j : ℕ) → j < 64 → at + j < 64 * length words.now → bit_of_word result j ≡ is_set words.now (at + j) }
+{
+    let (k, shift) = (at / 64, at % 64);
+    let low = words[k] >> shift;
+    if shift == 0 || k + 1 == words.len() {
+        low
+    } else {
+        low | words[k + 1] << (64 - shift)
+    }
+}
+
+/// How many words hold this many bits.
+fn word_count(len: usize) -> usize
+    ensures { result ≡ (len + 63) / 64 }
+{
+    len / 64 + usize::from(len % 64 != 0)
+}
+
+/// Moves the `len` bits from bit `start` on to the front of these words.
+fn shift_words(words: &mut Vec<u64>, start: usize, len: usize)
+    requires room { start + len ≤ 64 * length words.old.items }
+    requires few { start + len < 2 ^ 64 }
+    ensures whole { length words.new.items ≡ length words.old.items }
+    ensures bits { (i : ℕ) → i < len → is_set words.new.items i ≡ is_set words.old.items (start + i) }
+{
+    if start == 0 {
+        return;
+    }
+    for k in 0..word_count(len) {
+        let word = word_from(words.as_slice(), start + 64 * k);
+        words[k] = word;
     }
 }

@@ -1,30 +1,120 @@
 //! Decoding of FoR arrays.
 
-ghost use Rattle.std.specs.Prelude.{Ok};
+ghost use Rattle.std.specs.Prelude.{◌≡◌, ◌≤◌, IfSome, Ok, length};
+ghost use Rattle.std.specs.Option.{option_copied};
 ghost use Rattle.fl_types.specs.Refusals.{Answers};
+ghost use Rattle.fl_types.specs.Values.{scalar_parts};
 ghost use Rattle.fl_column.specs.Columns.{column_of_primitive};
-ghost use Rattle.fl_array.specs.FoRArrays.{tree_of_for};
+ghost use Rattle.fl_bitpacking.specs.Columns.{block_count};
+ghost use Rattle.fl_codec.specs.FoRColumns.{chunked_for, global_for};
+ghost use Rattle.fl_types.specs.Values.{integer_of, ptype_of_value};
+ghost use Rattle.fl_array.specs.BitPackedArrays.{tree_of_bitpacked};
+ghost use Rattle.fl_array.specs.FoRArrays.{ChunkReferences, GlobalReference, offset_of_references, packed_in_chunks, tree_of_for};
+ghost use Rattle.fl_array.specs.Reads.{integer_column};
 ghost use Rattle.fl_array.specs.Trees.{column};
 
+use crate::array::ArrayRef;
+use crate::bitpacking::BitPackedArray;
 use crate::for_::{FoRArray, FoRReferences};
-use fl_column::{FastLanesError, PrimitiveArray};
+use fastlanes::Work;
+use fl_bitpacking::for_decoding::References;
+use fl_column::{FastLanesError, PValue, PrimitiveArray, Scalar};
 use std::alloc::Global;
 
 /// The column of a FoR array in a primitive array.
+///
+/// The blocks of a bit-packed child are unpacked with the reference added in the same pass, where there is one
+/// reference, or where the blocks of the child are the chunks of the references. Any other child is decoded, and
+/// the references are added to its items.
 ///
 /// # Errors
 /// None but `OutOfMemory`.
 pub fn decompress(alloc: Global, array: &FoRArray) -> Result<PrimitiveArray, FastLanesError>
     ensures { Answers column_of_primitive result (Ok (column (tree_of_for array.now))) }
 {
-    array.prove_integers();
-    let plain = array.encoded().to_primitive(alloc)?;
-    match array.references() {
-        FoRReferences::Global(reference) => array.decode_global(alloc, &plain, reference),
-        FoRReferences::Blocked(references) => {
-            array.prove_references_are_integers(references);
-            let references_plain = references.to_primitive(alloc)?;
-            array.decode_chunked(alloc, &plain, references, &references_plain)
+    array.to_primitive(alloc)
+}
+
+impl FoRArray {
+    /// The bit-packed child, if the blocks of one are the chunks of the references.
+    fn packed_in_chunks(&self) -> Option<&BitPackedArray>
+        ensures parts { option_copied result ≡ packed_in_chunks self.now }
+        ensures tree { IfSome result (λ p. tree_of_bitpacked p.now ≡ self.now.encoded) }
+        ensures offset { IfSome result (λ p. p.now.parts.offset ≡ offset_of_references self.now.references) }
+    {
+        match self.encoded().as_bitpacked() {
+            Some(packed) if packed.packed_data().offset() == self.offset() => Some(packed),
+            _ => None,
+        }
+    }
+
+    /// The one reference, which is an integer of a bit-packed child's type.
+    fn reference_of_packed(&self, packed: &BitPackedArray, reference: &Scalar) -> PValue
+        requires same { GlobalReference (scalar_parts reference.now) ≡ self.now.references }
+        requires packed { tree_of_bitpacked packed.now ≡ self.now.encoded }
+        ensures typed { ptype_of_value result ≡ packed.now.parts.ptype }
+        ensures sums { global_for (integer_of result) (column (tree_of_bitpacked packed.now)) ≡ column (tree_of_for self.now) }
+    {
+        self.prove_well_formed();
+        match reference.as_pvalue() {
+            Some(value) => value,
+            None => unreachable!(),
+        }
+    }
+
+    /// The decoded references, which are integers of a bit-packed child's type, are those of its blocks.
+    fn prove_references_of_blocks(
+        &self,
+        packed: &BitPackedArray,
+        references: &ArrayRef,
+        plain: &PrimitiveArray,
+    )
+        requires same { ChunkReferences references.now (offset_of_references self.now.references) ≡ self.now.references }
+        requires packed { tree_of_bitpacked packed.now ≡ self.now.encoded }
+        requires offset { packed.now.parts.offset ≡ offset_of_references self.now.references }
+        requires plain { Ok (column_of_primitive plain.now) ≡ integer_column (column references.now) }
+        ensures typed { plain.now.ptype ≡ packed.now.parts.ptype }
+        ensures enough { block_count packed.now.parts ≤ length plain.now.slots }
+        ensures sums { chunked_for plain.now.slots packed.now.parts.offset (column (tree_of_bitpacked packed.now)) ≡ column (tree_of_for self.now) }
+    {
+        self.prove_well_formed();
+        let _count = plain.len();
+    }
+
+    /// The column in a primitive array.
+    #[cycle(decoding)]
+    pub(crate) fn to_primitive(&self, alloc: Global) -> Result<PrimitiveArray, FastLanesError>
+        ensures { Answers column_of_primitive result (Ok (column (tree_of_for self.now))) }
+    {
+        self.prove_integers();
+        let mut work = Work::new();
+        match self.references() {
+            FoRReferences::Global(reference) => match self.encoded().as_bitpacked() {
+                Some(packed) => {
+                    packed.prove_smaller();
+                    let reference = self.reference_of_packed(packed, reference);
+                    packed.unfor(alloc, References::Global(reference), &mut work)
+                }
+                None => {
+                    let plain = self.encoded().to_primitive(alloc)?;
+                    self.decode_global(alloc, &plain, reference)
+                }
+            },
+            FoRReferences::Blocked(references) => {
+                self.prove_references_are_integers(references);
+                let plain_references = references.to_primitive(alloc)?;
+                match self.packed_in_chunks() {
+                    Some(packed) => {
+                        packed.prove_smaller();
+                        self.prove_references_of_blocks(packed, references, &plain_references);
+                        packed.unfor(alloc, References::PerBlock(&plain_references), &mut work)
+                    }
+                    None => {
+                        let plain = self.encoded().to_primitive(alloc)?;
+                        self.decode_chunked(alloc, &plain, references, &plain_references)
+                    }
+                }
+            }
         }
     }
 }

@@ -1,6 +1,5 @@
 use Rattle.std.proofs.Common.{ℕ, ◌≡◌, ◌+◌, ◌-◌, ◌*◌, ◌<◌, arith, ◌∙◌, ap, sym, inl, inr}
 use Rattle.std.proofs.lemmas.Bool.{cases_lt}
-use Rattle.fastlanes.specs.Layout.{pattern_at}
 use Rattle.fastlanes.specs.Rows.{item_of_row}
 use Rattle.fastlanes.specs.Compared.{IsAnswer}
 use Rattle.fastlanes.proofs.RowWrites.{whole_eights}
@@ -15,7 +14,7 @@ loop-g-preserved g c = record {
         let lane : 16 * c.loop-g.g + (m - 16 * c.loop-g.g) ≡ m = omega arith in
         let near : m - 16 * c.loop-g.g < 16 = omega arith in
         let here = rw lane at (c.write_group.ensures.put (m - 16 * c.loop-g.g) near) in
-        rw here (c.compare_group.ensures.answers.each r (m - 16 * c.loop-g.g) p near x (e ∙ ap (λ (n : ℕ). item_of_row g.W.FastLanes.T g.W.FastLanes.LANES c.args.width (pattern_at g.W.FastLanes.pattern c.args.words.now) r n) (sym lane)))
+        rw here (c.compare_group.ensures.answers.each r (m - 16 * c.loop-g.g) p near x (e ∙ ap (λ (n : ℕ). item_of_row g.W.FastLanes.T g.W.FastLanes.LANES c.args.width (g.S.Storage.word c.args.words.now) r n) (sym lane)))
   ];
 }
 

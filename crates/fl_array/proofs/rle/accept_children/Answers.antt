@@ -1,11 +1,20 @@
-use Rattle.std.proofs.Common.{◌≡◌, None, Some, refl, sym, ◌∙◌}
+use Rattle.std.proofs.Common.{◌≡◌, None, Some, length, refl, sym, ◌∙◌}
 use Rattle.fl_types.proofs.Refused.{no_memory_there, only_memory}
 use Rattle.fl_codec.specs.Parts.{RunParts}
 use Rattle.fl_codec.specs.RunRefusals.{rle_refusal}
 use Rattle.fl_array.specs.Trees.{column}
+use Rattle.fl_types.specs.declared.error.FastLanesError.TheVariants.{RunOffsets}
 use Rattle.fl_array.proofs.AcceptedRLE.{are_read, judged_read}
+use Rattle.fl_array.proofs.EmptyChunks.{refused_by_offsets}
 use Rattle.fl_array.proofs.Refused.{Refuses_same}
 use Rattle.fl_array.proofs.rle.accept_children.Goals as goal
+
+pub returns-then-has_empty_chunk : goal.returns-then-has_empty_chunk
+returns-then-has_empty_chunk c =
+    let types = sym c.refusal_by_types.ensures ∙ c.in_default.is in
+    let empty = c.has_empty_chunk.ensures c.if-has_empty_chunk.true (length (column c.args.values.now).items) in
+    let refused : rle_refusal (column c.args.values.now) (column c.args.indices.now) (column c.args.offsets.now) c.args.offset c.args.len ≡ Some RunOffsets = refused_by_offsets (column c.args.values.now) (column c.args.indices.now) (column c.args.offsets.now) c.args.offset c.args.len types empty in
+    rw refused (Refuses_same _ RunOffsets)
 
 pub returns-in_err-starts : goal.returns-in_err-starts
 returns-in_err-starts c =

@@ -1,4 +1,4 @@
-use Rattle.std.proofs.Common.{◌+◌, ◌*◌, ◌<◌, IsTrue, Some, None, map, pos, get_or, length, unsigned_abs, unwrap_or, arith, subst, ap, sym, ◌∙◌, length-set}
+use Rattle.std.proofs.Common.{◌+◌, ◌*◌, ◌<◌, IsTrue, None, map, pos, get_or, length, unsigned_abs, unwrap_or, arith, subst, ap, sym, ◌∙◌, length-set}
 use Rattle.fl_codec.specs.RunColumns.{is_run_index}
 use Rattle.fl_codec.proofs.RunChecks.{number_filled}
 use Rattle.fl_codec.proofs.WithoutNulls.{all_valid, item_read}

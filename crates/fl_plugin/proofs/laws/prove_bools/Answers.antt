@@ -2,4 +2,4 @@ use Rattle.fl_plugin.proofs.PlainAgain.{bool_back}
 use Rattle.fl_plugin.proofs.laws.prove_bools.Goals as goal
 
 pub returns : goal.returns
-returns c = record { reads = λ h. bool_back c.args.array.now c.validity-validity.ensures.covers }
+returns c = record { reads = bool_back c.args.array.now c.validity-validity.ensures.covers }

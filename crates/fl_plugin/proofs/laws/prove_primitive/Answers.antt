@@ -2,4 +2,4 @@ use Rattle.fl_plugin.proofs.PlainAgain.{primitive_back}
 use Rattle.fl_plugin.proofs.laws.prove_primitive.Goals as goal
 
 pub returns : goal.returns
-returns c = record { reads = λ h. primitive_back c.args.array.now c.validity-validity.ensures.covers c.prove_in_range.ensures.slots }
+returns c = record { reads = primitive_back c.args.array.now c.validity-validity.ensures.covers c.prove_in_range.ensures.slots }

@@ -1,0 +1,33 @@
+-- Comparisons of bit-packed arrays, by tests that answer alike.
+use Rattle.std.proofs.Common.{◌≡◌, ℕ, ℤ, ◌+◌, ◌≤◌, Bool, min, Result, Ok, refl, ap, sym, ◌∙◌, arith}
+use Rattle.fl_column.specs.Columns.{BoolParts, Column, column_of_bools, numbers_of}
+use Rattle.fl_column.specs.Questions.{tested}
+use Rattle.fl_types.specs.declared.error.FastLanesError.{FastLanesError}
+use Rattle.fl_types.specs.Refusals.{Answers}
+use Rattle.fl_bitpacking.specs.Blocks.{boundary_blocks}
+use Rattle.fl_bitpacking.specs.Columns.{BitPackedParts, block_count}
+use Rattle.fl_bitpacking.specs.Decided.{undecided_blocks}
+use Rattle.fl_bitpacking.specs.Refusals.{AreConsistent}
+use Rattle.fl_bitpacking.proofs.UndecidedLaws.{blocks_alike, blocks_most, one_width, tested_alike}
+use Rattle.fl_array.specs.BitPackedArrays.{BitPackedArrayParts, BitWidthsParts, BlockBoundaries, GlobalWidth, blocks_of_widths}
+use Rattle.fl_array.specs.Trees.{Tree, column}
+use Rattle.fl_array.specs.UnpackedBlocks.{blocks_to_unpack, unpacked_at}
+
+unpacked_is : (parts : BitPackedParts) (widths : BitWidthsParts) (f : ℤ → Bool) → undecided_blocks parts (blocks_of_widths widths) f ≡ unpacked_at parts widths f
+unpacked_is parts (GlobalWidth width) f = one_width parts width f
+unpacked_is parts (BlockBoundaries boundaries) f = refl
+
+-- the count from 0 on is that of the blocks
+pub counted_alike : (a : BitPackedArrayParts) (f g : ℤ → Bool) (n : ℕ) → AreConsistent a.parts → ((z : ℤ) → f z ≡ g z) → n ≡ min (0 + undecided_blocks a.parts (blocks_of_widths a.widths) f) 18446744073709551615 → n ≡ blocks_to_unpack a g
+counted_alike a f g n sound same is =
+    let most = blocks_most a.parts (blocks_of_widths a.widths) f in
+    let few = sound.few in
+    let whole : n ≡ undecided_blocks a.parts (blocks_of_widths a.widths) f = omega arith in
+    whole ∙ (blocks_alike a.parts (blocks_of_widths a.widths) f g same ∙ unpacked_is a.parts a.widths g)
+
+pub answers_alike : (f g : ℤ → Bool) (c d : Column) → ((z : ℤ) → f z ≡ g z) → ◌≡◌ {A = Result Column FastLanesError} (Ok (tested f c)) (Ok d) → ◌≡◌ {A = Result Column FastLanesError} (Ok (tested g c)) (Ok d)
+answers_alike f g c d same e = ap Ok (sym (tested_alike f g c same)) ∙ e
+
+-- where the blocks lie, by the boundaries
+pub blocked_blocks : (a : BitPackedArrayParts) (b : Tree) → BlockBoundaries b ≡ a.widths → blocks_of_widths a.widths ≡ boundary_blocks (numbers_of (column b))
+blocked_blocks a b same = ap blocks_of_widths (sym same)

@@ -1,0 +1,126 @@
+//! Comparisons of bit-packed arrays on their packed blocks, with a count of the blocks that they unpack.
+
+ghost use Rattle.std.specs.Prelude.{◌≡◌, ◌+◌, IfOk, Ok, OnOk, min};
+ghost use Rattle.fl_types.specs.Refusals.{Answers};
+ghost use Rattle.fl_types.specs.Values.{integer_of};
+ghost use Rattle.fl_column.specs.Columns.{column_of_bools, column_of_primitive};
+ghost use Rattle.fl_column.specs.Questions.{holds, is_between, tested};
+ghost use Rattle.fl_bitpacking.specs.Decided.{undecided_blocks};
+ghost use Rattle.fl_bitpacking.specs.RangeTests.{passes};
+ghost use Rattle.fl_array.specs.BitPackedArrays.{BlockBoundaries, GlobalWidth, blocks_of_widths, tree_of_bitpacked};
+ghost use Rattle.fl_array.specs.Trees.{column};
+ghost use Rattle.fl_array.specs.UnpackedBlocks.{IsComparisonOf};
+
+use crate::array::ArrayRef;
+use crate::bitpacking::{BitPackedArray, BitWidthsView};
+use fastlanes::Work;
+use fl_bitpacking::RangeTest;
+use fl_column::{
+    BetweenOptions, BoolArray, CompareOperator, FastLanesError, PValue, PrimitiveArray,
+};
+use std::alloc::Global;
+
+impl BitPackedArray {
+    /// The answers of a test, where all blocks have this width.
+    fn test_global(
+        &self,
+        alloc: Global,
+        width: u8,
+        range: RangeTest,
+        work: &mut Work,
+    ) -> Result<BoolArray, FastLanesError>
+        requires { GlobalWidth width ≡ self.now.widths }
+        ensures column { Answers column_of_bools result (Ok (tested (passes range) (column (tree_of_bitpacked self.now)))) }
+        ensures blocks { OnOk result (work.new.blocks ≡ min (work.old.blocks + undecided_blocks self.now.parts (blocks_of_widths self.now.widths) (passes range)) u64.MAX) }
+        ensures words { work.new.words ≡ work.old.words }
+    {
+        self.prove_well_formed();
+        self.packed_data()
+            .test_global(alloc, usize::from(width), range, work)
+    }
+
+    /// The answers of a test, where the blocks lie between these boundaries, which `plain` has decoded.
+    fn test_blocked(
+        &self,
+        alloc: Global,
+        boundaries: &ArrayRef,
+        plain: &PrimitiveArray,
+        range: RangeTest,
+        work: &mut Work,
+    ) -> Result<BoolArray, FastLanesError>
+        requires same { BlockBoundaries boundaries.now ≡ self.now.widths }
+        requires plain { column_of_primitive plain.now ≡ column boundaries.now }
+        ensures column { Answers column_of_bools result (Ok (tested (passes range) (column (tree_of_bitpacked self.now)))) }
+        ensures blocks { OnOk result (work.new.blocks ≡ min (work.old.blocks + undecided_blocks self.now.parts (blocks_of_widths self.now.widths) (passes range)) u64.MAX) }
+        ensures words { work.new.words ≡ work.old.words }
+    {
+        self.prove_well_formed();
+        let _len = plain.len();
+        self.packed_data().test_blocked(alloc, plain, range, work)
+    }
+
+    /// The answers of a test for the items; a null stays a null.
+    fn test(
+        &self,
+        alloc: Global,
+        range: RangeTest,
+        work: &mut Work,
+    ) -> Result<BoolArray, FastLanesError>
+        ensures column { Answers column_of_bools result (Ok (tested (passes range) (column (tree_of_bitpacked self.now)))) }
+        ensures blocks { OnOk result (work.new.blocks ≡ min (work.old.blocks + undecided_blocks self.now.parts (blocks_of_widths self.now.widths) (passes range)) u64.MAX) }
+        ensures words { work.new.words ≡ work.old.words }
+    {
+        match self.bit_widths() {
+            BitWidthsView::Global(width) => self.test_global(alloc, width, range, work),
+            BitWidthsView::Blocked(boundaries) => {
+                self.prove_boundaries_are_integers(boundaries);
+                let plain = boundaries.to_primitive(alloc)?;
+                self.test_blocked(alloc, boundaries, &plain, range, work)
+            }
+        }
+    }
+
+    /// How each item compares with a constant, and what was unpacked of the packed bytes for it; a null stays a null. An array of
+    /// one width unpacks each block once, or none where there is no item or the width decides the comparison. An array of a width
+    /// for each block unpacks those whose own width does not decide it.
+    ///
+    /// # Errors
+    /// None but `OutOfMemory`.
+    pub fn compare_counted(
+        &self,
+        alloc: Global,
+        operator: CompareOperator,
+        constant: PValue,
+    ) -> Result<(BoolArray, Work), FastLanesError>
+        ensures answer { Answers (λ r. column_of_bools r.0) result (Ok (tested (holds operator (integer_of constant)) (column (tree_of_bitpacked self.now)))) }
+        ensures work { IfOk result (λ r. IsComparisonOf self.now (holds operator (integer_of constant)) r.1) }
+    {
+        self.packed_data().prove_well_formed();
+        let mut work = Work::new();
+        let range = RangeTest::comparing(operator, constant);
+        let answers = self.test(alloc, range, &mut work)?;
+        Ok((answers, work))
+    }
+
+    /// Whether each item lies between two bounds, and what was unpacked of the packed bytes for it, as by `compare_counted`.
+    /// Nothing lies between bounds of which the lower is above the upper.
+    ///
+    /// # Errors
+    /// None but `OutOfMemory`.
+    pub fn between_counted(
+        &self,
+        alloc: Global,
+        lower: PValue,
+        upper: PValue,
+        options: BetweenOptions,
+    ) -> Result<(BoolArray, Work), FastLanesError>
+        ensures answer { Answers (λ r. column_of_bools r.0) result (Ok (tested (is_between options (integer_of lower) (integer_of upper)) (column (tree_of_bitpacked self.now)))) }
+        ensures work { IfOk result (λ r. IsComparisonOf self.now (is_between options (integer_of lower) (integer_of upper)) r.1) }
+    {
+        self.packed_data().prove_well_formed();
+        let mut work = Work::new();
+        let range = RangeTest::between(lower, upper, options);
+        let answers = self.test(alloc, range, &mut work)?;
+        Ok((answers, work))
+    }
+}

@@ -1,0 +1,29 @@
+//! Blocks between boundaries that are a constant array: all have width 0, and no boundary is written out.
+
+ghost use Rattle.std.specs.Prelude.{◌≡◌};
+ghost use Rattle.fl_types.specs.Refusals.{Answers};
+ghost use Rattle.fl_column.specs.Columns.{column_of_constant, column_of_primitive};
+ghost use Rattle.fl_array.specs.BitPackedArrays.{BlockBoundaries, tree_of_bitpacked};
+ghost use Rattle.fl_array.specs.Reads.{integer_column};
+ghost use Rattle.fl_array.specs.Trees.{column};
+
+use crate::array::ArrayRef;
+use crate::bitpacking::BitPackedArray;
+use fl_column::{ConstantArray, FastLanesError, PrimitiveArray};
+use std::alloc::Global;
+
+impl BitPackedArray {
+    /// The column in a primitive array, where the blocks lie between boundaries that are a constant array.
+    pub(crate) fn decode_without_bytes(
+        &self,
+        alloc: Global,
+        boundaries: &ArrayRef,
+        constant: &ConstantArray,
+    ) -> Result<PrimitiveArray, FastLanesError>
+        requires same { BlockBoundaries boundaries.now ≡ self.now.widths }
+        requires constant { column boundaries.now ≡ column_of_constant constant.now }
+        ensures { Answers column_of_primitive result (integer_column (column (tree_of_bitpacked self.now))) }
+    {
+        self.packed_data().decode_without_bytes(alloc, constant)
+    }
+}

@@ -1,0 +1,222 @@
+-- Answers of tests as bits, block by block, and the column that they make.
+use Rattle.std.proofs.Common.{◌≡◌, ◌≢◌, ℕ, ℤ, pos, zero, suc, ◌+◌, ◌-◌, ◌*◌, ◌/◌, ◌%◌, ◌^◌, ◌<◌, ◌≤◌, ◌++◌, List, [], ◌∷◌, Bool, true, false, cond, not, nat_eq, length, get_or, map, set, IsTrue, Option, Some, None, option_map, unwrap_or, Result, Ok, Err, refl, ap, sym, ◌∙◌, subst, inl, inr, arith, length-set}
+use Rattle.std.specs.Prelude.{◌⊎◌, ◌≤ℤ◌, ◌+ℤ◌}
+use Rattle.std.specs.Int.{bit_at, bit_not, w64}
+use Rattle.std.proofs.lemmas.Bool.{cases_lt, cases_eq, cases_Bool}
+use Rattle.std.proofs.lemmas.Int.{ints}
+use Rattle.std.proofs.Math.Pow.{pow_mono}
+use Rattle.std.proofs.lemmas.Nat.Bits.{bit_at-lt, bit_at-zero, bit_at_not, bit_at_ones}
+use Rattle.std.proofs.lemmas.List.{same_lists, length-map, get_or-map, get_or-set_same, get_or-set_other, get_or_append_left, get_or-append_right, get_or_default}
+use Rattle.std.proofs.lemmas.List.FromFn.{length-map-range_with_len, get_or-map-range_with_len, sum_by-map-range_with_len_more}
+use Rattle.fastlanes.specs.Layout.{IsWordWidth, place, row_of, lane_of, packed_bit, unpacked_bits, unpacked_item, word_at}
+use Rattle.fastlanes.specs.Rows.{item_of_row}
+use Rattle.fastlanes.specs.Compared.{has_bit, is_bit_set}
+use Rattle.fastlanes.proofs.Bijection.{position_placed}
+use Rattle.fastlanes.proofs.BitSums.{from_bits_below}
+use Rattle.fastlanes.proofs.Blocks.{packed_bit_small}
+use Rattle.fl_types.specs.declared.dtype.PType.{PType}
+use Rattle.fl_types.specs.declared.dtype.PType.TheVariants.{U8, U16, U32, U64, I8, I16, I32, I64}
+use Rattle.fl_types.specs.declared.error.FastLanesError.{FastLanesError}
+use Rattle.fl_types.specs.declared.validity.Validity.{Validity}
+use Rattle.fl_types.specs.Bits.{bit_of_word, bits_from, is_set, table, true_count}
+use Rattle.fl_types.specs.Integers.{bits_of_type, lanes_of_type, read_as}
+use Rattle.fl_types.specs.Refusals.{Answers}
+use Rattle.fl_types.specs.Validities.{covers, items_of, nullability_of}
+use Rattle.fl_types.specs.Values.{bool_number}
+use Rattle.fl_column.specs.Columns.{BoolParts, column_of_bools, new_bools}
+use Rattle.fl_column.specs.Questions.{tested}
+use Rattle.fl_column.proofs.QuestionLaws.{item_tests}
+use Rattle.fl_patches.specs.PatchMaps.{is_rising, patched_in, rank_of}
+use Rattle.fl_patches.proofs.Rising.{rank_at, rank_found}
+use Rattle.fl_bitpacking.specs.Blocks.{Blocks, block_item, value_at}
+use Rattle.fl_bitpacking.specs.Columns.{BitPackedParts, column_of_packed, packed_item, stored}
+use Rattle.fl_bitpacking.specs.Decided.{is_decided, undecided_below}
+use Rattle.fl_bitpacking.specs.LeastIntegers.{least_of}
+use Rattle.fl_bitpacking.specs.Parts.{Fit}
+use Rattle.fl_bitpacking.specs.RangeTests.{answer_of, in_range}
+use Rattle.fl_bitpacking.proofs.ColumnLaws.{items_made}
+use Rattle.fl_bitpacking.proofs.DecidedLaws.{decided_answer}
+use Rattle.fl_bitpacking.proofs.FoundBelow.{found_below, skipped}
+use Rattle.fl_bitpacking.proofs.Natives.{block_item_is, lanes_is}
+use Rattle.fl_bitpacking.proofs.RangeLaws.{reads}
+use Rattle.std.proofs.lemmas.Bool.{lt-ltb}
+
+-- ---- words of bits
+flipped : (b : ℕ) → b < 2 → nat_eq (1 - b) 1 ≡ not (nat_eq b 1)
+flipped zero h = refl
+flipped (suc zero) h = refl
+flipped (suc (suc b)) h = absurd (omega arith)
+
+pub turned_bit : (word j : ℕ) → word < 2 ^ 64 → j < 64 → is_bit_set (bit_not w64 word) j ≡ not (is_bit_set word j)
+unfolding is_bit_set
+turned_bit word j small h = ap (λ (n : ℕ). nat_eq n 1) (bit_at_not w64 word j small h) ∙ flipped (bit_at word j) (bit_at-lt word j)
+
+pub all_ones : (j : ℕ) → j < 64 → is_bit_set 18446744073709551615 j ≡ true
+unfolding is_bit_set
+all_ones j h = ap (λ (n : ℕ). nat_eq n 1) (bit_at_ones 64 j h)
+
+pub no_ones : (j : ℕ) → is_bit_set 0 j ≡ false
+unfolding is_bit_set
+no_ones j = ap (λ (n : ℕ). nat_eq n 1) (bit_at-zero j)
+
+pub bit_in_word : (words : List ℕ) (k word i : ℕ) → k < length words → i / 64 ≡ k → has_bit (set words k word) i ≡ is_bit_set word (i % 64)
+unfolding has_bit
+bit_in_word words k word i h e = rw e (ap (λ (w : ℕ). is_bit_set w (i % 64)) (get_or-set_same words k word 0 h))
+
+pub bit_out_of_word : (words : List ℕ) (k word i : ℕ) → i / 64 ≢ k → has_bit (set words k word) i ≡ has_bit words i
+unfolding has_bit
+bit_out_of_word words k word i e = ap (λ (w : ℕ). is_bit_set w (i % 64)) (get_or-set_other words k (i / 64) word 0 e)
+
+pub bit_of_its_word : (words : List ℕ) (k i : ℕ) → i / 64 ≡ k → has_bit words i ≡ is_bit_set (get_or words k 0) (i % 64)
+unfolding has_bit
+bit_of_its_word words k i e = rw e refl
+
+pub filled_bit : (words : List ℕ) (word i : ℕ) (on : Bool) → get_or words (i / 64) 0 ≡ word → is_bit_set word (i % 64) ≡ on → has_bit words i ≡ on
+unfolding has_bit
+filled_bit words word i on is e = rw is e
+
+pub bit_before : (words bits : List ℕ) (j p : ℕ) → length words ≡ 16 * j → p < 1024 * j → is_set (words ++ bits) p ≡ is_set words p
+unfolding is_set
+bit_before words bits j p long h = ap (λ (w : ℕ). bit_of_word w (p % 64)) (get_or_append_left words bits 0 (p / 64) (omega arith))
+
+pub bit_added : (words bits : List ℕ) (j p : ℕ) → length words ≡ 16 * j → 1024 * j ≤ p → is_set (words ++ bits) p ≡ has_bit bits (p - 1024 * j)
+unfolding is_set bit_of_word has_bit is_bit_set
+bit_added words bits j p long h =
+    let at : p / 64 - 16 * j ≡ (p - 1024 * j) / 64 = omega arith in
+    let rest : p % 64 ≡ (p - 1024 * j) % 64 = omega arith in
+    ap (λ (w : ℕ). nat_eq (bit_at w (p % 64)) 1) (get_or-append_right words bits (16 * j) (p / 64) 0 long (omega arith) ∙ ap (λ (n : ℕ). get_or bits n 0) at)
+    ∙ ap (λ (n : ℕ). nat_eq (bit_at (get_or bits ((p - 1024 * j) / 64) 0) n) 1) rest
+
+pub length-bits_from : (words : List ℕ) (start n : ℕ) → length (bits_from words start n) ≡ n
+unfolding bits_from
+length-bits_from words start n = length-map-range_with_len (λ (i : ℕ). is_set words (start + i)) 0 n
+
+pub bit_from : (words : List ℕ) (start n i : ℕ) → i < n → get_or (bits_from words start n) i false ≡ is_set words (start + i)
+unfolding bits_from
+bit_from words start n i h = get_or-map-range_with_len (λ (i : ℕ). is_set words (start + i)) 0 n i i false h (omega arith)
+
+-- ---- one block
+pub row_small : (T lanes width : ℕ) (word : ℕ → ℕ) (i : ℕ) → unpacked_item T lanes width word i < 2 ^ width
+unfolding unpacked_item unpacked_bits
+row_small T lanes width word i = from_bits_below (λ b. packed_bit T lanes word (lane_of lanes i) (row_of lanes i * width + b)) (λ b. packed_bit_small T lanes word (lane_of lanes i) (row_of lanes i * width + b)) width
+
+-- the bits in the order of the items
+pub answers_placed : (T lanes width low span : ℕ) (word : ℕ → ℕ) (rows bits : List ℕ) → IsWordWidth T lanes → ((r l : ℕ) → r < T → l < lanes → has_bit rows (l * T + r) ≡ in_range T low span (item_of_row T lanes width word r l))
+    → ((r l : ℕ) → r < T → l < lanes → has_bit bits (place r l) ≡ has_bit rows (l * T + r)) → (i : ℕ) → i < 1024 → has_bit bits i ≡ in_range T low span (unpacked_item T lanes width word i)
+unfolding unpacked_item item_of_row
+answers_placed T lanes width low span word rows bits shape each moved i h =
+    let placed = position_placed T lanes i shape h in
+    ap (has_bit bits) (sym placed.0) ∙ (moved (row_of lanes i) (lane_of lanes i) placed.1 placed.2 ∙ each (row_of lanes i) (lane_of lanes i) placed.1 placed.2)
+
+-- a test of patterns is the test of the items
+pub block_tested : (test : ℤ → Bool) (ptype : PType) (T lanes width low span : ℕ) (negated : Bool) (bytes : List ℕ) (i : ℕ) (bit : Bool) → IsWordWidth T lanes → T ≡ bits_of_type ptype → width ≤ T
+    → ((p : ℕ) → p < 2 ^ bits_of_type ptype → answer_of negated (in_range (bits_of_type ptype) low span p) ≡ test (read_as ptype p))
+    → bit ≡ answer_of negated (in_range T low span (unpacked_item T lanes width (word_at T bytes) i)) → bit ≡ test (block_item ptype width bytes i)
+block_tested test ptype T lanes width low span negated bytes i bit shape bits narrow same is =
+    let p = unpacked_item T lanes width (word_at T bytes) i in
+    let most : 2 ^ width ≤ 2 ^ bits_of_type ptype = pow_mono (omega arith) in
+    let small = row_small T lanes width (word_at T bytes) i in
+    let item = block_item_is ptype T lanes width bytes i p (read_as ptype p) shape bits refl refl in
+    is ∙ (ap (λ (t : ℕ). answer_of negated (in_range t low span p)) bits ∙ (same p (omega arith) ∙ ap test item))
+
+least_half : (t : PType) → (pos 0 ≤ℤ (least_of t +ℤ pos (2 ^ (bits_of_type t - 1)))) × (2 ^ bits_of_type t ≡ 2 ^ (bits_of_type t - 1) + 2 ^ (bits_of_type t - 1))
+least_half U8 = (omega (arith, ints), refl)
+least_half U16 = (omega (arith, ints), refl)
+least_half U32 = (omega (arith, ints), refl)
+least_half U64 = (omega (arith, ints), refl)
+least_half I8 = (omega (arith, ints), refl)
+least_half I16 = (omega (arith, ints), refl)
+least_half I32 = (omega (arith, ints), refl)
+least_half I64 = (omega (arith, ints), refl)
+
+-- a pattern of fewer bits than the type's is read as itself
+read_small : (t : PType) (width p : ℕ) → width < bits_of_type t → p < 2 ^ width → read_as t p ≡ pos p
+read_small t width p narrow small =
+    let half = least_half t in
+    let most : 2 ^ width ≤ 2 ^ (bits_of_type t - 1) = pow_mono (omega arith) in
+    let read = reads t p (let whole = half.1 in omega arith) in
+    elim read.same [
+      | inl e ↦ sym e
+      | inr e ↦ absurd (let low = read.low in let whole = half.1 in let first = half.0 in omega (arith, ints))
+    ]
+
+-- what a decided block's items answer
+pub block_decided : (test : ℤ → Bool) (ptype : PType) (width : ℕ) (bytes : List ℕ) (i : ℕ) (bit : Bool) → is_decided ptype width test ≡ true → bit ≡ test (pos 0) → bit ≡ test (block_item ptype width bytes i)
+unfolding block_item
+block_decided test ptype width bytes i bit decided is =
+    let p = unpacked_item (bits_of_type ptype) (lanes_of_type ptype) width (word_at (bits_of_type ptype) bytes) i in
+    let small = row_small (bits_of_type ptype) (lanes_of_type ptype) width (word_at (bits_of_type ptype) bytes) i in
+    let known = decided_answer ptype width test p decided small in
+    is ∙ (sym known.1 ∙ ap test (sym (read_small ptype width p known.0 small)))
+
+-- ---- counts
+count_one : (decided : Bool) → ◌≡◌ {A = ℕ} (cond (not decided) 1 0) (cond decided 0 1)
+count_one true = refl
+count_one false = refl
+
+pub undecided_more : (t : PType) (blocks : Blocks) (predicate : ℤ → Bool) (j : ℕ) → undecided_below t blocks predicate (j + 1) ≡ undecided_below t blocks predicate j + cond (is_decided t (blocks.width j) predicate) 0 1
+unfolding undecided_below
+undecided_more t blocks predicate j =
+    sum_by-map-range_with_len_more (λ b. cond b 1 0) (λ (k : ℕ). not (is_decided t (blocks.width k) predicate)) 0 j j (omega arith)
+    ∙ ap (λ (n : ℕ). undecided_below t blocks predicate j + n) (count_one (is_decided t (blocks.width j) predicate))
+
+pub undecided_none : (t : PType) (blocks : Blocks) (predicate : ℤ → Bool) → undecided_below t blocks predicate 0 ≡ 0
+unfolding undecided_below
+undecided_none t blocks predicate = refl
+
+-- ---- patches
+-- one more answer is put
+pub answer_more : (test : ℤ → Bool) (bits : List Bool) (was : ℕ → Bool) (slots : List ℤ) (xs : List ℕ) (offset k at : ℕ) (b : Bool) → is_rising xs ≡ true → k < length xs → get_or xs k 0 ≡ offset + at → at < length bits → b ≡ test (get_or slots k (pos 0))
+    → ((i : ℕ) → i < length bits → get_or bits i false ≡ unwrap_or (option_map test (found_below slots k (rank_of (offset + i) xs))) (was i))
+    → (i : ℕ) → i < length bits → get_or (set bits at b) i false ≡ unwrap_or (option_map test (found_below slots (k + 1) (rank_of (offset + i) xs))) (was i)
+answer_more test bits was slots xs offset k at b rise inside is room read done i h =
+    elim (cases_eq i at) [
+      | inl same ↦
+          let found = rank_found xs (offset + i) k rise inside (is ∙ ap (λ n. offset + n) (sym same)) in
+          rw same (get_or-set_same bits at b false room) ∙ (read ∙ sym (rw (found, lt-ltb k (k + 1) (omega arith)) refl))
+      | inr other ↦
+          let apart : rank_of (offset + i) xs ≢ Some k = λ e. other (let here = rank_at xs (offset + i) k e in omega (arith, here.1)) in
+          get_or-set_other bits at i b false other ∙ (done i h ∙ ap (λ o. unwrap_or (option_map test o) (was i)) (skipped slots k (rank_of (offset + i) xs) apart))
+    ]
+
+pub answer_or : (test : ℤ → Bool) (o : Option ℤ) (z : ℤ) → unwrap_or (option_map test o) (test z) ≡ test (unwrap_or o z)
+answer_or test None z = refl
+answer_or test (Some x) z = refl
+
+-- ---- the column
+slot : BitPackedParts → Blocks → ℕ → ℤ
+slot parts blocks i = unwrap_or (patched_in parts.patches i) (stored parts blocks i)
+
+bits_are : (test : ℤ → Bool) (parts : BitPackedParts) (blocks : Blocks) (bits : List Bool) → length bits ≡ parts.len
+    → ((i : ℕ) → i < parts.len → get_or bits i false ≡ test (unwrap_or (patched_in parts.patches i) (stored parts blocks i))) → bits ≡ map test (table (slot parts blocks) parts.len)
+unfolding slot
+bits_are test parts blocks bits long each =
+    let size : length (table (slot parts blocks) parts.len) ≡ parts.len = length-map-range_with_len (slot parts blocks) 0 parts.len in
+    let whole : length (map test (table (slot parts blocks) parts.len)) ≡ parts.len = length-map (table (slot parts blocks) parts.len) test ∙ size in
+    same_lists bits (map test (table (slot parts blocks) parts.len)) (long ∙ sym whole)
+    (λ k d h.
+    let inside : k < parts.len = omega arith in
+    get_or_default bits k d false h ∙ (each k inside ∙ (ap test (sym (get_or-map-range_with_len (slot parts blocks) 0 parts.len k k (pos 0) inside (omega arith)))
+    ∙ sym (get_or-map test (table (slot parts blocks) parts.len) k (pos 0) d (rw size inside)))))
+
+map_same : (xs : List ℤ) → map (λ z. z) xs ≡ xs
+map_same [] = refl
+map_same (x ∷ xs) = ap (λ ys. x ∷ ys) (map_same xs)
+
+slot_there : (parts : BitPackedParts) (blocks : Blocks) (i : ℕ) → i < parts.len → value_at (λ z. z) (table (slot parts blocks) parts.len) i ≡ unwrap_or (patched_in parts.patches i) (stored parts blocks i)
+unfolding value_at slot
+slot_there parts blocks i h = ap (λ xs. get_or xs i (pos 0)) (map_same (table (slot parts blocks) parts.len)) ∙ get_or-map-range_with_len (slot parts blocks) 0 parts.len i i (pos 0) h (omega arith)
+
+pub column_tested : (test : ℤ → Bool) (parts : BitPackedParts) (blocks : Blocks) (bits : List Bool) (r : Result BoolParts FastLanesError) → Fit parts → length bits ≡ parts.len
+    → ((i : ℕ) → i < parts.len → get_or bits i false ≡ test (unwrap_or (patched_in parts.patches i) (stored parts blocks i)))
+    → r ≡ new_bools bits parts.validity → Answers column_of_bools r (Ok (tested test (column_of_packed parts blocks)))
+column_tested test parts blocks bits r fit long each is =
+    let covered : covers parts.validity (length bits) ≡ true = rw long fit.covers in
+    let made : r ≡ Ok (record { bits = bits; validity = parts.validity }) = is ∙ (rw covered refl) in
+    let zs = table (slot parts blocks) parts.len in
+    let size : length zs ≡ parts.len = length-map-range_with_len (slot parts blocks) 0 parts.len in
+    let items : items_of parts.validity (map (λ z. z) zs) ≡ table (packed_item parts blocks) parts.len = items_made (λ z. z) parts blocks zs fit.covers size (slot_there parts blocks) in
+    let plain : items_of parts.validity zs ≡ table (packed_item parts blocks) parts.len = ap (items_of parts.validity) (sym (map_same zs)) ∙ items in
+    let answers : map (option_map bool_number) (items_of parts.validity bits) ≡ map (option_map (λ z. bool_number (test z))) (table (packed_item parts blocks) parts.len) =
+    ap (λ bs. map (option_map bool_number) (items_of parts.validity bs)) (bits_are test parts blocks bits long each) ∙ (item_tests test parts.validity zs ∙ ap (map (option_map (λ z. bool_number (test z)))) plain) in
+    rw (made, answers) refl

@@ -1,0 +1,13 @@
+use Rattle.std.proofs.Common.{subst}
+use Rattle.fl_types.specs.Refusals.{Answers}
+use Rattle.fl_column.specs.Columns.{column_of_primitive}
+use Rattle.fl_column.specs.Numbers.{numbers}
+use Rattle.fl_column.specs.Operations.{take_column}
+use Rattle.fl_bitpacking.specs.Blocks.{boundary_blocks}
+use Rattle.fl_bitpacking.specs.Columns.{BitPackedParts, column_of_packed}
+use Rattle.fl_bitpacking.proofs.packed_data.PackedData.take_blocked.Goals as goal
+
+pub returns-clause-column : goal.returns-clause-column
+returns-clause-column c =
+    let by : BitPackedParts → Type 0 = λ parts. Answers column_of_primitive c.take_blocked.result (take_column (column_of_primitive c.args.indices.now) (column_of_packed parts (boundary_blocks (numbers c.args.boundaries.now)))) in
+    subst by c.column.ensures c.take_blocked.ensures.column

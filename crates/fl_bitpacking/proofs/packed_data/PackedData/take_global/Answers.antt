@@ -1,0 +1,12 @@
+use Rattle.std.proofs.Common.{subst}
+use Rattle.fl_types.specs.Refusals.{Answers}
+use Rattle.fl_column.specs.Columns.{column_of_primitive}
+use Rattle.fl_column.specs.Operations.{take_column}
+use Rattle.fl_bitpacking.specs.Blocks.{global_blocks}
+use Rattle.fl_bitpacking.specs.Columns.{BitPackedParts, column_of_packed}
+use Rattle.fl_bitpacking.proofs.packed_data.PackedData.take_global.Goals as goal
+
+pub returns : goal.returns
+returns c =
+    let by : BitPackedParts → Type 0 = λ parts. Answers column_of_primitive c.take_global.result (take_column (column_of_primitive c.args.indices.now) (column_of_packed parts (global_blocks c.args.width))) in
+    subst by c.column.ensures c.take_global.ensures

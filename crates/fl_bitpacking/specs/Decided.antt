@@ -1,0 +1,25 @@
+-- Predicates that a width decides, and how many blocks a test unpacks.
+use Rattle.std.specs.Prelude.{◌==◌, ◌&&◌, ◌||◌, ◌^◌, ℕ, ℤ, pos, Bool, not, nat_lt, if◌then◌else◌}
+use Rattle.std.specs.Bool.{beq}
+use Rattle.std.specs.List.{list_all, range_with_len}
+use Rattle.fl_types.specs.declared.dtype.PType.{PType}
+use Rattle.fl_types.specs.Bits.{table, true_count}
+use Rattle.fl_types.specs.Integers.{bits_of_type}
+use Rattle.fl_bitpacking.specs.Blocks.{Blocks}
+use Rattle.fl_bitpacking.specs.Columns.{BitPackedParts, block_count}
+
+-- a width below the type's bits decides a predicate that has one answer on all of 0 to 2 ^ width - 1
+unfoldable pub is_decided : PType → ℕ → (ℤ → Bool) → Bool
+is_decided ptype width predicate = nat_lt width (bits_of_type ptype) && list_all (λ x. beq (predicate (pos x)) (predicate (pos 0))) (range_with_len 0 (2 ^ width))
+
+-- how many of the first n blocks have a width that does not decide the predicate
+unfoldable pub undecided_below : PType → Blocks → (ℤ → Bool) → ℕ → ℕ
+undecided_below ptype blocks predicate n = true_count (table (λ j. not (is_decided ptype (blocks.width j) predicate)) n)
+
+-- how many blocks are unpacked to test the items: those whose own width does not decide the predicate, and none where there is no item
+abbrev pub undecided_blocks : BitPackedParts → Blocks → (ℤ → Bool) → ℕ
+undecided_blocks parts blocks predicate = if parts.len == 0 then 0 else undecided_below parts.ptype blocks predicate (block_count parts)
+
+-- the same where all blocks have one width: each block, or none where there is no item or the width decides
+abbrev pub undecided_of_one_width : BitPackedParts → ℕ → (ℤ → Bool) → ℕ
+undecided_of_one_width parts width predicate = if (parts.len == 0) || is_decided parts.ptype width predicate then 0 else block_count parts

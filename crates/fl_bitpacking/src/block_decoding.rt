@@ -1,0 +1,116 @@
+//! How the items of a block are made of the integers that are stored in it: they are the items, or a reference
+//! is added to each.
+
+ghost use Rattle.std.specs.Prelude.{◌≡◌, ◌+◌, ◌*◌, ◌<◌, ◌≤◌, ◌+ℤ◌, ℕ, ℤ, length, map, min, option_map};
+ghost use Rattle.fl_types.specs.Integers.{bits_of_type, wrap};
+ghost use Rattle.fl_bitpacking.specs.Blocks.{block_item, value_at};
+ghost use Rattle.fl_bitpacking.specs.BlockSums.{block_reference, plus_block_reference};
+
+use crate::bit_packed::BitPacked;
+use crate::unpack_iter::UnpackStrategy;
+use fastlanes::{FL_CHUNK_SIZE, Work};
+use fl_types::NativePType;
+use num_traits::WrappingAdd;
+
+/// A way to make the items of a block of the integers that are stored in it.
+pub(crate) trait BlockDecoder<T: NativePType> {
+    /// The item that an integer of block `j` stands for.
+    ghost item: { Self → ℕ → ℤ → ℤ };
+
+    /// Writes the items of block `j`, whose `128 * width` bytes these are.
+    fn decode_block(
+        &self,
+        j: usize,
+        width: usize,
+        block: &[u8],
+        items: &mut [T; FL_CHUNK_SIZE],
+        work: &mut Work,
+    )
+        requires width { width ≤ bits_of_type T.PTYPE }
+        requires block { length block.now ≡ 128 * width }
+        ensures items { (i : ℕ) → i < 1024 → value_at T.value items.new i ≡ item self.now j (block_item T.PTYPE width block.now i) }
+        ensures whole { length items.new ≡ 1024 }
+        ensures blocks { work.new.blocks ≡ min (work.old.blocks + 1) u64.MAX }
+        ensures words { work.new.words ≡ work.old.words };
+}
+
+/// The integers are the items.
+#[derive(Drop)]
+pub(crate) struct AsStored<'a, S> {
+    /// How they are unpacked.
+    pub(crate) strategy: &'a S,
+}
+
+impl<'a, T: NativePType, S: UnpackStrategy<T>> BlockDecoder<T> for AsStored<'a, S> {
+    ghost item = { λ decoder j z. z };
+
+    fn decode_block(
+        &self,
+        _j: usize,
+        width: usize,
+        block: &[u8],
+        items: &mut [T; FL_CHUNK_SIZE],
+        work: &mut Work,
+    ) {
+        self.strategy.unpack_chunk(width, block, items, work);
+    }
+}
+
+/// The reference of block `j`: the last one where there are fewer, so that one alone is that of all blocks;
+/// none where there are none.
+fn reference_of<T: NativePType>(references: &[T], j: usize) -> Option<T>
+    ensures { option_map T.value result ≡ block_reference (map T.value references.now) j }
+{
+    if references.len() == 0 {
+        return None;
+    }
+    Some(references[j.min(references.len() - 1)])
+}
+
+/// The sum of two integers, modulo 2 to the type's bits.
+fn plus<T: NativePType + WrappingAdd>(value: T, reference: T) -> T
+    ensures { T.value result ≡ wrap T.PTYPE (T.value value +ℤ T.value reference) }
+{
+    value.wrapping_add(&reference)
+}
+
+/// An integer of block `j` plus its reference, modulo 2 to the type's bits; the integer where it has none.
+#[tactic(auto, using(crate::proofs::BlockSums::sums))]
+pub(crate) fn plus_reference<T: NativePType + WrappingAdd>(
+    references: &[T],
+    j: usize,
+    value: T,
+) -> T
+    ensures { T.value result ≡ plus_block_reference T.PTYPE (map T.value references.now) j (T.value value) }
+{
+    match reference_of(references, j) {
+        Some(reference) => plus(value, reference),
+        None => value,
+    }
+}
+
+/// To each integer the reference of its block is added, modulo 2 to the type's bits, if it has one.
+#[derive(Clone, Copy)]
+pub(crate) struct PlusReferences<'a, T> {
+    /// The references of the blocks: one for each, or one for all, or none.
+    pub(crate) references: &'a [T],
+}
+
+impl<'a, T: BitPacked> BlockDecoder<T> for PlusReferences<'a, T> {
+    ghost item = { λ decoder j z. plus_block_reference T.PTYPE (map T.value decoder.references.now) j z };
+
+    #[tactic(auto, using(crate::proofs::BlockSums::sums))]
+    fn decode_block(
+        &self,
+        j: usize,
+        width: usize,
+        block: &[u8],
+        items: &mut [T; FL_CHUNK_SIZE],
+        work: &mut Work,
+    ) {
+        match reference_of(self.references, j) {
+            Some(reference) => T::unfor_block(width, block, reference, items, work),
+            None => T::unpack_block(width, block, items, work),
+        }
+    }
+}
