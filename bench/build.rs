@@ -6,7 +6,7 @@ use std::{env, fs, process::Command};
 
 const TYPES: [&str; 4] = ["u8", "u16", "u32", "u64"];
 // kernel, the arguments (T is the word type), the result
-const KERNELS: [(&str, &str, &str); 16] = [
+const KERNELS: [(&str, &str, &str); 18] = [
     ("pack", "usize, *const T, usize, *mut T, usize", ""),
     ("unpack", "usize, *const T, usize, *mut T, usize", ""),
     ("unfor_pack", "usize, *const T, usize, T, *mut T, usize", ""),
@@ -23,6 +23,8 @@ const KERNELS: [(&str, &str, &str); 16] = [
     ("pack_into", "usize, u8, *const T, usize, *mut u8, usize", "usize"),
     ("unpack_column", "usize, u8, usize, *const u8, usize, *mut T, usize", "usize"),
     ("decode_column", "u8, *const u8, usize, *mut T, usize", "usize"),
+    ("encode_array", "usize, usize, u8, usize, *const T, usize", "usize"),
+    ("ask_array", "usize, usize, u8, usize, *const T, usize, usize, *const u64, usize, *mut u64, usize", "usize"),
 ];
 
 fn main() {

@@ -7,7 +7,11 @@ use std::cell::RefCell;
 use std::hint::black_box;
 use std::time::Instant;
 
+mod arrays;
+mod codecs;
 mod columns;
+mod loops;
+mod operations;
 
 mod port {
     #![allow(unused, clippy::all)]
@@ -315,7 +319,7 @@ fn bench_u64(o: &Options) { bench_type!(b, k64, u64, o) }
 
 fn main() {
     let mut o = Options { rounds: 15, only: String::new(), types: "u8,u16,u32,u64".into(), stream_mb: 0, all_widths: false, csv: false, widths: String::new(), tables: false, sums: RefCell::new(Vec::new()) };
-    let mut columns = false;
+    let (mut arrays, mut columns) = (false, false);
     let mut words = std::env::args().skip(1);
     while let Some(it) = words.next() {
         let mut value = || words.next().expect("a value");
@@ -327,16 +331,22 @@ fn main() {
             "--widths" => o.widths = value(),
             "--all-widths" => o.all_widths = true,
             "--csv" => o.csv = true,
+            "--arrays" => arrays = true,
             "--columns" => columns = true,
             "--tables" => o.tables = true,
-            _ => { eprintln!("bench [--rounds N] [--only unpack,pack,..] [--types u8,..] [--stream MB (0: none)] [--widths 1,3,..] [--all-widths] [--tables] [--csv]"); std::process::exit(2) }
+            _ => { eprintln!("bench [--rounds N] [--only unpack,pack,..] [--types u8,..] [--stream MB (0: none)] [--widths 1,3,..] [--all-widths] [--tables] [--csv] [--columns] [--arrays]"); std::process::exit(2) }
         }
     }
-    for t in o.types.split(',').filter(|_| !columns) {
+    for t in o.types.split(',').filter(|_| !columns && !arrays) {
         match t { "u8" => bench_u8(&o), "u16" => bench_u16(&o), "u32" => bench_u32(&o), "u64" => bench_u64(&o), _ => panic!("no type {t}") }
     }
     if !o.csv && !o.sums.borrow().is_empty() { summary(&o.sums.borrow()); }
     if columns { columns::run(&o.types, o.stream_mb, o.all_widths); }
+    if arrays {
+        let megabytes = if o.stream_mb == 0 { 64 } else { o.stream_mb };
+        codecs::run(&o.types, megabytes);
+        operations::run(megabytes);
+    }
 }
 
 /// The ratios of each kernel and type, as a table.

@@ -1,9 +1,12 @@
-//! Exports for comparisons of speed: each kernel over any number of whole blocks, and whole packed columns. What is too short is left undone.
+//! Exports for comparisons of speed: each kernel over any number of whole blocks, whole packed columns, and arrays in each encoding. What is too short is left undone.
 #![tactic(auto)]
 
+mod arrays;
 mod blocks;
 mod columns;
+mod questions;
 
+use arrays::{ask_again, encode_again};
 use blocks::{
     compare_lt_all, delta_all, pack_all, rle_decode_all, single, transpose_all, undelta_all,
     unfor_pack_all, unpack_all, untranspose_all,
@@ -461,4 +464,124 @@ pub extern "C" fn fl_unpack_column_u64(
 #[unsafe(no_mangle)]
 pub extern "C" fn fl_decode_column_u64(width: u8, packed: &[u8], items: &mut [u64]) -> usize {
     decode_column(width, packed, items)
+}
+
+#[unsafe(no_mangle)]
+pub extern "C" fn fl_encode_array_u8(
+    alloc: Global,
+    rounds: usize,
+    encoding: usize,
+    width: u8,
+    null_every: usize,
+    items: &[u8],
+) -> usize {
+    encode_again(alloc, rounds, encoding, width, null_every, items).unwrap_or(0)
+}
+
+#[unsafe(no_mangle)]
+pub extern "C" fn fl_ask_array_u8(
+    alloc: Global,
+    rounds: usize,
+    encoding: usize,
+    width: u8,
+    null_every: usize,
+    items: &[u8],
+    question: usize,
+    numbers: &[u64],
+    answers: &mut [u64],
+) -> usize {
+    ask_again(
+        alloc, rounds, encoding, width, null_every, items, question, numbers, answers,
+    )
+    .unwrap_or(0)
+}
+
+#[unsafe(no_mangle)]
+pub extern "C" fn fl_encode_array_u16(
+    alloc: Global,
+    rounds: usize,
+    encoding: usize,
+    width: u8,
+    null_every: usize,
+    items: &[u16],
+) -> usize {
+    encode_again(alloc, rounds, encoding, width, null_every, items).unwrap_or(0)
+}
+
+#[unsafe(no_mangle)]
+pub extern "C" fn fl_ask_array_u16(
+    alloc: Global,
+    rounds: usize,
+    encoding: usize,
+    width: u8,
+    null_every: usize,
+    items: &[u16],
+    question: usize,
+    numbers: &[u64],
+    answers: &mut [u64],
+) -> usize {
+    ask_again(
+        alloc, rounds, encoding, width, null_every, items, question, numbers, answers,
+    )
+    .unwrap_or(0)
+}
+
+#[unsafe(no_mangle)]
+pub extern "C" fn fl_encode_array_u32(
+    alloc: Global,
+    rounds: usize,
+    encoding: usize,
+    width: u8,
+    null_every: usize,
+    items: &[u32],
+) -> usize {
+    encode_again(alloc, rounds, encoding, width, null_every, items).unwrap_or(0)
+}
+
+#[unsafe(no_mangle)]
+pub extern "C" fn fl_ask_array_u32(
+    alloc: Global,
+    rounds: usize,
+    encoding: usize,
+    width: u8,
+    null_every: usize,
+    items: &[u32],
+    question: usize,
+    numbers: &[u64],
+    answers: &mut [u64],
+) -> usize {
+    ask_again(
+        alloc, rounds, encoding, width, null_every, items, question, numbers, answers,
+    )
+    .unwrap_or(0)
+}
+
+#[unsafe(no_mangle)]
+pub extern "C" fn fl_encode_array_u64(
+    alloc: Global,
+    rounds: usize,
+    encoding: usize,
+    width: u8,
+    null_every: usize,
+    items: &[u64],
+) -> usize {
+    encode_again(alloc, rounds, encoding, width, null_every, items).unwrap_or(0)
+}
+
+#[unsafe(no_mangle)]
+pub extern "C" fn fl_ask_array_u64(
+    alloc: Global,
+    rounds: usize,
+    encoding: usize,
+    width: u8,
+    null_every: usize,
+    items: &[u64],
+    question: usize,
+    numbers: &[u64],
+    answers: &mut [u64],
+) -> usize {
+    ask_again(
+        alloc, rounds, encoding, width, null_every, items, question, numbers, answers,
+    )
+    .unwrap_or(0)
 }

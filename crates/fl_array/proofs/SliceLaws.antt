@@ -5,7 +5,7 @@ use Rattle.fl_column.specs.Columns.{numbers_of}
 use Rattle.fl_bitpacking.specs.Columns.{BitPackedParts}
 use Rattle.fl_bitpacking.specs.SlicedParts.{HasEnds, end_block, first_block, sliced_parts}
 use Rattle.fl_array.specs.BitPackedArrays.{BitPackedArrayParts, BitWidthsParts, BlockBoundaries, bitpacked_tree, tree_of_bitpacked}
-use Rattle.fl_array.specs.Kinds.{IsBitPackedBlocked, IsDelta, IsFoR, IsFoRChunked, IsRLE, kind, slice_kind}
+use Rattle.fl_array.specs.Kinds.{IsBitPackedBlocked, IsDelta, IsFoR, IsFoRChunked, IsRLE, kind}
 use Rattle.fl_array.specs.Reads.{constant_in}
 use Rattle.fl_array.specs.Slices.{slice_tree}
 use Rattle.fl_array.specs.Trees.{Tree, BitPackedBlocked, BitPackedGlobal, Constant, Delta, FoRChunked, FoRGlobal, Primitive, RLE, column}
@@ -19,7 +19,8 @@ pub three_parts : {A B : Type 0} (whole : A → A → A → B) {a b c d x y : A}
 three_parts whole {a} {b} {c} {d} {x} {y} e f g = ap (λ z. whole z c x) e ∙ ap (λ z. whole b z x) f ∙ ap (whole b d) g
 
 -- ---- kinds
-pub kind_of_slice : (t : Tree) (start end : ℕ) → kind (slice_tree start end t) ≡ slice_kind (kind t)
+-- a slice has the kind of its array
+pub kind_of_slice : (t : Tree) (start end : ℕ) → kind (slice_tree start end t) ≡ kind t
 kind_of_slice (Primitive p) start end = refl
 kind_of_slice (Constant c) start end = refl
 kind_of_slice (tree.Bool b) start end = refl

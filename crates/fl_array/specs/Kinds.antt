@@ -32,18 +32,6 @@ abbrev pub plain_kind : Kind → Kind
 plain_kind IsBool = IsBool
 plain_kind other = IsPrimitive
 
--- the kind of a slice: the same, with slices of what stands in it
-abbrev pub slice_kind : Kind → Kind
-slice_kind IsPrimitive = IsPrimitive
-slice_kind IsConstant = IsConstant
-slice_kind IsBool = IsBool
-slice_kind IsBitPacked = IsBitPacked
-slice_kind (IsBitPackedBlocked boundaries) = IsBitPackedBlocked (slice_kind boundaries)
-slice_kind (IsFoR encoded) = IsFoR (slice_kind encoded)
-slice_kind (IsFoRChunked encoded references) = IsFoRChunked (slice_kind encoded) (slice_kind references)
-slice_kind (IsDelta bases deltas) = IsDelta (slice_kind bases) (slice_kind deltas)
-slice_kind (IsRLE values indices offsets) = IsRLE (slice_kind values) (slice_kind indices) (slice_kind offsets)
-
 -- an array of the kind is a delta array, or holds one
 abbrev pub has_delta : Kind → Bool
 has_delta IsPrimitive = false

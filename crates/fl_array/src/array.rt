@@ -17,7 +17,7 @@ ghost use Rattle.fl_array.specs.BitPackedArrays.{bitpacked_in, tree_of_bitpacked
 ghost use Rattle.fl_array.specs.DeltaArrays.{delta_in, tree_of_delta};
 ghost use Rattle.fl_array.specs.FoRArrays.{for_in, tree_of_for};
 ghost use Rattle.fl_array.specs.RLEArrays.{rle_in, tree_of_rle};
-ghost use Rattle.fl_array.specs.Kinds.{has_delta, kind, plain_kind, slice_kind};
+ghost use Rattle.fl_array.specs.Kinds.{has_delta, kind, plain_kind};
 ghost use Rattle.fl_array.specs.Reads.{IsValidityOf, bools_in, constant_in, integer_column, primitive_in};
 ghost use Rattle.fl_array.specs.Slices.{slice_tree};
 ghost use Rattle.fl_array.specs.ToBlocked.{has_global_bitpacked, to_blocked_tree};
@@ -544,7 +544,7 @@ impl ArrayRef {
         requires range { range.end ≤ length (column self.now).items }
         ensures tree { Answers (λ a. a) result (Ok (slice_tree range.start range.end self.now)) }
         ensures column { Answers column result (Ok (slice_of range.start range.end (column self.now))) }
-        ensures kind { IfOk result (λ a. kind a ≡ slice_kind (kind self.now)) }
+        ensures kind { IfOk result (λ a. kind a ≡ kind self.now) }
     {
         match &self.node {
             Node::Primitive(array) => Ok(array.slice(alloc, range.start, range.end)?.into_array()),

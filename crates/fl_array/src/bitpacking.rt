@@ -1,6 +1,6 @@
 //! Bit-packed arrays, at one width or at a width for each block.
 
-mod bit_packed_array_ext;
+pub(crate) mod bit_packed_array_ext;
 pub mod bitpack_compress;
 pub mod bitpack_decompress;
 mod comparing;
@@ -124,7 +124,7 @@ impl BitWidths {
     ///
     /// # Errors
     /// None but `OutOfMemory`.
-    pub fn try_from_view(view: BitWidthsView, alloc: Global) -> Result<BitWidths, FastLanesError>
+    pub fn try_from_view(alloc: Global, view: BitWidthsView) -> Result<BitWidths, FastLanesError>
         ensures { Answers widths_of_owned result (Ok (widths_of_view view.entry)) }
     {
         match view {

@@ -24,8 +24,8 @@ impl BitPacked {
     /// # Errors
     /// None but `OutOfMemory`.
     pub fn to_blocked(
-        array: &BitPackedArray,
         alloc: Global,
+        array: &BitPackedArray,
     ) -> Result<BitPackedArray, FastLanesError>
         ensures { Answers (λ a. a) result (Ok (to_blocked_shallow array.now)) }
     {

@@ -148,6 +148,7 @@ pub(crate) fn unpack_values<T: BitPacked>(
     requires { AreReadable (bits_of_type T.PTYPE) blocks }
     ensures long { IfOk result (λ v. length v.items ≡ blocks.entry.len) }
     ensures items { IfOk result (λ v. (i : ℕ) → i < blocks.entry.len → value_at T.value v.items i ≡ item_of_blocks T.PTYPE (blocks_of blocks.entry.widths) blocks.entry.packed.now (blocks.entry.offset + i)) }
+    ensures blocks { OnOk result (work.new.blocks ≤ work.old.blocks + blocks_in blocks.entry) }
     ensures words { work.new.words ≡ work.old.words }
 {
     match blocks.widths {
@@ -200,7 +201,8 @@ fn unpack_typed<T: BitPacked + WrappingAdd>(
     requires typed { column.now.ptype ≡ T.PTYPE }
     requires fit { Fit (parts_of column.now) }
     requires readable { AreReadable (bits_of_type column.now.ptype) (blocks_to_read column.now widths) }
-    ensures { Answers column_of_primitive result (Ok (column_of_packed (parts_of column.now) (blocks_of widths.entry))) }
+    ensures column { Answers column_of_primitive result (Ok (column_of_packed (parts_of column.now) (blocks_of widths.entry))) }
+    ensures blocks { OnOk result (work.new.blocks ≤ work.old.blocks + blocks_in (blocks_to_read column.now widths.entry)) }
 {
     let blocks = PackedBlocks {
         widths,
@@ -223,7 +225,8 @@ fn unpack_column(
 ) -> Result<PrimitiveArray, FastLanesError>
     requires fit { Fit (parts_of column.now) }
     requires readable { AreReadable (bits_of_type column.now.ptype) (blocks_to_read column.now widths) }
-    ensures { Answers column_of_primitive result (Ok (column_of_packed (parts_of column.now) (blocks_of widths.entry))) }
+    ensures column { Answers column_of_primitive result (Ok (column_of_packed (parts_of column.now) (blocks_of widths.entry))) }
+    ensures blocks { OnOk result (work.new.blocks ≤ work.old.blocks + blocks_in (blocks_to_read column.now widths.entry)) }
 {
     match_each_integer_ptype!(column.ptype, unpack_typed(alloc, column, widths, work))
 }

@@ -11,7 +11,7 @@ ghost use Rattle.fl_types.specs.Integers.{bits_of_type};
 ghost use Rattle.fl_types.specs.Refusals.{Answers};
 ghost use Rattle.fl_types.specs.Types.{can_be_null, either_nullable};
 ghost use Rattle.fl_types.specs.Validities.{nullability_of};
-ghost use Rattle.fl_column.specs.Columns.{column_of_primitive};
+ghost use Rattle.fl_column.specs.Columns.{column_of_constant, column_of_primitive, numbers_of};
 ghost use Rattle.fl_column.specs.Numbers.{numbers};
 ghost use Rattle.fl_column.specs.Operations.{item_named, take_column};
 ghost use Rattle.fl_bitpacking.specs.Blocks.{are_blocks, blocks_of, boundary_blocks, global_blocks, value_at};
@@ -28,7 +28,7 @@ use crate::taking::positions::named_positions;
 use crate::taking::runs::take_stored;
 use fastlanes::Work;
 use fl_bit_widths::Widths;
-use fl_column::{PhysicalPType, PrimitiveArray, PrimitiveBuilder};
+use fl_column::{ConstantArray, PhysicalPType, PrimitiveArray, PrimitiveBuilder};
 use fl_types::{FastLanesError, NativePType, Nullability, Validity, match_each_integer_ptype};
 use num_traits::WrappingAdd;
 use std::alloc::{AllocError, Global};
@@ -452,5 +452,26 @@ impl PackedData {
     {
         self.prove_well_formed();
         take_blocked(alloc, &self.column(), boundaries, indices, work)
+    }
+
+    /// The items that indices name, null where an index is null, where the blocks lie between boundaries that are all
+    /// equal: no block has a byte. The integer under a null index is never looked at.
+    ///
+    /// # Errors
+    /// `IndexOutOfBounds` where an index is negative or not below the length.
+    pub fn take_without_bytes(
+        &self,
+        alloc: Global,
+        boundaries: &ConstantArray,
+        indices: &PrimitiveArray,
+        work: &mut Work,
+    ) -> Result<PrimitiveArray, FastLanesError>
+        ensures column { Answers column_of_primitive result (take_column (column_of_primitive indices.now) (column_of_packed self.now (boundary_blocks (numbers_of (column_of_constant boundaries.now))))) }
+        ensures blocks { OnOk result (17 * work.new.blocks ≤ 17 * work.old.blocks + length (column_of_primitive indices.now).items) }
+        ensures words { OnOk result (work.new.words ≤ work.old.words + 2 * length (column_of_primitive indices.now).items) }
+    {
+        self.prove_well_formed();
+        let widths = Widths::Global(0);
+        take_named(alloc, &self.column(), widths, indices, false, work)
     }
 }

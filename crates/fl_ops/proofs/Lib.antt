@@ -10,3 +10,5 @@ mod NormalizedLaws
 mod ComparedLaws
 mod NegatedLaws
 mod TakenShown
+mod PositionLaws
+mod SortedLaws

@@ -5,3 +5,4 @@ pub mod Results
 pub mod Selections
 pub mod CastForms
 pub mod Takes
+pub mod Sums

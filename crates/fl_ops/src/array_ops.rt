@@ -19,7 +19,7 @@ ghost use Rattle.fl_ops.specs.Questions.{integer_in, is_comparable};
 
 use crate::selection::{Selection, select};
 use crate::takes::take_packed_counted;
-use crate::{casting, equality, plain_ops};
+use crate::{casting, equality, plain_ops, sorting};
 use fastlanes::Work;
 use fl_array::ArrayRef;
 use fl_column::{
@@ -301,6 +301,6 @@ impl ArrayOps for ArrayRef {
     }
 
     fn is_sorted(&self, alloc: Global, strict: bool) -> Result<bool, FastLanesError> {
-        plain_ops::is_sorted(alloc, self, strict)
+        sorting::is_sorted(alloc, self, strict)
     }
 }

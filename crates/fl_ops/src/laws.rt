@@ -1,16 +1,19 @@
 //! What holds of the arrays that operations make, and of answers.
 
-ghost use Rattle.std.specs.Prelude.{◌≡◌, ◌-◌, ◌<◌, ◌≤◌, IfOk, IsTrue, Ok, length, map};
+ghost use Rattle.std.specs.Prelude.{◌≡◌, ◌-◌, ◌<◌, ◌≤◌, ℤ, Bool, IfOk, IsTrue, Ok, length, map};
 ghost use Rattle.fl_types.specs.Refusals.{Answers};
 ghost use Rattle.fl_types.specs.Values.{scalar_parts};
-ghost use Rattle.fl_column.specs.Columns.{column_of_bools};
+ghost use Rattle.fl_column.specs.Columns.{Column, column_of_bools, ptype_of_column};
 ghost use Rattle.fl_column.specs.Operations.{cast_column, item_named, moved};
+ghost use Rattle.fl_column.specs.Questions.{is_sorted_column};
+ghost use Rattle.fl_codec.specs.FoRColumns.{global_for};
 ghost use Rattle.fl_array.specs.Kinds.{kind};
 ghost use Rattle.fl_array.specs.Trees.{Tree, column};
 ghost use Rattle.fl_ops.specs.Normalized.{SameShown};
 ghost use Rattle.fl_ops.specs.Operations.{step_column, step_of};
 ghost use Rattle.fl_ops.specs.Questions.{is_comparable, negated};
 ghost use Rattle.fl_ops.specs.Results.{result_of};
+ghost use Rattle.fl_ops.specs.Sums.{sums_fit};
 
 use crate::array_ops::ArrayOps;
 use crate::operations::{Op, apply};
@@ -78,6 +81,12 @@ pub fn differing_is_not_equal(
     let differing = array.compare(alloc, CompareOperator::NotEq, constant)?;
     Ok((equal, differing))
 }
+
+/// The items of a column plus a reference rise as the items do, where no sum passes the type's end.
+#[tactic(auto, using(crate::proofs::SortedLaws::sums_rise))]
+pub fn sums_rise()
+    ensures { (strict : Bool) (reference : ℤ) (c : Column) → IsTrue (sums_fit (ptype_of_column c) reference c.items) → is_sorted_column strict (global_for reference c) ≡ is_sorted_column strict c }
+{}
 
 /// A slice of an array, and a take from it, which has the items of the array that the indices, moved on to the
 /// slice's start, name.

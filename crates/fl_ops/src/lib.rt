@@ -9,6 +9,7 @@ pub mod operations;
 mod plain_ops;
 pub mod questions;
 mod selection;
+mod sorting;
 mod takes;
 
 pub use crate::array_ops::ArrayOps;

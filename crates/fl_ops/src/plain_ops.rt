@@ -11,6 +11,7 @@ ghost use Rattle.fl_column.specs.Questions.{between_column, compare_column, hold
 ghost use Rattle.fl_array.specs.BitPackedArrays.{tree_of_bitpacked};
 ghost use Rattle.fl_array.specs.Trees.{column};
 
+use crate::takes::{filter_by_runs, filter_packed, ranges_by_runs, take_ranges_packed};
 use fl_array::ArrayRef;
 use fl_array::bitpacking::BitPackedArray;
 use fl_column::{
@@ -74,6 +75,9 @@ pub(crate) fn take_ranges(
     let DType::Primitive(_, _) = array.dtype() else {
         return Err(FastLanesError::NotInteger);
     };
+    if let Some((packed, total)) = ranges_by_runs(array, ranges) {
+        return take_ranges_packed(alloc, packed, ranges, total);
+    }
     array.to_primitive(alloc)?.take_ranges(alloc, ranges)
 }
 
@@ -91,6 +95,9 @@ pub(crate) fn filter(
     }
     if let Some(constant_array) = array.as_constant() {
         return constant_array.filter(alloc, mask);
+    }
+    if let Some((packed, count)) = filter_by_runs(array, mask) {
+        return filter_packed(alloc, packed, mask, count);
     }
     array.to_primitive(alloc)?.filter(alloc, mask)
 }

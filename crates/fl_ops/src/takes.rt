@@ -1,20 +1,22 @@
-//! Takes of bit-packed arrays.
+//! Takes, takes of ranges and filters of bit-packed arrays, where the packed items are read run by run.
 
-ghost use Rattle.std.specs.Prelude.{◌≡◌, ◌*◌, ◌≤◌, IfOk, IsTrue, length};
+ghost use Rattle.std.specs.Prelude.{◌≡◌, ◌*◌, ◌+◌, ◌-◌, ◌^◌, ◌++◌, ◌<◌, ◌≤◌, IfOk, IfSome, IsTrue, Ok, OnOk, Some, length, nat_lt};
+ghost use Rattle.std.specs.List.{list_all, range_with_len};
+ghost use Rattle.fl_types.specs.Masks.{mask_bits, mask_len};
 ghost use Rattle.fl_types.specs.Refusals.{Answers};
 ghost use Rattle.fl_column.specs.Columns.{column_of_primitive};
-ghost use Rattle.fl_column.specs.Operations.{take_column, take_of};
+ghost use Rattle.fl_column.specs.Operations.{filter_of, range_fits, ranges_of, take_column, take_of, total_of};
 ghost use Rattle.fl_array.specs.BitPackedArrays.{tree_of_bitpacked};
 ghost use Rattle.fl_array.specs.Trees.{column};
 ghost use Rattle.fl_ops.specs.Normalized.{SameShown};
 ghost use Rattle.fl_ops.specs.Results.{picked};
-ghost use Rattle.fl_ops.specs.Takes.{has_block_widths};
+ghost use Rattle.fl_ops.specs.Takes.{at_positions, has_block_widths, range_positions, true_positions};
 
 use fastlanes::Work;
-use fl_array::bitpacking::BitPackedArray;
+use fl_array::bitpacking::{BitPackedArray, BitWidthsView};
 use fl_array::{ArrayRef, IntoArray};
-use fl_column::{DType, FastLanesError, PrimitiveArray};
-use std::alloc::Global;
+use fl_column::{DType, FastLanesError, Mask, PrimitiveArray};
+use std::alloc::{AllocError, Global};
 
 /// The items that indices name, and what was read for them.
 fn take_counted(
@@ -50,4 +52,147 @@ pub(crate) fn take_packed_counted(
 {
     let (taken, work) = take_counted(alloc, array, indices)?;
     Ok((taken.into_array(), work))
+}
+
+/// The items at these positions.
+fn take_positions(
+    alloc: Global,
+    array: &BitPackedArray,
+    positions: Vec<u64>,
+) -> Result<PrimitiveArray, FastLanesError>
+    requires { IsTrue (list_all (λ i. nat_lt i (length (column (tree_of_bitpacked array.now)).items)) positions.items) }
+    ensures { Answers column_of_primitive result (Ok (at_positions positions.items (column (tree_of_bitpacked array.now)))) }
+{
+    array.take(alloc, &PrimitiveArray::non_nullable(positions))
+}
+
+/// Whether a range lies among this many items. A range without items does wherever it starts.
+fn range_fits(range: (usize, usize), len: usize) -> bool
+    ensures { result ≡ range_fits len range }
+{
+    let (start, count) = range;
+    count == 0 || (start <= len && count <= len - start)
+}
+
+/// How many items the ranges have, where all lie among this many items and a `usize` holds the sum.
+fn total_within(ranges: &[(usize, usize)], len: usize) -> Option<usize>
+    ensures fit { IfSome result (λ total. IsTrue (list_all (range_fits len) ranges.now)) }
+    ensures total { IfSome result (λ total. total_of ranges.now ≡ Some total) }
+{
+    let mut total = 0usize;
+    for range in ranges {
+        if !range_fits(*range, len) {
+            return None;
+        }
+        total = total.checked_add(range.1)?;
+    }
+    Some(total)
+}
+
+/// Adds the positions from `start` to below `start + count`.
+fn push_positions(positions: &mut Vec<u64>, start: usize, count: usize) -> Result<(), AllocError>
+    requires { start + count < 2 ^ 64 }
+    ensures { OnOk result (positions.new.items ≡ positions.old.items ++ range_with_len start count) }
+{
+    positions.reserve(count)?;
+    for k in 0..count {
+        positions.push_reserved((start + k) as u64);
+    }
+    Ok(())
+}
+
+/// The positions in the ranges, one range after another.
+fn range_positions(
+    alloc: Global,
+    ranges: &[(usize, usize)],
+    total: usize,
+) -> Result<Vec<u64>, AllocError>
+    requires { IsTrue (list_all (range_fits (2 ^ 64 - 1)) ranges.now) }
+    ensures { IfOk result (λ v. v.items ≡ range_positions ranges.now) }
+{
+    let mut positions = Vec::with_capacity(alloc, total)?;
+    for range in ranges {
+        push_positions(&mut positions, range.0, range.1)?;
+    }
+    Ok(positions)
+}
+
+/// The positions that a mask keeps, of which there are `count`.
+fn true_positions(alloc: Global, mask: &Mask, count: usize) -> Result<Vec<u64>, AllocError>
+    ensures { IfOk result (λ v. v.items ≡ true_positions 0 (mask_bits mask.now)) }
+{
+    let mut positions = Vec::with_capacity(alloc, count)?;
+    for i in 0..mask.len() {
+        if mask.get(i) {
+            positions.push(i as u64)?;
+        }
+    }
+    Ok(positions)
+}
+
+/// The array and how many items the ranges have, where it is bit-packed and they are read run by run: where they
+/// are an eighth of its items at most, or each block has a width of its own. Ranges that are refused are not.
+pub(crate) fn ranges_by_runs<'a>(
+    array: &'a ArrayRef,
+    ranges: &[(usize, usize)],
+) -> Option<(&'a BitPackedArray, usize)>
+    ensures same { IfSome result (λ f. tree_of_bitpacked f.0.now ≡ array.now) }
+    ensures fit { IfSome result (λ f. IsTrue (list_all (range_fits (length (column (tree_of_bitpacked f.0.now)).items)) ranges.now)) }
+    ensures total { IfSome result (λ f. total_of ranges.now ≡ Some f.1) }
+{
+    let packed = array.as_bitpacked()?;
+    let total = total_within(ranges, packed.len())?;
+    match packed.bit_widths() {
+        BitWidthsView::Global(_) if total > packed.len() / 8 => None,
+        _ => Some((packed, total)),
+    }
+}
+
+/// The array and how many items the mask keeps, where it is bit-packed, the mask has a bit for each item, and these are
+/// an eighth of the items at most.
+pub(crate) fn filter_by_runs<'a>(
+    array: &'a ArrayRef,
+    mask: &Mask,
+) -> Option<(&'a BitPackedArray, usize)>
+    ensures { IfSome result (λ f. tree_of_bitpacked f.0.now ≡ array.now) }
+{
+    let packed = array.as_bitpacked()?;
+    let Mask::Values(_) = mask else {
+        return None;
+    };
+    let count = mask.count_true();
+    if count > packed.len() / 8 {
+        return None;
+    }
+    Some((packed, count))
+}
+
+/// The items of ranges of a bit-packed array, which lie in it.
+pub(crate) fn take_ranges_packed(
+    alloc: Global,
+    array: &BitPackedArray,
+    ranges: &[(usize, usize)],
+    total: usize,
+) -> Result<PrimitiveArray, FastLanesError>
+    requires { IsTrue (list_all (range_fits (length (column (tree_of_bitpacked array.now)).items)) ranges.now) }
+    ensures { Answers column_of_primitive result (Ok (ranges_of ranges.now (column (tree_of_bitpacked array.now)))) }
+{
+    // For the proof: a `usize` holds the length.
+    let _len = array.len();
+    let positions = range_positions(alloc, ranges, total)?;
+    take_positions(alloc, array, positions)
+}
+
+/// The items of a bit-packed array that a mask keeps, of which there are `count`.
+pub(crate) fn filter_packed(
+    alloc: Global,
+    array: &BitPackedArray,
+    mask: &Mask,
+    count: usize,
+) -> Result<PrimitiveArray, FastLanesError>
+    requires { mask_len mask.now ≡ length (column (tree_of_bitpacked array.now)).items }
+    ensures { Answers column_of_primitive result (Ok (filter_of mask.now (column (tree_of_bitpacked array.now)))) }
+{
+    let positions = true_positions(alloc, mask, count)?;
+    take_positions(alloc, array, positions)
 }

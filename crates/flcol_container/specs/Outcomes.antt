@@ -1,9 +1,10 @@
 -- What calls that read and write containers answer.
-use Rattle.std.specs.Prelude.{◌≡◌, ℕ, List, Option, Some, None, Result, Ok, Err, ⊤}
+use Rattle.std.specs.Prelude.{◌≡◌, ℕ, false, List, Option, Some, None, Result, Ok, Err, ⊤}
 use Rattle.fl_serialized.specs.Nodes.{Node}
 use Rattle.flcol_container.specs.declared.error.ContainerError.{ContainerError}
 use Rattle.flcol_container.specs.declared.error.ContainerError.TheVariants.{BadContainer, OutOfMemory}
-use Rattle.flcol_container.specs.Container.{HasNoContainer, IsContainer, IsNoContainer}
+use Rattle.flcol_container.specs.Container.{HasNoContainer, IsContainer, IsNoContainer, max_depth}
+use Rattle.flcol_container.specs.Room.{has_room}
 
 -- a container's bytes were read as the node that has them, or no node has them, unless memory ran out
 abbrev pub IsReading : List ℕ → Result Node ContainerError → Type 0
@@ -11,10 +12,14 @@ IsReading bytes (Ok node) = IsContainer bytes node
 IsReading bytes (Err BadContainer) = IsNoContainer bytes
 IsReading bytes (Err OutOfMemory) = ⊤
 
--- a node was written as the bytes of its container, seen by view, or has none, unless memory ran out
+-- a node has no room in a container, and so none: more than sixteen nodes stand in one another, or a part of one doesn't fit its field
+abbrev pub LacksRoom : Node → Type 0
+LacksRoom node = (has_room max_depth node ≡ false) × HasNoContainer node
+
+-- a node was written as the bytes of its container, seen by view, or has no room in one, unless memory ran out
 abbrev pub IsWriting : {X : Type 0} → (X → List ℕ) → Node → Result X ContainerError → Type 0
 IsWriting view node (Ok x) = IsContainer (view x) node
-IsWriting view node (Err BadContainer) = HasNoContainer node
+IsWriting view node (Err BadContainer) = LacksRoom node
 IsWriting view node (Err OutOfMemory) = ⊤
 
 -- nothing is found where a call answered that these are no container's bytes

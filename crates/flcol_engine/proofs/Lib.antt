@@ -11,4 +11,5 @@ pub mod OperationLemmas
 pub mod ConstantLemmas
 pub mod EncodingLemmas
 mod EncodingExamples
+pub mod RoomLemmas
 pub mod RunLemmas

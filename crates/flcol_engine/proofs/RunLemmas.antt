@@ -1,5 +1,5 @@
 -- How runs end.
-use Rattle.std.proofs.Common.{◌≡◌, ◌≢◌, ℕ, List, Bool, true, false, Option, None, Some, Ok, Err, IsTrue, refl, subst, sym, ap, ◌∙◌}
+use Rattle.std.proofs.Common.{◌≡◌, ◌≢◌, ℕ, List, Bool, true, false, Option, None, Some, Ok, Err, IsTrue, refl, subst, sym, ap, arith, ◌∙◌}
 use Rattle.std.specs.Prelude.{IfSome, IsErrAnd, IsOkAnd, MatchResult, Result, ok_or}
 use Rattle.std.specs.Io.KnownBytes.{Keeps}
 use Rattle.fl_types.specs.declared.error.FastLanesError.{FastLanesError}
@@ -22,6 +22,7 @@ use Rattle.flcol_engine.specs.Outputs.{GoesWith, IsAnswer, IsEncodeOutput, IsEnc
 use Rattle.flcol_engine.specs.Printing.{line}
 use Rattle.flcol_engine.specs.Text.{column_in_text, primitive_of_column}
 use Rattle.flcol_engine.specs.Words.{RunParts}
+use Rattle.flcol_engine.proofs.RoomLemmas.{encoded_shallow}
 
 -- ---- what is computed never blames the sink
 library_fault : {X : Type 0} (r : Result X FastLanesError) → Err faults.WriteFault ≡ of_library r → ⊥
@@ -68,9 +69,17 @@ with_column view Is (Some c) p (Ok x) said is = subst (λ q. Is q (Ok (view x)))
 with_column view Is (Some c) p (Err f) said is = λ ne. subst (λ q. Is q (Err f)) said (is ne)
 with_column view Is None p r said is = absurd said
 
+-- an encoded column is never too deep, so memory alone keeps it from being stored
+never_deep : (encoding : Encoding) (p : PrimitiveParts) (t : Tree) (f : Fault) → EncodesAs encoding p (Ok t) → IsStored t (Err f) → ⊥
+never_deep encoding p t faults.BadContainer made deep = omega (arith, deep, encoded_shallow encoding p t made.form)
+never_deep encoding p t faults.BadColumn made is = is
+never_deep encoding p t faults.ReadFault made is = is
+never_deep encoding p t faults.WriteFault made is = is
+never_deep encoding p t (faults.Refused error) made is = is
+
 stored : {X : Type 0} (view : X → List ℕ) (encoding : Encoding) (p : PrimitiveParts) (t : Tree) (r : Result X Fault) → EncodesAs encoding p (Ok t) → Meets view (IsStored t) r → Meets view (IsEncodedOutput encoding p) r
 stored view encoding p t (Ok x) made is = (Ok t, made, is)
-stored view encoding p t (Err f) made is = λ ne. (Ok t, made, is ne)
+stored view encoding p t (Err f) made is = λ ne. absurd (never_deep encoding p t f made (is ne))
 
 pub stored_column : {X : Type 0} (view : X → List ℕ) (command : Encode) (text : List ℕ) (p : PrimitiveParts) (t : Tree) (r : Result X Fault) → IsOkAnd (ok_or (column_in_text command.ptype command.nullability text) faults.BadColumn) (λ c. p ≡ primitive_of_column c)
     → EncodesAs command.encoding p (Ok t) → Meets view (IsStored t) r → Meets view (IsEncodeOutput command text) r

@@ -1,5 +1,5 @@
 -- The command that words give, and how its run ends.
-use Rattle.std.specs.Prelude.{◌≡◌, ◌↔◌, ℕ, List, [], ◌∷◌, ◌++◌, map, Bool, Option, Some, None, if◌then◌else◌, bytes_eq, codes, option_map, Result, Ok, Err, IfSome, IsErrOf, OnOk, IsTrue, true, ◌⊎◌}
+use Rattle.std.specs.Prelude.{◌≡◌, ◌↔◌, ℕ, List, [], ◌∷◌, ◌++◌, map, Bool, false, Option, Some, None, if◌then◌else◌, bytes_eq, codes, option_map, Result, Ok, Err, IfSome, IsErrOf, OnOk, IsTrue, true, ◌⊎◌}
 use Rattle.fl_ops.specs.Operations.{step_of}
 use Rattle.flcol_engine.specs.declared.commands.Command.{Command}
 use Rattle.flcol_engine.specs.declared.commands.Command.TheVariants as commands
@@ -50,6 +50,11 @@ abbrev pub column_command_of : List (List ℕ) → Option CommandParts
 column_command_of (name ∷ column_type ∷ last ∷ []) = column_command name column_type last
 column_command_of other = None
 
+-- the words begin with `run`
+abbrev pub is_run_line : List (List ℕ) → Bool
+is_run_line [] = false
+is_run_line (name ∷ words) = bytes_eq name (codes "run")
+
 -- the command that words give
 abbrev pub command_of : List (List ℕ) → Option CommandParts
 command_of [] = None
@@ -69,9 +74,13 @@ abbrev pub report_of : Result (Unit {0}) Fault → List ℕ
 report_of (Ok _) = []
 report_of (Err e) = fault_line e
 
--- words that give no command are answered by the usage line and status 2, unless memory ran out
-abbrev pub IsUsage : ℕ → Bool → Option (List ℕ) → Option (List ℕ) → Type 0
-IsUsage status failed old new = ((status ≡ 2) × AppendsUnless failed old new usage_line) ⊎ ((status ≡ 1) × AppendsUnless failed old new (fault_line out_of_memory))
+-- a call of which nothing is left to do has said this line and answers this status
+abbrev pub HasSaid : ℕ → List ℕ → ℕ → Bool → Option (List ℕ) → Option (List ℕ) → Type 0
+HasSaid wanted line status failed old new = (status ≡ wanted) × AppendsUnless failed old new line
+
+-- words that give no command are answered by the usage line and status 2; those of `run`, whose operations take memory, may also find that it ran out
+abbrev pub IsUsage : List (List ℕ) → ℕ → Bool → Option (List ℕ) → Option (List ℕ) → Type 0
+IsUsage words status failed old new = HasSaid 2 usage_line status failed old new ⊎ (IsTrue (is_run_line words) × HasSaid 1 (fault_line out_of_memory) status failed old new)
 
 -- how a command that reads this text has ended
 abbrev pub IsCommandOutcome : CommandParts → List ℕ → Result (Unit {0}) Fault → Option (List ℕ) → Option (List ℕ) → Type 0

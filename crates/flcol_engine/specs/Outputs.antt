@@ -1,11 +1,12 @@
 -- What a command writes for what it reads, or why it writes nothing.
-use Rattle.std.specs.Prelude.{◌≡◌, ◌≢◌, ℕ, List, [], ◌∷◌, Option, Result, Ok, Err, MatchResult, ok_or, ⊤}
+use Rattle.std.specs.Prelude.{◌≡◌, ◌≢◌, ◌<◌, ℕ, List, [], ◌∷◌, Option, Result, Ok, Err, MatchResult, ok_or, ⊤}
 use Rattle.std.specs.Io.KnownBytes.{Appends}
 use Rattle.fl_types.specs.declared.error.FastLanesError.{FastLanesError}
-use Rattle.fl_serialized.specs.Nodes.{Node}
+use Rattle.fl_serialized.specs.Nodes.{Node, depth}
 use Rattle.fl_plugin.specs.Reading.{reading}
+use Rattle.fl_plugin.specs.RoundTrip.{IsReadBack}
 use Rattle.fl_plugin.specs.Writing.{id_of, written}
-use Rattle.flcol_container.specs.Container.{HasNoContainer, IsContainer, IsNoContainer}
+use Rattle.flcol_container.specs.Container.{IsContainer, IsNoContainer, max_depth}
 use Rattle.fl_column.specs.Columns.{PrimitiveParts}
 use Rattle.fl_array.specs.ToBlocked.{to_blocked_tree}
 use Rattle.fl_array.specs.Trees.{Tree, column}
@@ -51,10 +52,10 @@ IsArray bytes (Err faults.BadColumn) = ⊥
 IsArray bytes (Err faults.ReadFault) = ⊥
 IsArray bytes (Err faults.WriteFault) = ⊥
 
--- the container of an array, or that it has none
+-- the container of an array, which is read as that array, or that it has none: exactly where more than sixteen nodes stand in one another
 abbrev pub IsStored : Tree → Result (List ℕ) Fault → Type 0
-IsStored t (Ok bytes) = IsContainer bytes (written t)
-IsStored t (Err faults.BadContainer) = HasNoContainer (written t)
+IsStored t (Ok bytes) = IsReadBack t × IsContainer bytes (written t)
+IsStored t (Err faults.BadContainer) = max_depth < depth (written t)
 IsStored t (Err (faults.Refused error)) = ⊥
 IsStored t (Err faults.BadColumn) = ⊥
 IsStored t (Err faults.ReadFault) = ⊥
@@ -76,9 +77,14 @@ abbrev pub IsRunOutput : RunParts → List ℕ → Result (List ℕ) Fault → T
 IsRunOutput run bytes output = (array : Result Tree Fault) × IsArray bytes array × GoesWith (IsAnswer run.question run.operations) array output
 
 -- ---- encode
+-- the container of an array that is never too deep
+abbrev pub IsWritten : Tree → Result (List ℕ) Fault → Type 0
+IsWritten t (Ok bytes) = IsReadBack t × IsContainer bytes (written t)
+IsWritten t (Err fault) = ⊥
+
 -- what encoding a primitive array writes: the container of the array that the encoding makes of it, or the encoding's refusal
 abbrev pub IsEncodedOutput : Encoding → PrimitiveParts → Result (List ℕ) Fault → Type 0
-IsEncodedOutput encoding p output = (array : Result Tree FastLanesError) × EncodesAs encoding p array × GoesWith IsStored (of_library array) output
+IsEncodedOutput encoding p output = (array : Result Tree FastLanesError) × EncodesAs encoding p array × GoesWith IsWritten (of_library array) output
 
 -- what encoding a text column writes, or why it writes nothing
 abbrev pub IsEncodeOutput : Encode → List ℕ → Result (List ℕ) Fault → Type 0

@@ -13,6 +13,7 @@ use crate::fault::Fault;
 use crate::printing::print_line;
 use crate::questions::reply;
 use bytes::Bytes;
+use fl_plugin::laws::prove_read_back;
 use fl_plugin::writing::node_kind;
 use fl_plugin::{deserialize, serialize};
 use flcol_container::{read_container, write_container};
@@ -36,9 +37,11 @@ fn read_array(alloc: Global, bytes: Vec<u8>) -> Result<ArrayRef, Fault>
 ///
 /// # Errors
 /// `BadContainer` where it has none, since more than sixteen nodes would stand in one another.
+#[tactic(auto, using(crate::proofs::RoomLemmas::too_deep))]
 pub fn store(alloc: Global, array: &ArrayRef) -> Result<Vec<u8>, Fault>
     ensures { Meets (λ bytes. bytes.items) (IsStored array.now) result }
 {
+    prove_read_back(array);
     let node = serialize(alloc, array)?;
     Ok(write_container(alloc, &node)?)
 }

@@ -71,10 +71,11 @@ pub fn start<S: Source, K: Sink, E: Sink>(
     requires sink_unmarked { K.has_failed sink.old ≡ false }
     requires errors_unmarked { E.has_failed errors.old ≡ false }
 
-    // Where the words give no command, nothing is read or written but the usage line.
+    // Where the words give no command, nothing is read or written but the usage line; a line of `run` alone may find no
+    // memory for its operations.
     ensures usage { IfNone (command_of (map string_bytes words.now))
         ((source.new ≡ source.old) × (sink.new ≡ sink.old)
-        × IsUsage result (E.has_failed errors.new) (E.written errors.old) (E.written errors.new)) }
+        × IsUsage (map string_bytes words.now) result (E.has_failed errors.new) (E.written errors.old) (E.written errors.new)) }
 
     // Else the command is run, and the status and the line of errors tell how the run ended.
     ensures run { IfSome (command_of (map string_bytes words.now)) (λ command. (outcome : Result (Unit {0}) Fault)

@@ -1,9 +1,9 @@
 //! The words of a run: `pack TYPE WIDTH`, `encode TYPE ENCODING`, or `run OP.. QUERY`.
 
-ghost use Rattle.std.specs.Prelude.{◌≡◌, Ok, map, option_map, string_bytes};
+ghost use Rattle.std.specs.Prelude.{◌≡◌, IfErr, IsTrue, Ok, map, option_map, string_bytes};
 ghost use Rattle.fl_types.specs.Refusals.{Answers};
 ghost use Rattle.flcol_engine.specs.Words.{between_in_text, bound_in_letter, bounds_in_text, column_type_in_word, constant_in_text, encoding_in_word, mode_in_text, named_question, nested_encoding, operator_in_word, packing_in_word, plain_question, ptype_in_word, question_in_word, run_in_words, single_encoding, width_in_word};
-ghost use Rattle.flcol_engine.specs.Command.{column_command, column_command_of, command_of, encode_in_words, pack_in_words, parts_of_command, parts_of_run, usage_line};
+ghost use Rattle.flcol_engine.specs.Command.{column_command, column_command_of, command_of, encode_in_words, is_run_line, pack_in_words, parts_of_command, parts_of_run, usage_line};
 
 use crate::commands::{ColumnQuestion, Command, Encode, Encoding, Pack, Packing, Question, Run};
 use crate::operations::operations;
@@ -315,7 +315,8 @@ fn column_command_of(words: &[String]) -> Option<Command>
 /// The command that these words give, where they give one. Only the lists of operations of `run` need
 /// memory.
 pub fn command(alloc: Global, words: &[String]) -> Result<Option<Command>, FastLanesError>
-    ensures { Answers (option_map parts_of_command) result (Ok (command_of (map string_bytes words.now))) }
+    ensures command { Answers (option_map parts_of_command) result (Ok (command_of (map string_bytes words.now))) }
+    ensures memory { IfErr result (λ _. IsTrue (is_run_line (map string_bytes words.now))) }
 {
     let [name, rest @ ..] = words else {
         return Ok(None);

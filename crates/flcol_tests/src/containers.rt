@@ -3,7 +3,7 @@
 use crate::runs::{SOUND, refuses, run};
 use std::alloc::Global;
 
-const BAD_CONTAINER: &[u8] = b"error 42 BadContainer\n";
+pub(crate) const BAD_CONTAINER: &[u8] = b"error 42 BadContainer\n";
 
 /// What the container of 1, 2, 3 as `u32`, bit-packed at width 2, begins with: all but the last 257
 /// bytes, of which only three are not 0.
@@ -11,7 +11,7 @@ const BEGINNING: &[u8] =
     b"FLC1\x13fastlanes.bitpacked\x02\x03\0\0\0\0\0\0\0\x02\0\0\0\x08\x02\x01\0\x01\0\0\0\0\0\0";
 
 /// The container of 1, 2, 3 as `u32`, bit-packed at width 2: 305 bytes, where there is memory for them.
-fn container(alloc: Global) -> Option<Vec<u8>> {
+pub(crate) fn container(alloc: Global) -> Option<Vec<u8>> {
     let mut bytes = Vec::from_slice(alloc, BEGINNING).ok()?;
     bytes.extend_from_slice(b"\x01\0\0\0\x02\0\0\0\x03").ok()?;
     for _ in 0..248 {
@@ -21,7 +21,7 @@ fn container(alloc: Global) -> Option<Vec<u8>> {
 }
 
 /// A run on this container writes this text.
-fn answers(alloc: Global, line: &[&str], container: &[u8], text: &[u8]) -> bool {
+pub(crate) fn answers(alloc: Global, line: &[&str], container: &[u8], text: &[u8]) -> bool {
     match run(alloc, line, container, 100, SOUND) {
         Some(got) => got.has_ended(0, b"") && got.sink.bytes.as_slice() == text,
         None => false,
@@ -179,40 +179,6 @@ fn refuses_other_bytes(rt: HostRuntime) {
     assert!(rt; refuses_parts(rt.alloc()));
 }
 
-/// A run ends with an answer or with a refusal.
-fn ends(alloc: Global, line: &[&str], input: &[u8]) -> bool {
-    match run(alloc, line, input, 100, SOUND) {
-        Some(got) => {
-            got.status == 0 && got.errors.bytes.is_empty()
-                || got.status == 1 && got.sink.bytes.is_empty()
-        }
-        None => false,
-    }
-}
-
-/// With any byte of the container replaced by 0 and by its complement a run ends.
-fn ends_at_each_byte(alloc: Global) -> bool {
-    let Some(mut bytes) = container(alloc) else {
-        return false;
-    };
-    for i in 0..bytes.len() {
-        let byte = bytes[i];
-        for other in [0, !byte] {
-            bytes[i] = other;
-            if !ends(alloc, &["run", "decode"], &bytes) {
-                return false;
-            }
-        }
-        bytes[i] = byte;
-    }
-    true
-}
-
-#[test]
-fn ends_on_any_byte(rt: HostRuntime) {
-    assert!(rt; ends_at_each_byte(rt.alloc()));
-}
-
 /// What the container of 1, 2, 3 in blocks of a width each begins with: all up to the packed bytes.
 const BLOCKED_BEGINNING: &[u8] =
     b"FLC1\x16fastlanes.bitpacked.v2\x02\x03\0\0\0\0\0\0\0\x02\0\0\0\x10\x01\x01\0\x01\0\0\0\0\0\0";
@@ -268,55 +234,6 @@ fn asks_encoded(
         Some(got) => got.has_ended(0, b"")
             && answers(alloc, line, got.sink.bytes.as_slice(), wanted),
         None => false,
-    }
-}
-
-const ENCODINGS: &[&str] = &[
-    "primitive",
-    "bitpacked",
-    "bitpacked:2",
-    "blocked",
-    "for",
-    "for+bitpacked",
-    "for+bitpacked:2",
-    "for+blocked",
-    "forc",
-    "forc+bitpacked",
-    "forc+bitpacked:2",
-    "forc+blocked",
-    "delta",
-    "delta+bitpacked",
-    "delta+bitpacked:2",
-    "delta+blocked",
-    "rle",
-    "rle+bitpacked",
-    "rle+bitpacked:2",
-    "rle+blocked",
-];
-
-const TYPES: &[&str] = &["u8?", "u16?", "u32?", "u64?", "i8?", "i16?", "i32?", "i64?"];
-
-/// A few lines, in each encoding, are decoded to the same lines.
-fn are_read_back(alloc: Global, ptype: &str) -> bool {
-    let text = b"1\nnull\n3\n100\n";
-    for encoding in ENCODINGS {
-        if !asks_encoded(
-            alloc,
-            ["encode", ptype, encoding],
-            text,
-            &["run", "decode"],
-            text,
-        ) {
-            return false;
-        }
-    }
-    true
-}
-
-#[test]
-fn reads_back_what_it_encodes(rt: HostRuntime) {
-    for ptype in TYPES {
-        assert!(rt; are_read_back(rt.alloc(), ptype));
     }
 }
 

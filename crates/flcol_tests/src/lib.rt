@@ -4,6 +4,20 @@
 #[cfg(test)]
 mod containers;
 #[cfg(test)]
+mod every;
+#[cfg(test)]
+mod exact;
+#[cfg(test)]
+mod faults;
+#[cfg(test)]
 mod memory;
 #[cfg(test)]
+mod nodes;
+#[cfg(test)]
+mod orders;
+#[cfg(test)]
+mod rows;
+#[cfg(test)]
 mod runs;
+#[cfg(test)]
+mod strangers;

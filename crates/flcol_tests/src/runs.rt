@@ -13,13 +13,13 @@ use vortex_fastlanes::FastLanesError;
 pub(crate) const USAGE: &[u8] =
     b"usage: flcol pack TYPE WIDTH | encode TYPE ENCODING | run OP.. QUERY\n";
 
-const READ_FAULT: &[u8] = b"error 43 ReadFault\n";
+pub(crate) const READ_FAULT: &[u8] = b"error 43 ReadFault\n";
 
-const WRITE_FAULT: &[u8] = b"error 44 WriteFault\n";
+pub(crate) const WRITE_FAULT: &[u8] = b"error 44 WriteFault\n";
 
-const BAD_COLUMN: &[u8] = b"error 41 BadColumn\n";
+pub(crate) const BAD_COLUMN: &[u8] = b"error 41 BadColumn\n";
 
-const TOO_LARGE: &[u8] = b"error 4 WidthTooLarge\n";
+pub(crate) const TOO_LARGE: &[u8] = b"error 4 WidthTooLarge\n";
 
 /// The words of a column of bytes at width 1.
 const BITS: &[&str] = &["pack", "u8", "1"];
@@ -40,7 +40,7 @@ fn words(alloc: Global, line: &[&str]) -> Option<Vec<String>> {
 #[derive(Drop)]
 pub(crate) struct Outcome {
     pub(crate) status: u8,
-    read_failed: bool,
+    pub(crate) read_failed: bool,
     pub(crate) sink: ToMemory,
     pub(crate) errors: ToMemory,
 }

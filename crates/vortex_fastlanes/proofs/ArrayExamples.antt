@@ -16,7 +16,7 @@ use Rattle.fl_bitpacking.specs.Blocks.{block_item, item_of_blocks}
 use Rattle.fl_bitpacking.specs.Columns.{BitPackedParts, packed_item}
 use Rattle.fl_array.specs.Trees.{Tree, column, height}
 use Rattle.fl_array.specs.Trees as tree
-use Rattle.fl_array.specs.Kinds.{IsBitPackedBlocked, IsBool, IsDelta, IsFoR, IsFoRChunked, IsPrimitive, IsRLE, has_delta, kind, plain_kind, slice_kind}
+use Rattle.fl_array.specs.Kinds.{IsBitPackedBlocked, IsBool, IsDelta, IsFoR, IsFoRChunked, IsPrimitive, IsRLE, has_delta, kind, plain_kind}
 
 -- a plain array without nulls
 abbrev non_nullable : PType → List ℤ → PrimitiveParts
@@ -151,10 +151,6 @@ deep_kind = refl
 deep_height : height deep ≡ 3
 deep_height = refl
 
--- its slice keeps all kinds
-deep_slice : slice_kind (kind deep) ≡ IsFoR (IsBitPackedBlocked (IsDelta IsPrimitive IsPrimitive))
-deep_slice = refl
-
 deep_sums : has_delta (kind deep) ≡ true
 deep_sums = refl
 
@@ -165,8 +161,8 @@ deep_decoded = refl
 abbrev rle_over_for : Tree
 rle_over_for = tree.RLE (plain U8 []) two_chunks (plain U64 []) (record { offset = 0; len = 0 })
 
-rle_over_for_slice : slice_kind (kind rle_over_for) ≡ IsRLE IsPrimitive (IsFoRChunked IsPrimitive IsPrimitive) IsPrimitive
-rle_over_for_slice = refl
+rle_over_for_kind : kind rle_over_for ≡ IsRLE IsPrimitive (IsFoRChunked IsPrimitive IsPrimitive) IsPrimitive
+rle_over_for_kind = refl
 
 rle_over_for_height : height rle_over_for ≡ 2
 rle_over_for_height = refl

@@ -11,7 +11,7 @@ use Rattle.fl_column.specs.Columns.{PrimitiveParts, non_nullable}
 use Rattle.fl_bitpacking.specs.Columns.{BitPackedParts}
 use Rattle.fl_metadata.specs.WireReading.{field_at, fields_of, fields_up_to, groups_at, payload_at}
 use Rattle.fl_metadata.specs.Schemas.{are_within, has_kinds, last_values, message_at, number_at, optional_number_at, said, values_of}
-use Rattle.fl_metadata.specs.Messages.{bit_packed_blocked_of, bit_packed_of, for_chunked_of, patches_in}
+use Rattle.fl_metadata.specs.Messages.{bit_packed_blocked_of, bit_packed_of, delta_metadata_of, for_chunked_of, patches_in}
 use Rattle.fl_metadata.specs.Scalars.{scalar_of}
 use Rattle.fl_metadata.specs.WrittenText.{field_text, groups_text, message_text, varint_text}
 use Rattle.fl_array.specs.Trees.{BitPackedBlocked, BitPackedGlobal, Constant, Delta, FoRChunked, FoRGlobal, Primitive, Tree}
@@ -172,6 +172,19 @@ framed_again = refl
 pub references_again : reading (written two_references) ≡ Ok two_references
 unfolding message_text field_text varint_text groups_text for_chunked_of values_of fields_of fields_up_to field_at payload_at groups_at said has_kinds are_within last_values number_at optional_number_at message_at
 references_again = refl
+
+pub deltas_again : reading (written (no_changes 100)) ≡ Ok (no_changes 100)
+unfolding message_text field_text varint_text groups_text delta_metadata_of scalar_of values_of fields_of fields_up_to field_at payload_at groups_at said has_kinds are_within last_values number_at optional_number_at message_at
+deltas_again = refl
+
+pub sliced_again : reading (written sliced_patch) ≡ Ok sliced_patch
+unfolding message_text field_text varint_text groups_text bit_packed_of values_of fields_of fields_up_to field_at payload_at groups_at said has_kinds are_within last_values number_at optional_number_at message_at patches_in plain_of
+sliced_again = refl
+
+-- a field of an unknown tag is skipped
+pub unknown_is_skipped : reading (node bitpacked_v1_id (dtypes.Primitive U32 NonNullable) 3 (0x3d ∷ 0x00 ∷ 0x00 ∷ 0x00 ∷ 0x00 ∷ 0x08 ∷ 0x02 ∷ []) (three_bytes ∷ []) NoMore) ≡ Ok one_two_three
+unfolding bit_packed_of values_of fields_of fields_up_to field_at payload_at groups_at said has_kinds are_within last_values number_at optional_number_at message_at patches_in
+unknown_is_skipped = refl
 
 -- the last of a repeated tag counts
 pub last_wins : reading (node bitpacked_v1_id (dtypes.Primitive U32 NonNullable) 3 (0x08 ∷ 0x01 ∷ 0x08 ∷ 0x02 ∷ []) (three_bytes ∷ []) NoMore) ≡ Ok one_two_three

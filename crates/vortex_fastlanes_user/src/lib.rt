@@ -4,4 +4,6 @@
 
 #[cfg(test)]
 mod arrays;
+#[cfg(test)]
+mod encoded;
 pub mod readme;

@@ -1,13 +1,15 @@
 //! Arrays of every kind: how they are made, what operations make of them, and what they answer, call by
 //! call and in lists.
 
-mod building;
+pub(crate) mod building;
 mod constructors;
+mod counted;
 mod encoders;
-mod making;
-mod operations;
-mod parts;
-mod questions;
+pub(crate) mod making;
+pub(crate) mod operations;
+pub(crate) mod parts;
+pub(crate) mod questions;
+mod taking;
 
 use crate::text::Text;
 use fl_types::FastLanesError;
@@ -80,6 +82,17 @@ fn answer_built(
         Ok(array) => answer_words(alloc, array, words, columns, first, answer),
         Err(refusal) => answer.refusal(*refusal),
     }
+}
+
+/// Answers words about an array that was read; operations take the columns.
+pub(crate) fn answer_read(
+    alloc: Global,
+    read: &Built,
+    words: &[&str],
+    columns: &[PrimitiveArray],
+    answer: &mut Text,
+) {
+    answer_built(alloc, read, words, columns, 0, answer);
 }
 
 /// Answers words about an array of a kind, made of the first column.

@@ -176,13 +176,18 @@ fn column_of(alloc: Global, name: &str, words: &[&str]) -> Made {
     match_each_integer_ptype!(type_of(bare), typed(alloc, &integers, validity))
 }
 
-/// The column that a text names.
-pub(crate) fn read(alloc: Global, text: &str) -> Made {
-    let words: Vec<&str> = text.split_whitespace().collect(alloc)?;
-    match words.as_slice() {
+/// The column that words name.
+pub(crate) fn read_words(alloc: Global, words: &[&str]) -> Made {
+    match words {
         [name, items @ ..] => column_of(alloc, name, items),
         [] => Err(FastLanesError::UnknownType),
     }
+}
+
+/// The column that a text names.
+pub(crate) fn read(alloc: Global, text: &str) -> Made {
+    let words: Vec<&str> = text.split_whitespace().collect(alloc)?;
+    read_words(alloc, &words)
 }
 
 /// The columns that texts name.

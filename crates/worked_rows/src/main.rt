@@ -12,8 +12,10 @@ mod containers;
 mod deltas;
 mod for_;
 mod gathering;
+mod memory;
 mod messages;
 mod names;
+mod nodes;
 mod packing;
 mod parts;
 mod patches;
@@ -42,8 +44,10 @@ fn ask(alloc: Global, question: &[&str], columns: &[PrimitiveArray], answer: &mu
         || gathering::ask(alloc, question, columns, answer)
         || patches::ask(alloc, question, columns, answer)
         || blocks::ask(alloc, question, columns, answer)
+        || memory::ask(alloc, question, columns, answer)
         || messages::ask(alloc, question, answer)
         || containers::ask(alloc, question, answer)
+        || nodes::ask(alloc, question, columns, answer)
         || packing::ask(alloc, question, columns, answer)
         || plain::ask(alloc, question, columns, answer);
     if !known {
@@ -63,7 +67,9 @@ fn ask_of(alloc: Global, question: &[&str], columns: &[&str], answer: &mut Text)
 fn answer_parts(alloc: Global, parts: &[&str], answer: &mut Text) {
     if let [question, columns @ ..] = parts {
         if let Ok(words) = question.split_whitespace().collect::<Vec<&str>>(alloc) {
-            ask_of(alloc, &words, columns, answer);
+            if !nodes::ask_faults(alloc, &words, columns, answer) {
+                ask_of(alloc, &words, columns, answer);
+            }
         }
     }
 }

@@ -8,7 +8,7 @@ use fl_types::*;
 use std::alloc::Global;
 
 /// A column's items as options of this type.
-fn typed_items<T: NativePType>(
+pub(crate) fn typed_items<T: NativePType>(
     alloc: Global,
     array: &PrimitiveArray,
 ) -> Result<Vec<Option<T>>, FastLanesError> {

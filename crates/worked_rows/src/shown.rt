@@ -9,20 +9,33 @@ pub(crate) fn integer(value: PValue) -> i128 {
     value.as_i128()
 }
 
+/// The name of a type, without the mark of nulls.
+fn bare_name(dtype: DType) -> &'static str {
+    match dtype.ptype() {
+        Some(PType::U8) => "u8",
+        Some(PType::U16) => "u16",
+        Some(PType::U32) => "u32",
+        Some(PType::U64) => "u64",
+        Some(PType::I8) => "i8",
+        Some(PType::I16) => "i16",
+        Some(PType::I32) => "i32",
+        Some(PType::I64) => "i64",
+        None => "bool",
+    }
+}
+
+/// Adds a type, as a piece of a word.
+pub(crate) fn dtype_piece(answer: &mut Text, dtype: DType) {
+    answer.piece(bare_name(dtype));
+    if dtype.nullability() == Nullability::Nullable {
+        answer.piece("?");
+    }
+}
+
 /// Adds a type.
 pub(crate) fn dtype(answer: &mut Text, dtype: DType) {
-    let is_nullable = dtype.nullability() == Nullability::Nullable;
-    match dtype.ptype() {
-        Some(PType::U8) => answer.name("u8", is_nullable),
-        Some(PType::U16) => answer.name("u16", is_nullable),
-        Some(PType::U32) => answer.name("u32", is_nullable),
-        Some(PType::U64) => answer.name("u64", is_nullable),
-        Some(PType::I8) => answer.name("i8", is_nullable),
-        Some(PType::I16) => answer.name("i16", is_nullable),
-        Some(PType::I32) => answer.name("i32", is_nullable),
-        Some(PType::I64) => answer.name("i64", is_nullable),
-        None => answer.name("bool", is_nullable),
-    }
+    dtype_piece(answer, dtype);
+    answer.word("");
 }
 
 /// The integer that a scalar is, or its boolean as 1 or 0.

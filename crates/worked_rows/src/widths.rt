@@ -16,7 +16,10 @@ use vortex_fastlanes::bitpack_compress::{
 use vortex_fastlanes::bitpack_decompress::count_exceptions;
 
 /// The numbers of a column, as entries of a histogram.
-fn entries(alloc: Global, numbers: &PrimitiveArray) -> Result<Vec<usize>, FastLanesError> {
+pub(crate) fn entries(
+    alloc: Global,
+    numbers: &PrimitiveArray,
+) -> Result<Vec<usize>, FastLanesError> {
     if numbers.ptype() != PType::U64 {
         return Err(FastLanesError::TypeMismatch);
     }
@@ -29,7 +32,7 @@ fn entries(alloc: Global, numbers: &PrimitiveArray) -> Result<Vec<usize>, FastLa
 }
 
 /// The sum of the entries above a width, if it is a `usize`.
-fn sum_above(width: u8, histogram: &[usize]) -> Option<usize>
+pub(crate) fn sum_above(width: u8, histogram: &[usize]) -> Option<usize>
     ensures { IfSome result (λ total. total ≡ count_above width histogram.now) }
 {
     let mut total = 0usize;

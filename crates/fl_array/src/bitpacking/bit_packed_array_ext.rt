@@ -213,7 +213,7 @@ fn chunk_offsets_of<'a>(patches: Option<&'a Patches>) -> Option<&'a PrimitiveArr
 }
 
 /// The bits of a validity, where it has one for each item.
-fn bits_of(validity: &Validity) -> Option<&BitList>
+pub(crate) fn bits_of(validity: &Validity) -> Option<&BitList>
     ensures { option_copied result ≡ bits_of_validity validity.now }
 {
     match validity {

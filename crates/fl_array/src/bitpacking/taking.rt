@@ -68,11 +68,16 @@ impl BitPackedArray {
         let mut work = Work::new();
         let taken = match self.bit_widths() {
             BitWidthsView::Global(width) => self.take_global(alloc, width, indices, &mut work)?,
-            BitWidthsView::Blocked(boundaries) => {
-                self.prove_boundaries_are_integers(boundaries);
-                let plain = boundaries.to_primitive(alloc)?;
-                self.take_blocked(alloc, boundaries, &plain, indices, &mut work)?
-            }
+            BitWidthsView::Blocked(boundaries) => match boundaries.as_constant() {
+                Some(constant) => {
+                    self.take_without_bytes(alloc, boundaries, constant, indices, &mut work)?
+                }
+                None => {
+                    self.prove_boundaries_are_integers(boundaries);
+                    let plain = boundaries.to_primitive(alloc)?;
+                    self.take_blocked(alloc, boundaries, &plain, indices, &mut work)?
+                }
+            },
         };
         Ok((taken, work))
     }

@@ -1,23 +1,26 @@
 //! What delta arrays show of themselves.
 
 ghost use Rattle.std.specs.Prelude.{◌≡◌, length};
+ghost use Rattle.std.specs.Option.{option_copied};
+ghost use Rattle.fl_array.specs.BitPackedFields.{bits_of_validity};
 ghost use Rattle.fl_array.specs.DeltaArrays.{DeltaArrayParts, tree_of_delta};
 ghost use Rattle.fl_array.specs.Trees.{column};
 
 use crate::array::ArrayRef;
+use crate::bitpacking::bit_packed_array_ext::bits_of;
 use crate::delta::DeltaArray;
 use crate::delta::delta_data::DeltaData;
-use fl_column::{DType, Validity};
+use fl_column::{BitList, DType};
 
-/// The arrays inside a delta array, and which items are null.
+/// The arrays inside a delta array, and the bits of its validity.
 #[derive(Clone, Copy)]
 pub struct DeltaSlots<'a> {
     /// The bases: one for each lane of each block.
     pub bases: &'a ArrayRef,
     /// The deltas, at the positions at which blocks store items.
     pub deltas: &'a ArrayRef,
-    /// Which items are null.
-    pub validity_child: &'a Validity,
+    /// The bits of the validity, where it has one for each item.
+    pub validity_child: Option<&'a BitList>,
 }
 
 /// What delta arrays show of themselves.
@@ -29,11 +32,11 @@ pub trait DeltaArrayExt {
     fn offset(&self) -> usize
         ensures { result ≡ (parts self.now).parts.offset };
 
-    /// The arrays inside, and which items are null.
+    /// The arrays inside, and the bits of the validity.
     fn slots(&self) -> DeltaSlots<'_>
         ensures bases { result.bases.now ≡ (parts self.now).bases }
         ensures deltas { result.deltas.now ≡ (parts self.now).deltas }
-        ensures validity_child { result.validity_child.now ≡ (parts self.now).parts.validity };
+        ensures validity_child { option_copied result.validity_child ≡ bits_of_validity (parts self.now).parts.validity };
 
     /// What the array keeps beside the arrays inside.
     fn data(&self) -> DeltaData
@@ -59,7 +62,7 @@ impl DeltaArrayExt for DeltaArray {
         DeltaSlots {
             bases: self.bases(),
             deltas: self.deltas(),
-            validity_child: self.validity(),
+            validity_child: bits_of(self.validity()),
         }
     }
 

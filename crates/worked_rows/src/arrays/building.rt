@@ -238,6 +238,6 @@ fn nested(
 }
 
 /// An array of a kind.
-pub(super) fn array(alloc: Global, kind: &str, column: &PrimitiveArray) -> Built {
+pub(crate) fn array(alloc: Global, kind: &str, column: &PrimitiveArray) -> Built {
     nested(alloc, kind, '+', 8, column)
 }

@@ -13,17 +13,17 @@ use vortex_fastlanes::{PType, Scalar, Validity};
 
 /// The parts of a bit-packed array, without the widths of its blocks.
 #[derive(Drop)]
-pub(super) struct Packed {
-    pub(super) bytes: Bytes,
-    pub(super) ptype: PType,
-    pub(super) validity: Validity,
-    pub(super) patches: Option<Patches>,
-    pub(super) offset: u16,
-    pub(super) len: usize,
+pub(crate) struct Packed {
+    pub(crate) bytes: Bytes,
+    pub(crate) ptype: PType,
+    pub(crate) validity: Validity,
+    pub(crate) patches: Option<Patches>,
+    pub(crate) offset: u16,
+    pub(crate) len: usize,
 }
 
 /// A bit-packed array, whose blocks all have one width.
-pub(super) fn bitpacked(parts: Packed, width: u8) -> Built {
+pub(crate) fn bitpacked(parts: Packed, width: u8) -> Built {
     let Packed {
         bytes,
         ptype,
@@ -37,7 +37,7 @@ pub(super) fn bitpacked(parts: Packed, width: u8) -> Built {
 }
 
 /// A bit-packed array, whose blocks lie between boundaries.
-pub(super) fn blocked(alloc: Global, parts: Packed, boundaries: ArrayRef) -> Built {
+pub(crate) fn blocked(alloc: Global, parts: Packed, boundaries: ArrayRef) -> Built {
     let Packed {
         bytes,
         ptype,
@@ -53,12 +53,12 @@ pub(super) fn blocked(alloc: Global, parts: Packed, boundaries: ArrayRef) -> Bui
 }
 
 /// An array less one reference.
-pub(super) fn global_for(alloc: Global, encoded: ArrayRef, reference: Scalar) -> Built {
+pub(crate) fn global_for(alloc: Global, encoded: ArrayRef, reference: Scalar) -> Built {
     Ok(FoR::try_new(alloc, encoded, reference)?.into_array())
 }
 
 /// An array less a reference for each chunk.
-pub(super) fn chunked_for(
+pub(crate) fn chunked_for(
     alloc: Global,
     encoded: ArrayRef,
     references: ArrayRef,
@@ -68,7 +68,7 @@ pub(super) fn chunked_for(
 }
 
 /// An array of bases and deltas.
-pub(super) fn delta(
+pub(crate) fn delta(
     alloc: Global,
     bases: ArrayRef,
     deltas: ArrayRef,
@@ -80,7 +80,7 @@ pub(super) fn delta(
 }
 
 /// An array of run values, run indices and run offsets.
-pub(super) fn rle(
+pub(crate) fn rle(
     alloc: Global,
     values: ArrayRef,
     indices: ArrayRef,

@@ -63,7 +63,7 @@ fn takes_column(word: &str) -> bool {
 }
 
 /// The operations that words name, of which some take the next of the columns.
-pub(super) fn read_all(
+pub(crate) fn read_all(
     alloc: Global,
     words: &[&str],
     columns: &[PrimitiveArray],
@@ -83,7 +83,7 @@ pub(super) fn read_all(
 }
 
 /// What the call for an operation makes of an array.
-fn call(alloc: Global, array: &ArrayRef, op: &Op) -> Built {
+pub(crate) fn call(alloc: Global, array: &ArrayRef, op: &Op) -> Built {
     match op {
         Op::Slice(range) if range.start <= range.end && range.end <= array.len() => {
             array.slice(alloc, range.start..range.end)

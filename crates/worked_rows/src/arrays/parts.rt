@@ -94,7 +94,7 @@ fn kind_to(array: &ArrayRef, depth: usize, answer: &mut Text) {
 }
 
 /// Adds the kind of an array, as `for(bitpacked)`.
-pub(super) fn kind(array: &ArrayRef, answer: &mut Text) {
+pub(crate) fn kind(array: &ArrayRef, answer: &mut Text) {
     kind_to(array, 8, answer);
     answer.word("");
 }

@@ -5,22 +5,23 @@ ghost use Rattle.fl_types.specs.Values.{scalar_parts};
 ghost use Rattle.fl_array.specs.Trees.{column};
 ghost use Rattle.fl_ops.specs.Questions.{is_comparable, may_ask};
 
-use super::{Built, parts};
+use super::{Built, counted, parts, taking};
 use crate::columns::count;
 use crate::names::{asked, named};
 use crate::parts::is_same;
 use crate::text::Text;
-use crate::{shown, types};
+use crate::{nodes, shown, types};
 use std::alloc::Global;
 use vortex_fastlanes::array::{Answer, ArrayOps, ArrayRef, Query, ask};
 use vortex_fastlanes::laws::{item_of_decoded, slice_of_slice};
+use vortex_fastlanes::plugin::round_trip;
 use vortex_fastlanes::{
     BetweenOptions, CompareOperator, FastLanesError, Nullability, PrimitiveArray, Scalar,
-    StrictComparison, Validity,
+    StrictComparison, Validity, Work,
 };
 
 /// An integer of an array's type.
-fn constant(array: &ArrayRef, integer: &str) -> Scalar
+pub(crate) fn constant(array: &ArrayRef, integer: &str) -> Scalar
     ensures { IsTrue (is_comparable (column array.now) (scalar_parts result)) }
 {
     match array.dtype().ptype() {
@@ -58,7 +59,7 @@ const OPERATORS: &[(&str, CompareOperator)] = &[
 ];
 
 /// A comparison by its name.
-fn operator(name: &str) -> CompareOperator {
+pub(crate) fn operator(name: &str) -> CompareOperator {
     named(OPERATORS, name).unwrap_or(CompareOperator::Eq)
 }
 
@@ -70,7 +71,7 @@ fn strictness(name: &str) -> StrictComparison {
     }
 }
 
-fn options(lower: &str, upper: &str) -> BetweenOptions {
+pub(crate) fn options(lower: &str, upper: &str) -> BetweenOptions {
     BetweenOptions {
         lower_strict: strictness(lower),
         upper_strict: strictness(upper),
@@ -129,6 +130,7 @@ enum Question {
     PrimitiveParts,
     Validity,
     Item,
+    Counted,
     Slices,
     Composed,
     At,
@@ -137,6 +139,11 @@ enum Question {
     Strict,
     Compare,
     Between,
+    CompareCounted,
+    BetweenCounted,
+    TakeCounted,
+    Serialized,
+    Stored,
 }
 
 const QUESTIONS: &[(&str, Question)] = &[
@@ -153,6 +160,7 @@ const QUESTIONS: &[(&str, Question)] = &[
     ("plain", Question::PrimitiveParts),
     ("validity", Question::Validity),
     ("item", Question::Item),
+    ("counted", Question::Counted),
     ("slices", Question::Slices),
     ("composed", Question::Composed),
     ("at", Question::At),
@@ -161,6 +169,11 @@ const QUESTIONS: &[(&str, Question)] = &[
     ("strict", Question::Strict),
     ("compare", Question::Compare),
     ("between", Question::Between),
+    ("compare_counted", Question::CompareCounted),
+    ("between_counted", Question::BetweenCounted),
+    ("take_counted", Question::TakeCounted),
+    ("serialized", Question::Serialized),
+    ("stored", Question::Stored),
 ];
 
 /// Answers a question that has a query too: `at 2`, `constant`, `sorted`, `strict`, `compare lt 7`
@@ -182,6 +195,27 @@ fn answer_query(
             let options = options(from, to);
             between(alloc, array, (lower, upper), options, answer);
         }
+        _ => answer_counted(alloc, array, asked, words, answer),
+    }
+}
+
+/// Answers a comparison and what it unpacked: `compare_counted lt 7` or `between_counted gte 3 lt 7`.
+fn answer_counted(
+    alloc: Global,
+    array: &ArrayRef,
+    asked: Question,
+    words: &[&str],
+    answer: &mut Text,
+) {
+    match (asked, words) {
+        (Question::CompareCounted, [name, integer]) => {
+            let constant = constant(array, integer);
+            counted::compare(alloc, array, operator(name), &constant, answer);
+        }
+        (Question::BetweenCounted, [from, lower, to, upper]) => {
+            let (lower, upper) = (constant(array, lower), constant(array, upper));
+            counted::between(alloc, array, &lower, &upper, options(from, to), answer);
+        }
         _ => answer.word("no such question"),
     }
 }
@@ -197,7 +231,7 @@ fn item(alloc: Global, array: &ArrayRef, i: usize, answer: &mut Text) {
 }
 
 /// Adds the type and the items of an array, each read alone.
-fn column_read(alloc: Global, array: &ArrayRef, answer: &mut Text) {
+pub(super) fn column_read(alloc: Global, array: &ArrayRef, answer: &mut Text) {
     shown::dtype(answer, array.dtype());
     for i in 0..array.len() {
         item(alloc, array, i, answer);
@@ -229,6 +263,32 @@ fn item_decoded(alloc: Global, array: &ArrayRef, i: usize, answer: &mut Text) {
     if i < array.len() {
         match item_of_decoded(array, alloc, i) {
             Ok((_, item)) => shown::scalar(answer, item),
+            Err(refusal) => answer.refusal(refusal),
+        }
+    }
+}
+
+/// Adds what a point read counts: how many blocks, and whether the words are at most two.
+fn point_read(work: &Work, answer: &mut Text) {
+    answer.count(usize::try_from(work.blocks()).unwrap_or(usize::MAX));
+    answer.word("blocks");
+    answer.word(if work.words() <= 2 {
+        "at most 2 words"
+    } else {
+        "more words"
+    });
+}
+
+/// Adds an item, and of a bit-packed array what was read for it.
+fn item_counted(alloc: Global, array: &ArrayRef, i: usize, answer: &mut Text) {
+    if i < array.len() {
+        match array.scalar_at_counted(alloc, i) {
+            Ok((item, work)) => {
+                shown::scalar(answer, item);
+                if array.as_bitpacked().is_some() {
+                    point_read(&work, answer);
+                }
+            }
             Err(refusal) => answer.refusal(refusal),
         }
     }
@@ -363,6 +423,29 @@ fn back(alloc: Global, array: &ArrayRef, column: &PrimitiveArray, answer: &mut T
     }
 }
 
+/// Adds the kind of an array that was read, and what it decodes to.
+fn decoded(alloc: Global, made: &Built, answer: &mut Text) {
+    match made {
+        Ok(array) => {
+            parts::kind(array, answer);
+            array_made(alloc, &array.decode(alloc), answer);
+        }
+        Err(refusal) => answer.refusal(*refusal),
+    }
+}
+
+/// Adds the kind and the column of what is read where an array is written: `same` where they are the array's.
+fn stored(alloc: Global, array: &ArrayRef, answer: &mut Text) {
+    let (mut before, mut after) = (Text::new(alloc), Text::new(alloc));
+    decoded(alloc, &array.try_clone(alloc), &mut before);
+    decoded(alloc, &round_trip(alloc, array), &mut after);
+    if before.as_str() == after.as_str() {
+        answer.word("same");
+    } else {
+        answer.word(after.as_str());
+    }
+}
+
 /// Answers a question that calls something, or asks a query.
 fn answer_called(
     alloc: Global,
@@ -378,6 +461,7 @@ fn answer_called(
         (Question::PrimitiveParts, []) => shown::made(answer, array.to_primitive(alloc)),
         (Question::Validity, []) => validity(alloc, array, answer),
         (Question::Item, [i]) => item_decoded(alloc, array, count(i), answer),
+        (Question::Counted, [i]) => item_counted(alloc, array, count(i), answer),
         (Question::Slices, [outer, inner]) => {
             let made = sliced_twice(alloc, array, range_of(outer), range_of(inner));
             array_made(alloc, &made, answer);
@@ -385,6 +469,9 @@ fn answer_called(
         (Question::Composed, [outer, rest @ ..]) => {
             all_composed(alloc, array, range_of(outer), rest, answer);
         }
+        (Question::Stored, []) => stored(alloc, array, answer),
+        (Question::Serialized, []) => nodes::serialized(alloc, array, answer),
+        (Question::Serialized, ["by", kind]) => nodes::serialized_by(alloc, kind, array, answer),
         _ => answer_query(alloc, array, asked, words, answer),
     }
 }
@@ -407,6 +494,7 @@ fn answer_asked(
         (Question::Bytes, [], _) => parts::packed_bytes(array, answer),
         (Question::Slots, [], _) => parts::slots(array, answer),
         (Question::Back, [], [.., column]) => back(alloc, array, column, answer),
+        (Question::TakeCounted, [], [.., indices]) => taking::ask(alloc, array, indices, answer),
         _ => answer_called(alloc, array, asked, words, answer),
     }
 }

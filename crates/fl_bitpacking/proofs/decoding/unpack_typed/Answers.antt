@@ -8,8 +8,8 @@ use Rattle.fl_bitpacking.specs.Parts.{parts_of}
 use Rattle.fl_bitpacking.proofs.ColumnLaws.{column_made}
 use Rattle.fl_bitpacking.proofs.decoding.unpack_typed.Goals as goal
 
-pub returns : goal.returns
-returns g c =
+pub returns-clause-column : goal.returns-clause-column
+returns-clause-column g c =
     let value = g.T.Number.value in
     let parts = parts_of c.args.column.now in
     let blocks = blocks_of c.args.widths in

@@ -1,0 +1,21 @@
+use Rattle.std.proofs.Common.{◌∙◌, List, ℕ, Ok, IsTrue, length, nat_lt, ap, subst, sym}
+use Rattle.std.specs.List.{list_all}
+use Rattle.fl_types.specs.Refusals.{Answers}
+use Rattle.fl_column.specs.Columns.{Column, column_of_primitive}
+use Rattle.fl_array.specs.BitPackedArrays.{tree_of_bitpacked}
+use Rattle.fl_array.specs.Trees.{column}
+use Rattle.fl_ops.specs.Takes.{at_positions}
+use Rattle.fl_ops.proofs.PositionLaws.{kept_at, kept_below}
+use Rattle.fl_ops.proofs.takes.filter_packed.Goals as goal
+
+pub take_positions-requires : goal.take_positions-requires
+take_positions-requires c =
+    let len = length (column (tree_of_bitpacked c.args.array.now)).items in
+    subst (λ (positions : List ℕ). IsTrue (list_all (λ i. nat_lt i len) positions)) (sym c.in_ok-positions.ensures) (kept_below c.args.mask.now len c.requires)
+
+pub returns : goal.returns
+returns c =
+    let items = column (tree_of_bitpacked c.args.array.now) in
+    subst (λ (d : Column). Answers column_of_primitive c.take_positions.result (Ok d))
+    (ap (λ (positions : List ℕ). at_positions positions items) c.in_ok-positions.ensures ∙ kept_at c.args.mask.now items c.requires)
+    c.take_positions.ensures

@@ -1,0 +1,55 @@
+//! Encoded arrays: what their data are printed as and hashed to, and constructors that test nothing.
+
+use std::alloc::Global;
+use std::collections::HashMap;
+use vortex_fastlanes::array::*;
+use vortex_fastlanes::bitpack_compress::bitpack_encode;
+use vortex_fastlanes::*;
+
+/// A column of these items, none of them null.
+fn column(alloc: Global, items: &[i32]) -> Result<PrimitiveArray, FastLanesError> {
+    PrimitiveArray::new(Vec::from_slice(alloc, items)?, Validity::NonNullable)
+}
+
+/// What the data of a FoR array of one item -5 are printed as.
+fn for_text(alloc: Global) -> Result<String, FastLanesError> {
+    let array = FoR::encode(alloc, &column(alloc, &[-5])?)?;
+    let data = FoRArrayExt::data(&array);
+    Ok(format!(in alloc; "{data}")?)
+}
+
+/// What the data of a bit-packed array of width 3 are printed as.
+fn packed_text(alloc: Global) -> Result<String, FastLanesError> {
+    let array = bitpack_encode(alloc, &column(alloc, &[5])?, 3, None)?;
+    let data = BitPackedArrayExt::data(&array)?;
+    Ok(format!(in alloc; "{data}")?)
+}
+
+/// Whether a text was made, and is this one.
+fn is_text(made: Result<String, FastLanesError>, wanted: &str) -> bool {
+    match made {
+        Ok(text) => text.as_str() == wanted,
+        Err(_) => false,
+    }
+}
+
+#[test]
+fn data_are_printed(rt: HostRuntime) {
+    let alloc = rt.alloc();
+    assert!(rt; is_text(packed_text(alloc), "bit_width: 3, offset: 0"));
+    assert!(rt; is_text(for_text(alloc), "global_reference: -5i32, offset: 0"));
+}
+
+/// How many keys two equal data and a third one are.
+fn keys(alloc: Global) -> Result<usize, FastLanesError> {
+    let mut offsets: HashMap<DeltaData, u8> = HashMap::new(alloc);
+    for offset in [7, 8, 7] {
+        offsets.insert(DeltaData::try_new(offset)?, 0)?;
+    }
+    Ok(offsets.len())
+}
+
+#[test]
+fn equal_data_are_one_key(rt: HostRuntime) {
+    assert!(rt; keys(rt.alloc()) == Ok(2));
+}

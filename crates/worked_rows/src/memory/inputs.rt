@@ -1,0 +1,255 @@
+//! What calls borrow and take.
+
+use crate::arrays::{building, operations, parts};
+use crate::text::Text;
+use crate::{bits, plain, shown, widths};
+use bytes::Bytes;
+use fl_column::PrimitiveArray;
+use flcol_container::write_container;
+use std::alloc::Global;
+use vortex_fastlanes::array::{ArrayRef, IntoArray, Op};
+use vortex_fastlanes::bitpack_compress::{
+    bitpack_blocked_to_best_bit_widths, bitpack_to_best_bit_width,
+};
+use vortex_fastlanes::plugin::{SerializedArray, serialize};
+use vortex_fastlanes::{BitList, BitPackedArray, FastLanesError, PType, Validity};
+
+/// What calls borrow, made of the columns of a row.
+#[derive(Drop)]
+pub(super) struct Inputs {
+    /// The first column, as an array of a kind.
+    pub(super) array: ArrayRef,
+    pub(super) columns: Vec<PrimitiveArray>,
+    /// The operations that the words name, where the call takes operations.
+    pub(super) ops: Vec<Op>,
+    /// The items of the first column, where these are of `u16`.
+    pub(super) items: Vec<Option<u16>>,
+    /// The items of the first column as numbers, where these are of `u64`.
+    pub(super) numbers: Vec<usize>,
+    /// The node of the array.
+    pub(super) node: SerializedArray,
+    /// The container of the node.
+    pub(super) container: Bytes,
+}
+
+/// The operations that words name, where the call takes operations.
+fn ops_of(
+    alloc: Global,
+    words: (&str, &[&str]),
+    columns: &[PrimitiveArray],
+) -> Result<Vec<Op>, FastLanesError> {
+    if words.0.ends_with("op") {
+        operations::read_all(alloc, words.1, columns)
+    } else {
+        Ok(Vec::new(alloc))
+    }
+}
+
+fn copies(
+    alloc: Global,
+    columns: &[PrimitiveArray],
+) -> Result<Vec<PrimitiveArray>, FastLanesError> {
+    let mut all = Vec::new(alloc);
+    for column in columns {
+        all.push(column.try_clone(alloc)?)?;
+    }
+    Ok(all)
+}
+
+fn numbers_of(alloc: Global, column: &PrimitiveArray) -> Result<Vec<usize>, FastLanesError> {
+    if column.ptype() == PType::U64 {
+        widths::entries(alloc, column)
+    } else {
+        Ok(Vec::new(alloc))
+    }
+}
+
+/// The container of a node that is small enough to have one.
+fn container_of(alloc: Global, node: &SerializedArray) -> Result<Bytes, FastLanesError> {
+    match write_container(alloc, node) {
+        Ok(bytes) => Ok(Bytes::from_vec(bytes)?),
+        Err(_) => Err(FastLanesError::OutOfMemory),
+    }
+}
+
+/// The container of an array.
+fn container_of_array(alloc: Global, array: &ArrayRef) -> Result<Bytes, FastLanesError> {
+    container_of(alloc, &serialize(alloc, array)?)
+}
+
+impl Inputs {
+    pub(super) fn make(
+        alloc: Global,
+        kind: &str,
+        words: (&str, &[&str]),
+        columns: &[PrimitiveArray],
+    ) -> Result<Inputs, FastLanesError> {
+        let [first, others @ ..] = columns else {
+            return Err(FastLanesError::ChildCount);
+        };
+        let array = building::array(alloc, kind, first)?;
+        let node = serialize(alloc, &array)?;
+        let container = container_of(alloc, &node)?;
+        Ok(Inputs {
+            array,
+            columns: copies(alloc, columns)?,
+            ops: ops_of(alloc, words, others)?,
+            items: plain::typed_items::<u16>(alloc, first)?,
+            numbers: numbers_of(alloc, first)?,
+            node,
+            container,
+        })
+    }
+
+    /// Each byte that is stored of them: of the array and of the node as containers, of the container, and of the indices
+    /// of takes.
+    pub(super) fn stored(&self, alloc: Global) -> Result<Vec<u8>, FastLanesError> {
+        let mut bytes = Vec::from_slice(alloc, self.container.as_slice())?;
+        bytes.extend_from_slice(container_of(alloc, &self.node)?.as_slice())?;
+        bytes.extend_from_slice(container_of_array(alloc, &self.array)?.as_slice())?;
+        for op in &self.ops {
+            if let Op::Take(indices) = op {
+                bytes.extend_from_slice(container_of_array(alloc, indices)?.as_slice())?;
+            }
+        }
+        Ok(bytes)
+    }
+
+    /// Adds what can be seen of the columns, with what is stored under nulls, and of the operations.
+    pub(super) fn describe(&self, answer: &mut Text) {
+        for column in &self.columns {
+            shown::column(answer, column);
+            shown::slots(answer, column);
+        }
+        for op in &self.ops {
+            operation(op, answer);
+        }
+        for item in &self.items {
+            answer.item(item.map(i128::from));
+        }
+        for number in &self.numbers {
+            answer.item(Some(*number as i128));
+        }
+    }
+}
+
+/// Adds the kind of an array, and its column, decoded.
+pub(super) fn array(alloc: Global, array: &ArrayRef, answer: &mut Text) {
+    parts::kind(array, answer);
+    match array.as_bool() {
+        Some(bools) => shown::bools(answer, bools),
+        None => shown::made(answer, array.to_primitive(alloc)),
+    }
+}
+
+/// Adds what an operation holds, but for the indices of a take.
+fn operation(op: &Op, answer: &mut Text) {
+    match op {
+        Op::Slice(range) => {
+            answer.count(range.start);
+            answer.count(range.end);
+        }
+        Op::TakeRanges(ranges) => {
+            for (start, len) in ranges {
+                answer.count(*start);
+                answer.count(*len);
+            }
+        }
+        Op::Filter(mask) => answer.debug(mask),
+        Op::Cast(target) => shown::dtype(answer, *target),
+        Op::Take(_) => {}
+    }
+}
+
+/// What a call takes, made of the columns of a row.
+#[derive(Drop)]
+pub(super) enum Owned {
+    /// The call takes nothing.
+    Nothing,
+    /// The columns, the first one last.
+    Columns(Vec<PrimitiveArray>),
+    /// The columns as arrays of the kinds that the words name, the first one last.
+    Arrays(Vec<ArrayRef>),
+    /// The first column, bit-packed.
+    Packed(BitPackedArray),
+    /// The integers of the first column, and its validity.
+    Integers(Vec<u16>, Validity),
+    /// A bit for each item of the first column, and its validity.
+    Bits(BitList, Validity),
+}
+
+/// Columns, the first one last.
+fn columns_of(
+    alloc: Global,
+    columns: &[PrimitiveArray],
+) -> Result<Vec<PrimitiveArray>, FastLanesError> {
+    let mut all = Vec::new(alloc);
+    for i in (0..columns.len()).rev() {
+        all.push(columns[i].try_clone(alloc)?)?;
+    }
+    Ok(all)
+}
+
+/// Columns as arrays of kinds, the first one last.
+fn arrays_of(
+    alloc: Global,
+    kinds: &[&str],
+    columns: &[PrimitiveArray],
+) -> Result<Vec<ArrayRef>, FastLanesError> {
+    let mut arrays = Vec::new(alloc);
+    for i in (0..columns.len()).rev() {
+        let kind = kinds.get(i).copied().unwrap_or("plain");
+        arrays.push(building::array(alloc, kind, &columns[i])?)?;
+    }
+    Ok(arrays)
+}
+
+/// A column that is bit-packed: at widths for each block where the kind is of blocks.
+fn packed_of(
+    alloc: Global,
+    kind: &str,
+    column: &PrimitiveArray,
+) -> Result<BitPackedArray, FastLanesError> {
+    if kind.starts_with("blocked") {
+        bitpack_blocked_to_best_bit_widths(alloc, column)
+    } else {
+        bitpack_to_best_bit_width(alloc, column)
+    }
+}
+
+/// The integers of a column of `u16`.
+fn integers_of(alloc: Global, column: &PrimitiveArray) -> Result<Vec<u16>, FastLanesError> {
+    if column.ptype() != PType::U16 {
+        return Err(FastLanesError::TypeMismatch);
+    }
+    Ok(Vec::from_slice(alloc, column.as_slice::<u16>())?)
+}
+
+impl Owned {
+    pub(super) fn make(
+        alloc: Global,
+        kind: &str,
+        words: (&str, &[&str]),
+        columns: &[PrimitiveArray],
+    ) -> Result<Owned, FastLanesError> {
+        let [column, ..] = columns else {
+            return Err(FastLanesError::ChildCount);
+        };
+        match words.0 {
+            "new_for" | "new_for_chunked" | "new_delta" | "new_rle" => {
+                Ok(Owned::Arrays(arrays_of(alloc, words.1, columns)?))
+            }
+            "new_packed" => Ok(Owned::Packed(packed_of(alloc, kind, column)?)),
+            "new_column" => {
+                let validity = column.validity().try_clone(alloc)?;
+                Ok(Owned::Integers(integers_of(alloc, column)?, validity))
+            }
+            "new_bools" => {
+                let validity = column.validity().try_clone(alloc)?;
+                Ok(Owned::Bits(bits::ones(alloc, column)?, validity))
+            }
+            name if name.starts_with("new_") => Ok(Owned::Columns(columns_of(alloc, columns)?)),
+            _ => Ok(Owned::Nothing),
+        }
+    }
+}
