@@ -133,8 +133,7 @@ impl Slice<'_> {
         (0..33).min_by_key(|w| w * self.items.len() + above(*w) * 96).unwrap()
     }
 
-    fn packed(&self) {
-        let width = self.best_width();
+    fn packed(&self, width: usize) {
         let size = width * k32::LANES;
         let mut words = vec![0u32; size * self.items.len() / 1024];
         for (b, items) in self.items.chunks_exact(1024).enumerate() { k32::pack_w(width, items.try_into().unwrap(), &mut words[size * b..size * (b + 1)]); }
@@ -145,14 +144,15 @@ impl Slice<'_> {
         black_box((words, positions, values, self.validity()));
     }
 
-    /// Encodes whole blocks.
-    pub fn encode(&self, encoding: Encoding) {
+    /// Encodes whole blocks, at a width where the encoding takes one.
+    pub fn encode(&self, encoding: Encoding, width: usize) {
         match encoding {
             Encoding::FoR => self.for_by(self.items.len()),
             Encoding::ChunkedFoR => self.for_by(1024),
             Encoding::Delta => self.delta(),
             Encoding::RLE => self.rle(),
-            Encoding::BestWidth => self.packed(),
+            Encoding::BestWidth => self.packed(self.best_width()),
+            Encoding::BitPacked => self.packed(width),
             _ => unreachable!(),
         }
     }

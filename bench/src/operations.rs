@@ -11,7 +11,7 @@ const WIDTH: usize = 10;
 /// `u32`s of ten bits, of which every `patch_every`-th has all bits.
 fn ten_bits(len: usize, patch_every: usize) -> Vec<u32> {
     let noise = random(65536);
-    (0..len).map(|i| if patch_every != 0 && i % patch_every == 3 { u32::MAX } else { (noise[(i * 7 + i / 65536) % 65536] & 1023) as u32 }).collect()
+    (0..len).map(|i| if patch_every != 0 && i % patch_every == 1 { u32::MAX } else { (noise[(i * 7 + i / 65536) % 65536] & 1023) as u32 }).collect()
 }
 
 /// Seconds of the kernel on whole blocks: compare and turn the bits to item order.
@@ -53,8 +53,8 @@ fn encoded(megabytes: usize) {
         let patches = if patch_every == 0 { "no patches" } else { "1 % patches" };
         println!("\n{megabytes} MB of u32 at width 10, {patches}: milliseconds; decode takes {}\n", milliseconds(decode));
         println!("| question | on the array | decoded first | times faster |\n|---|---|---|---|");
-        let cases: [(&str, Question, &[u64]); 6] = [
-            ("compare", Question::Compare, &[500]), ("between", Question::Between, &[100, 500]), ("compare, decided by the width", Question::Compare, &[1 << 12]),
+        let cases: [(&str, Question, &[u64]); 7] = [
+            ("compare", Question::Compare, &[500]), ("between", Question::Between, &[100, 500]), ("compare, decided by the width", Question::Compare, &[1 << 12]), ("between, decided by the width", Question::Between, &[0, 1 << 12]),
             ("take of 1 % random", Question::Take, &places), ("take of 1 % in runs of 64", Question::Take, &runs), ("filter of a tenth", Question::Filter, &mask),
         ];
         for (name, question, numbers) in cases {
@@ -109,16 +109,17 @@ fn plain() {
             (ours, best(|| { black_box(black_box(&slice).ask(question, black_box(numbers))); }))
         });
     }
-    let patched = ten_bits(len, 100);
-    let cases: [(&str, Encoding, &[u32]); 5] = [
-        ("encode FoR", Encoding::FoR, &items), ("encode FoR by chunks", Encoding::ChunkedFoR, &items), ("encode delta", Encoding::Delta, &sorted),
-        ("encode RLE, runs of 16", Encoding::RLE, &runs), ("encode at the best width, 1 % patches", Encoding::BestWidth, &patched),
+    let (patched, half_patched) = (ten_bits(len, 100), ten_bits(len, 2));
+    let cases: [(&str, Encoding, usize, &[u32]); 6] = [
+        ("encode FoR", Encoding::FoR, 0, &items), ("encode FoR by chunks", Encoding::ChunkedFoR, 0, &items), ("encode delta", Encoding::Delta, 0, &sorted),
+        ("encode RLE, runs of 16", Encoding::RLE, 0, &runs), ("encode at the best width, 1 % patches", Encoding::BestWidth, 0, &patched),
+        ("encode at width 31, half of the items patches", Encoding::BitPacked, 31, &half_patched),
     ];
-    for (name, encoding, items) in cases {
+    for (name, encoding, width, items) in cases {
         beside_the_loop(name, len, |null_every| {
             let slice = Slice { items, valid: valid_of(null_every) };
-            let ours = Array { encoding, width: 0, null_every, items }.encode();
-            (ours, best(|| black_box(&slice).encode(encoding)))
+            let ours = Array { encoding, width, null_every, items }.encode();
+            (ours, best(|| black_box(&slice).encode(encoding, width)))
         });
     }
 }

@@ -7,7 +7,7 @@ mod rle_array_ext;
 mod rle_data;
 mod rle_probe;
 
-ghost use Rattle.std.specs.Prelude.{◌≡◌, ◌+◌, ◌-◌, ◌*◌, ◌/◌, ◌%◌, ◌<◌, ◌≤◌, ℕ, IfErr, IfOk, IsTrue, None, Ok, false, length, pos, true, unsigned_abs, unwrap_or};
+ghost use Rattle.std.specs.Prelude.{◌≡◌, ◌+◌, ◌-◌, ◌*◌, ◌/◌, ◌%◌, ◌<◌, ◌≤◌, ℕ, IfErr, IfOk, IsTrue, None, Ok, false, length, pos, true, min, unsigned_abs, unwrap_or};
 ghost use Rattle.fl_types.specs.declared.error.FastLanesError.TheVariants.{OutOfMemory};
 ghost use Rattle.fl_types.specs.Refusals.{Answers};
 ghost use Rattle.fl_types.specs.Values.{scalar_parts};
@@ -32,7 +32,7 @@ pub use crate::rle::rle_data::{RLEData, equal_data};
 pub use crate::rle::rle_probe::RleProbeState;
 use fastlanes::FL_CHUNK_SIZE;
 use fl_codec::laws::runs_and_back;
-use fl_codec::rle::children::{kept_values, rle_types_refusal};
+use fl_codec::rle::children::rle_types_refusal;
 use fl_codec::rle::refusals::runs_refusal;
 use fl_codec::rle::{Runs, decode, encode};
 use fl_column::{DType, FastLanesError, PrimitiveArray, Scalar, Validity, chunk_count};
@@ -436,17 +436,8 @@ impl RLEArray {
         }
     }
 
-    /// The ranges of the chunks that hold the items from `start` to below `end`, of their run indices and of
-    /// their run values.
-    pub(crate) fn chunk_ranges(
-        &self,
-        offsets: &PrimitiveArray,
-        count: usize,
-        start: usize,
-        end: usize,
-    ) -> ChunkRanges
-        requires offsets { column_of_primitive offsets.now ≡ column self.now.offsets }
-        requires count { count ≡ length (column self.now.values).items }
+    /// The chunks that hold the items from `start` to below `end`, and the range of their run indices.
+    pub(crate) fn chunk_ranges(&self, start: usize, end: usize) -> ChunkRanges
         requires order { start ≤ end }
         requires range { end ≤ length (column (tree_of_rle self.now)).items }
         ensures first { result.first ≡ first_chunk self.now.window.offset start }
@@ -457,25 +448,63 @@ impl RLEArray {
         ensures index_last { result.index_last ≡ 1024 * end_chunk self.now.window.offset end }
         ensures index_order { result.index_first ≤ result.index_last }
         ensures index_range { result.index_last ≤ length (column self.now.indices).items }
-        ensures from { result.from ≡ kept_values_start (numbers_of (column self.now.offsets)) (first_chunk self.now.window.offset start) (end_chunk self.now.window.offset end) }
-        ensures to { result.to ≡ kept_values_end (numbers_of (column self.now.offsets)) (length (column self.now.values).items) (first_chunk self.now.window.offset start) (end_chunk self.now.window.offset end) }
-        ensures value_order { result.from ≤ result.to }
-        ensures value_range { result.to ≤ length (column self.now.values).items }
     {
         self.prove_well_formed();
         let (offset, _len, _total) = (self.offset(), self.len(), self.indices().len());
-        let _chunks = offsets.len();
         let first = (offset + start) / FL_CHUNK_SIZE;
         let last = chunk_count(offset + end);
-        let (from, to) = kept_values(offsets, count, first, last);
         ChunkRanges {
             first,
             last,
             index_first: FL_CHUNK_SIZE * first,
             index_last: FL_CHUNK_SIZE * last,
-            from,
-            to,
         }
+    }
+
+    /// Where the run values of the chunks that hold the items from `start` to below `end` start and end, by the first
+    /// run offset of all, that of the first of these chunks, and that of the chunk behind them or the last one.
+    pub(crate) fn kept_values(
+        &self,
+        least: Scalar,
+        from: Scalar,
+        to: Scalar,
+        start: usize,
+        end: usize,
+    ) -> (usize, usize)
+        requires order { start ≤ end }
+        requires range { end ≤ length (column (tree_of_rle self.now)).items }
+        requires some { first_chunk self.now.window.offset start < end_chunk self.now.window.offset end }
+        requires least { scalar_parts least ≡ scalar_in (column self.now.offsets) 0 }
+        requires from { scalar_parts from ≡ scalar_in (column self.now.offsets) (first_chunk self.now.window.offset start) }
+        requires to { scalar_parts to ≡ scalar_in (column self.now.offsets) (min (end_chunk self.now.window.offset end) (length (column self.now.offsets).items - 1)) }
+        ensures from { result.0 ≡ kept_values_start (numbers_of (column self.now.offsets)) (first_chunk self.now.window.offset start) (end_chunk self.now.window.offset end) }
+        ensures to { result.1 ≡ kept_values_end (numbers_of (column self.now.offsets)) (length (column self.now.values).items) (first_chunk self.now.window.offset start) (end_chunk self.now.window.offset end) }
+        ensures order { result.0 ≤ result.1 }
+        ensures range { result.1 ≤ length (column self.now.values).items }
+    {
+        self.prove_well_formed();
+        let _len = self.len();
+        let kept = self.chunk_ranges(start, end);
+        let first = self.start_from(least, from, kept.first);
+        let last = if kept.last < self.offsets().len() {
+            self.start_from(least, to, kept.last)
+        } else {
+            self.values().len()
+        };
+        (first, last)
+    }
+
+    /// The range of no run values, where no chunk holds an item.
+    pub(crate) fn no_values(&self, start: usize, end: usize) -> (usize, usize)
+        requires order { start ≤ end }
+        requires range { end ≤ length (column (tree_of_rle self.now)).items }
+        requires none { end_chunk self.now.window.offset end ≤ first_chunk self.now.window.offset start }
+        ensures from { result.0 ≡ kept_values_start (numbers_of (column self.now.offsets)) (first_chunk self.now.window.offset start) (end_chunk self.now.window.offset end) }
+        ensures to { result.1 ≡ kept_values_end (numbers_of (column self.now.offsets)) (length (column self.now.values).items) (first_chunk self.now.window.offset start) (end_chunk self.now.window.offset end) }
+        ensures order { result.0 ≤ result.1 }
+        ensures range { result.1 ≤ length (column self.now.values).items }
+    {
+        (0, 0)
     }
 
     /// The item at an index, with the column's type.
@@ -509,9 +538,17 @@ impl RLEArray {
     {
         self.prove_integers();
         let _total = self.len();
-        let plain = self.offsets().to_primitive(alloc)?;
-        let kept = self.chunk_ranges(&plain, self.values().len(), start, end);
-        let values = self.values().slice(alloc, kept.from..kept.to)?;
+        let kept = self.chunk_ranges(start, end);
+        let (from, to) = if kept.first < kept.last {
+            let behind = kept.last.min(self.offsets().len() - 1);
+            let least = self.offsets().scalar_at(alloc, 0)?;
+            let from = self.offsets().scalar_at(alloc, kept.first)?;
+            let to = self.offsets().scalar_at(alloc, behind)?;
+            self.kept_values(least, from, to, start, end)
+        } else {
+            self.no_values(start, end)
+        };
+        let values = self.values().slice(alloc, from..to)?;
         let indices = self
             .indices()
             .slice(alloc, kept.index_first..kept.index_last)?;
@@ -583,13 +620,11 @@ impl RLEArray {
     }
 }
 
-/// The ranges of some chunks, of their run indices and of their run values.
+/// The ranges of some chunks and of their run indices.
 #[derive(Clone, Copy)]
 pub(crate) struct ChunkRanges {
     pub(crate) first: usize,
     pub(crate) last: usize,
     pub(crate) index_first: usize,
     pub(crate) index_last: usize,
-    pub(crate) from: usize,
-    pub(crate) to: usize,
 }

@@ -1,6 +1,7 @@
-//! Casts of arrays. Where the integer type stays, a bit-packed array of one width and a delta array are cast
-//! in place and a FoR array over its encoded array's cast. A run-length encoded array is cast over the casts
-//! of its run values and run indices, where all that are stored have one. Everything else is decoded first.
+//! Casts of arrays. Where the integer type stays, a bit-packed array of one width is cast in place, and so is a delta
+//! array unless only the source's type has nulls; a FoR array is cast over its encoded array's cast. A run-length encoded
+//! array is cast over the casts of its run values and run indices, where all that are stored have one. Everything else
+//! is decoded first.
 
 ghost use Rattle.std.specs.Prelude.{◌≡◌, ◌&&◌, is_none, not, true, IfOk, IsTrue, Ok};
 ghost use Rattle.std.specs.List.{list_any};

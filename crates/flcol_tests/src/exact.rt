@@ -94,9 +94,15 @@ const ASKED: &[&str] = &[
     "encode u16 blocked then run slice:1000:1025 id | 3*1024 1000 = fastlanes.bitpacked.v2",
     "encode u16 blocked then run slice:1000:1025 decode | 3*1024 1000 = 3*24 1000",
     "encode u16 blocked then run take:1024,null,0 decode | 3*1024 1000 = 1000 null 3",
+    // A slice of deltas, or of items less a reference for each chunk, keeps its offset in the first block.
+    "encode u8 delta then run slice:100:1024 store | 0..1024%256 = part 05000000,0880081064",
+    "encode i16 forc then run slice:500:2048 store | 5*1024 -7*1024 = part 03000000,08f403",
     "encode u32 bitpacked:2 then run slice:1:3 decode | 1 2 3 = 2 3",
     "encode u32 bitpacked:2 then run at:3 | 1 2 3 = error 30 IndexOutOfBounds",
     "pack u8 9 | 0*128 1 = error 4 WidthTooLarge",
+    // The best width is that of the type.
+    "encode u8 bitpacked | 255*100 = error 4 WidthTooLarge",
+    "encode u8 blocked | 255*1024 = error 5 AllBlocksNative",
 ];
 
 #[test]

@@ -197,6 +197,9 @@ const SOUND: &[&str] = &[
     "run decode | vortex.constant u8 18446744073709551615 2005 - 0 = error 1 OutOfMemory",
     "run decode | fastlanes.bitpacked u32 18446744073709550592 - 00*0 0 = error 1 OutOfMemory",
     "run decode | vortex.constant i32 18446744073709551615 1805 - 0 | fastlanes.for i32 18446744073709551615 1800 - 1 = error 1 OutOfMemory",
+    // What would be longer than any array; a range beyond the length comes first.
+    "run ranges:0+18446744073709551615,0+1 decode | vortex.constant u8 18446744073709551615 2005 - 0 = error 8 LengthOverflow",
+    "run ranges:0+18446744073709551615,1+18446744073709551615 decode | vortex.constant u8 18446744073709551615 2005 - 0 = error 31 RangeOutOfBounds",
 ];
 
 #[test]

@@ -1,4 +1,4 @@
-//! Encoded arrays: what their data are printed as and hashed to, and constructors that test nothing.
+//! Encoded arrays: what their data are printed as and hashed to.
 
 use std::alloc::Global;
 use std::collections::HashMap;
@@ -49,7 +49,40 @@ fn keys(alloc: Global) -> Result<usize, FastLanesError> {
     Ok(offsets.len())
 }
 
+/// The same of run-length encoded arrays.
+fn run_keys(alloc: Global) -> Result<usize, FastLanesError> {
+    let mut offsets: HashMap<RLEData, u8> = HashMap::new(alloc);
+    for offset in [7, 8, 7] {
+        offsets.insert(RLEData::try_new(offset)?, 0)?;
+    }
+    Ok(offsets.len())
+}
+
+/// The same of FoR arrays, by their references.
+fn for_keys(alloc: Global) -> Result<usize, FastLanesError> {
+    let mut references: HashMap<FoRData, u8> = HashMap::new(alloc);
+    for reference in [7, 8, 7] {
+        let array = FoR::encode(alloc, &column(alloc, &[reference])?)?;
+        references.insert(FoRArrayExt::data(&array), 0)?;
+    }
+    Ok(references.len())
+}
+
+/// The same of bit-packed arrays, by their widths.
+fn packed_keys(alloc: Global) -> Result<usize, FastLanesError> {
+    let mut widths: HashMap<BitPackedData, u8> = HashMap::new(alloc);
+    for width in [7, 8, 7] {
+        let array = bitpack_encode(alloc, &column(alloc, &[5])?, width, None)?;
+        widths.insert(BitPackedArrayExt::data(&array)?, 0)?;
+    }
+    Ok(widths.len())
+}
+
 #[test]
 fn equal_data_are_one_key(rt: HostRuntime) {
-    assert!(rt; keys(rt.alloc()) == Ok(2));
+    let alloc = rt.alloc();
+    assert!(rt; keys(alloc) == Ok(2));
+    assert!(rt; run_keys(alloc) == Ok(2));
+    assert!(rt; for_keys(alloc) == Ok(2));
+    assert!(rt; packed_keys(alloc) == Ok(2));
 }

@@ -8,11 +8,13 @@ mod array_calls;
 mod bit_calls;
 mod column_calls;
 mod encoder_calls;
+mod engine_calls;
 mod inputs;
 mod node_calls;
 mod outcome;
 mod owned_calls;
 mod packed_calls;
+mod reader_calls;
 
 use self::inputs::{Inputs, Owned};
 use self::outcome::Came;
@@ -142,6 +144,10 @@ pub(crate) fn ask(
     let Some(requests) = requests_of(memory) else {
         return false;
     };
-    ask_call(alloc, requests, kind, (*name, words), columns, answer);
+    match *name {
+        "flcol" => engine_calls::ask(alloc, requests, kind, words, columns, answer),
+        "words" => engine_calls::ask_words(alloc, requests, words, answer),
+        _ => ask_call(alloc, requests, kind, (*name, words), columns, answer),
+    }
     true
 }

@@ -71,6 +71,9 @@ pub fn unpack_array_blocked(
         BitWidthsView::Global(_) => unreachable!(),
         BitWidthsView::Blocked(boundaries) => {
             array.prove_integers();
+            if let Some(constant) = boundaries.as_constant() {
+                return array.decode_without_bytes(alloc, boundaries, constant);
+            }
             array.prove_boundaries_are_integers(boundaries);
             let plain = boundaries.to_primitive(alloc)?;
             array.decode_blocked(alloc, boundaries, &plain)

@@ -2,10 +2,10 @@
 
 use crate::text::Text;
 use crate::{packing, patches, shown};
-use fl_array::bitpacking::{BitPackedArray, BitWidthsView};
-use fl_array::delta::DeltaArray;
-use fl_array::for_::{FoRArray, FoRReferences};
-use fl_array::rle::RLEArray;
+use fl_array::bitpacking::{BitPackedArray, BitPackedArrayExt, BitWidthsView};
+use fl_array::delta::{DeltaArray, DeltaArrayExt};
+use fl_array::for_::{FoRArray, FoRArrayExt, FoRReferences};
+use fl_array::rle::{RLEArray, RLEArrayExt};
 use std::alloc::Global;
 use vortex_fastlanes::array::ArrayRef;
 
@@ -42,9 +42,10 @@ fn encoding(array: &ArrayRef) -> &'static str {
             BitWidthsView::Blocked(_) => "blocked",
         }
     } else if let Some(array) = array.as_for() {
-        match array.references() {
-            FoRReferences::Global(_) => "for",
-            FoRReferences::Blocked(_) => "forc",
+        if array.references().is_global() {
+            "for"
+        } else {
+            "forc"
         }
     } else if array.as_delta().is_some() {
         "delta"
@@ -161,13 +162,16 @@ fn widths(alloc: Global, array: &BitPackedArray, answer: &mut Text) {
 
 /// Adds the parts of a bit-packed array, its bytes and its validity aside.
 fn packed_parts(alloc: Global, array: &BitPackedArray, answer: &mut Text) {
-    let data = array.packed_data();
-    window(answer, data.offset(), data.len());
+    window(
+        answer,
+        usize::from(BitPackedArrayExt::offset(array)),
+        BitPackedArrayExt::len(array),
+    );
     answer.word("bytes");
-    answer.count(data.packed().len());
+    answer.count(BitPackedArrayExt::packed(array).len());
     widths(alloc, array, answer);
     answer.word("|");
-    match data.patches() {
+    match BitPackedArrayExt::patches(array) {
         Some(patches) => patches::parts(answer, patches),
         None => answer.word("unpatched"),
     }
@@ -176,28 +180,34 @@ fn packed_parts(alloc: Global, array: &BitPackedArray, answer: &mut Text) {
 /// Adds the parts of an array less references.
 fn for_parts(alloc: Global, array: &FoRArray, answer: &mut Text) {
     answer.word("offset");
-    answer.count(array.offset());
+    answer.count(FoRArrayExt::offset(array));
     answer.word("|");
-    match array.references() {
+    match FoRArrayExt::references(array) {
         FoRReferences::Global(reference) => shown::scalar(answer, *reference),
         FoRReferences::Blocked(references) => shown::made(answer, references.to_primitive(alloc)),
     }
-    part(alloc, array.encoded(), answer);
+    part(alloc, FoRArrayExt::slots(array).encoded, answer);
 }
 
 /// Adds the parts of an array of deltas, its validity aside.
 fn delta_parts(alloc: Global, array: &DeltaArray, answer: &mut Text) {
-    window(answer, array.offset(), array.len());
-    part(alloc, array.bases(), answer);
-    part(alloc, array.deltas(), answer);
+    window(
+        answer,
+        DeltaArrayExt::offset(array),
+        DeltaArrayExt::len(array),
+    );
+    let slots = DeltaArrayExt::slots(array);
+    part(alloc, slots.bases, answer);
+    part(alloc, slots.deltas, answer);
 }
 
 /// Adds the parts of a run-length encoded array.
 fn rle_parts(alloc: Global, array: &RLEArray, answer: &mut Text) {
-    window(answer, array.offset(), array.len());
-    part(alloc, array.values(), answer);
-    part(alloc, array.indices(), answer);
-    part(alloc, array.offsets(), answer);
+    window(answer, RLEArrayExt::offset(array), RLEArrayExt::len(array));
+    let slots = RLEArrayExt::slots(array);
+    part(alloc, slots.values, answer);
+    part(alloc, slots.indices, answer);
+    part(alloc, slots.values_idx_offsets, answer);
 }
 
 /// Adds the parts of an encoded array.

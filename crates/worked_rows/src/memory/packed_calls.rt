@@ -5,8 +5,9 @@ ghost use Rattle.std.specs.Prelude.{◌≡◌};
 use super::column_calls;
 use super::inputs::Inputs;
 use super::outcome::{Came, Outcome};
+use super::reader_calls::{self, packed_slice};
 use crate::columns::count;
-use fl_array::bitpacking::{BitPackedArray, BitPackedArrayExt, BitWidths, BitWidthsView};
+use fl_array::bitpacking::{BitPackedArray, BitWidths};
 use fl_array::for_::decompress;
 use fl_array::rle::{RLE, RLEArray, RLEArrayExt, RleProbeState, rle_decompress};
 use fl_patches::Patches;
@@ -17,11 +18,7 @@ use vortex_fastlanes::bitpack_decompress::{
     unpack_array, unpack_array_blocked, unpack_primitive_array, unpack_single,
     unpack_single_blocked,
 };
-use vortex_fastlanes::unpack_iter::{self, BitPackingStrategy, UnpackedChunks};
-use vortex_fastlanes::{
-    BitPacked, FL_CHUNK_SIZE, FastLanesError, NativePType, PhysicalPType, PrimitiveArray,
-    delta_decompress,
-};
+use vortex_fastlanes::{BitPacked, FastLanesError, NativePType, delta_decompress};
 
 /// The patches that the operation of the row selects.
 fn select(alloc: Global, patches: &Patches, inputs: &Inputs) -> Came {
@@ -107,51 +104,6 @@ fn owned_widths(alloc: Global, array: &BitPackedArray) -> Came {
     }
 }
 
-/// The packed bytes as words.
-fn packed_slice<T: PhysicalPType>(alloc: Global, array: &BitPackedArray) -> Came {
-    let data = BitPackedArrayExt::data(array)?;
-    let words = data.packed_slice::<T>(alloc)?;
-    Ok(Outcome::Column(PrimitiveArray::non_nullable(words)))
-}
-
-/// The sum of items that are not negative.
-fn sum_of<T: NativePType>(items: &[T]) -> Came {
-    let mut sum = 0usize;
-    for item in items {
-        sum = sum.saturating_add(usize::try_from(item.as_i128()).unwrap_or(usize::MAX));
-    }
-    Ok(Outcome::Number(sum))
-}
-
-/// The sum of the items, at most 1024 of them, that a reader of blocks writes.
-fn read<T: unpack_iter::BitPacked>(bytes: &[u8], width: usize, offset: usize, len: usize) -> Came {
-    T::prove_fits_in_memory();
-    if width > T::PTYPE.bit_width() || len > 1024 {
-        return Err(FastLanesError::LengthOverflow);
-    }
-    let (mut scratch, mut room) = ([T::zero(); FL_CHUNK_SIZE], [T::zero(); 1024]);
-    let strategy = BitPackingStrategy;
-    match UnpackedChunks::try_new_with_strategy(strategy, bytes, width, offset, len, &mut scratch) {
-        Ok(mut chunks) => {
-            chunks.decode_into(&mut room[..len]);
-            sum_of(&room)
-        }
-        Err(refusal) => Err(refusal),
-    }
-}
-
-/// Reads the blocks of an array.
-fn read_blocks(array: &BitPackedArray) -> Came {
-    let data = array.packed_data();
-    match array.bit_widths() {
-        BitWidthsView::Global(width) => {
-            let (bytes, width) = (data.packed().as_slice(), usize::from(width));
-            match_each_integer_ptype!(data.ptype(), read(bytes, width, data.offset(), data.len()))
-        }
-        BitWidthsView::Blocked(_) => Err(FastLanesError::NotGlobal),
-    }
-}
-
 /// Makes a call on a bit-packed array.
 fn on_bitpacked(
     alloc: Global,
@@ -169,8 +121,13 @@ fn on_bitpacked(
         ("single_global", [i]) => single_global(array, count(i)),
         ("counted", [i]) => counted(alloc, array, count(i)),
         ("widths", []) => owned_widths(alloc, array),
-        ("packed_slice", []) => match_each_integer_ptype!(ptype, packed_slice(alloc, array)),
-        ("read", []) => read_blocks(array),
+        ("packed_slice" | "packed_slice_of_data", []) => {
+            let of_data = name == "packed_slice_of_data";
+            match_each_integer_ptype!(ptype, packed_slice(alloc, array, of_data))
+        }
+        ("read" | "lent", []) => reader_calls::call(name, array),
+        ("stored_item", [i]) => reader_calls::stored_item(array, count(i)),
+        ("data", [width, offset]) => reader_calls::data_with(array, count(width), count(offset)),
         ("own_to_blocked", []) => {
             let blocked = BitPacked::to_blocked(alloc, array)?;
             Ok(Outcome::Array(blocked.into_array()))
@@ -247,7 +204,11 @@ const NAMES: &[&str] = &[
     "counted",
     "widths",
     "packed_slice",
+    "packed_slice_of_data",
     "read",
+    "lent",
+    "stored_item",
+    "data",
     "own_to_blocked",
 ];
 

@@ -1,0 +1,248 @@
+//! Calls of the program's engine, over ends in memory.
+
+ghost use Rattle.std.specs.Prelude.{◌≡◌, Some, false};
+
+use super::{Requests, behind, granted, request};
+use crate::arrays::building;
+use crate::packing;
+use crate::text::Text;
+use fl_column::PrimitiveArray;
+use flcol_container::write_container;
+use flcol_engine::commands::Command;
+use flcol_engine::ends::{ReadFault, Sink, Source, WriteFault};
+use flcol_engine::fault::Fault;
+use flcol_engine::{engine, words};
+use std::alloc::Global;
+use vortex_fastlanes::FastLanesError;
+use vortex_fastlanes::plugin::serialize;
+
+/// A source in memory.
+#[derive(Drop)]
+struct Input<'a> {
+    bytes: &'a [u8],
+}
+
+impl Source for Input<'_> {
+    ghost left = { λ s. Some s.bytes.now };
+
+    ghost has_failed = { λ _. false };
+
+    fn read(&mut self, buf: &mut [u8]) -> Result<usize, ReadFault> {
+        let n = self.bytes.len().min(buf.len());
+        let (front, rest) = self.bytes.split_at(n);
+        buf[..n].copy_from_slice(front);
+        self.bytes = rest;
+        Ok(n)
+    }
+}
+
+/// A sink in memory, with room for small outputs.
+#[derive(Drop)]
+struct Output {
+    bytes: Vec<u8>,
+    failed: bool,
+    flushed: bool,
+}
+
+impl Output {
+    fn new(alloc: Global) -> Result<Output, FastLanesError> {
+        Ok(Output {
+            bytes: Vec::with_capacity(alloc, 1 << 15)?,
+            failed: false,
+            flushed: true,
+        })
+    }
+}
+
+impl Sink for Output {
+    ghost written = { λ s. Some s.bytes.items };
+
+    ghost has_failed = { λ s. s.failed };
+
+    ghost is_flushed = { λ s. s.flushed };
+
+    fn write(&mut self, buf: &[u8]) -> Result<usize, WriteFault> {
+        self.flushed = false;
+        if self.bytes.extend_from_slice(buf).is_err() {
+            self.failed = true;
+            return Err(WriteFault);
+        }
+        Ok(buf.len())
+    }
+
+    fn flush(&mut self) -> Result<(), WriteFault> {
+        self.flushed = true;
+        Ok(())
+    }
+}
+
+/// A command and what it reads.
+#[derive(Drop)]
+struct Run {
+    command: Command,
+    input: Vec<u8>,
+    output: Output,
+}
+
+/// A column as lines of text.
+fn lines(alloc: Global, column: &PrimitiveArray) -> Result<Vec<u8>, FastLanesError> {
+    let mut text = String::new(alloc);
+    for i in 0..column.len() {
+        match column.get(i) {
+            Some(value) => {
+                let integer = value.as_i128();
+                write!(text, "{integer}\n").map_err(|_| FastLanesError::OutOfMemory)?;
+            }
+            None => text.push_str("null\n")?,
+        }
+    }
+    Ok(text.into_bytes())
+}
+
+/// The container of an array of a kind.
+fn container(
+    alloc: Global,
+    kind: &str,
+    column: &PrimitiveArray,
+) -> Result<Vec<u8>, FastLanesError> {
+    let array = building::array(alloc, kind, column)?;
+    let node = serialize(alloc, &array)?;
+    write_container(alloc, &node).map_err(|_| FastLanesError::OutOfMemory)
+}
+
+/// The words of a line as the program gets them.
+fn words_of(alloc: Global, line: &[&str]) -> Result<Vec<String>, FastLanesError> {
+    let mut words = Vec::new(alloc);
+    for word in line {
+        words.push(String::from_str(alloc, word)?)?;
+    }
+    Ok(words)
+}
+
+/// The command that words name.
+fn command(alloc: Global, line: &[&str]) -> Result<Command, FastLanesError> {
+    let words = words_of(alloc, line)?;
+    match words::command(alloc, &words)? {
+        Some(command) => Ok(command),
+        None => Err(FastLanesError::UnknownId),
+    }
+}
+
+fn set_up(
+    alloc: Global,
+    kind: &str,
+    line: &[&str],
+    column: &PrimitiveArray,
+) -> Result<Run, FastLanesError> {
+    let command = command(alloc, line)?;
+    let input = match &command {
+        Command::Run(_) => container(alloc, kind, column)?,
+        _ => lines(alloc, column)?,
+    };
+    let output = Output::new(alloc)?;
+    Ok(Run {
+        command,
+        input,
+        output,
+    })
+}
+
+/// Makes the engine's call.
+fn call(
+    alloc: Global,
+    command: &Command,
+    source: &mut Input,
+    sink: &mut Output,
+) -> Result<(), Fault>
+    requires { sink.old.failed ≡ false }
+{
+    match command {
+        Command::Pack(pack) => engine::pack(alloc, *pack, source, sink),
+        Command::Encode(encode) => engine::encode(alloc, *encode, source, sink),
+        Command::Run(run) => engine::run(alloc, run, source, sink),
+    }
+}
+
+/// Adds why the engine refused, and what it has written all the same.
+fn refused(fault: Fault, written: &[u8], answer: &mut Text) {
+    match fault {
+        Fault::Refused(refusal) => answer.refusal(refusal),
+        other => {
+            answer.word("fault");
+            answer.count(usize::from(other.number()));
+        }
+    }
+    if !written.is_empty() {
+        answer.word("but written");
+        packing::show(answer, written);
+    }
+}
+
+/// Answers what the engine writes.
+fn answer_run(alloc: Global, requests: Requests, made: Run, answer: &mut Text) {
+    let Run {
+        command,
+        input,
+        mut output,
+    } = made;
+    if output.failed {
+        return;
+    }
+    let before = request(alloc, requests.before);
+    let mut source = Input { bytes: &input };
+    let came = call(alloc, &command, &mut source, &mut output);
+    let behind = behind(alloc, requests);
+    match came {
+        Ok(()) => packing::show(answer, &output.bytes),
+        Err(fault) => refused(fault, &output.bytes, answer),
+    }
+    granted("before", before, requests.before, answer);
+    granted("behind", behind, requests.behind, answer);
+}
+
+/// Answers whether words are a command.
+fn answer_words(alloc: Global, requests: Requests, words: &[String], answer: &mut Text) {
+    let before = request(alloc, requests.before);
+    let came = words::command(alloc, words);
+    let behind = behind(alloc, requests);
+    match came {
+        Ok(Some(_)) => answer.word("command"),
+        Ok(None) => answer.word("usage"),
+        Err(refusal) => answer.refusal(refusal),
+    }
+    granted("before", before, requests.before, answer);
+    granted("behind", behind, requests.behind, answer);
+}
+
+/// Answers whether a line of words is a command.
+pub(super) fn ask_words(alloc: Global, requests: Requests, line: &[&str], answer: &mut Text) {
+    match words_of(alloc, line) {
+        Ok(words) => answer_words(alloc, requests, &words, answer),
+        Err(refusal) => {
+            answer.word("set-up");
+            answer.refusal(refusal);
+        }
+    }
+}
+
+/// Answers what the engine writes for the program's words: of a column's lines, or of its container as an array of a
+/// kind.
+pub(super) fn ask(
+    alloc: Global,
+    requests: Requests,
+    kind: &str,
+    line: &[&str],
+    columns: &[PrimitiveArray],
+    answer: &mut Text,
+) {
+    let [column, ..] = columns else {
+        return;
+    };
+    match set_up(alloc, kind, line, column) {
+        Ok(made) => answer_run(alloc, requests, made, answer),
+        Err(refusal) => {
+            answer.word("set-up");
+            answer.refusal(refusal);
+        }
+    }
+}

@@ -1,0 +1,142 @@
+//! Calls on the packed words of a bit-packed array, on readers of its blocks, and on single packed items. All but the
+//! first take no memory.
+
+ghost use Rattle.std.specs.Prelude.{◌≡◌};
+
+use super::outcome::{Came, Outcome};
+use fl_array::bitpacking::{BitPackedArray, BitPackedArrayExt, BitWidthsView};
+use fl_types::match_each_integer_ptype;
+use std::alloc::Global;
+use vortex_fastlanes::bitpack_decompress::unpack_single_primitive;
+use vortex_fastlanes::unpack_iter::{
+    BitPacked, BitPackingStrategy, BitUnpackedChunks, UnpackedChunks, UnpackedItems,
+};
+use vortex_fastlanes::{
+    BitPackedData, FL_CHUNK_SIZE, FastLanesError, NativePType, PhysicalPType, PrimitiveArray,
+};
+
+/// The packed bytes as words, by the array and by its data.
+pub(super) fn packed_slice<T: PhysicalPType>(
+    alloc: Global,
+    array: &BitPackedArray,
+    of_data: bool,
+) -> Came {
+    let words = if of_data {
+        let data = BitPackedArrayExt::data(array)?;
+        data.packed_slice::<T>(alloc)?
+    } else {
+        BitPackedArrayExt::packed_slice::<T>(array, alloc)?
+    };
+    Ok(Outcome::Column(PrimitiveArray::non_nullable(words)))
+}
+
+/// An item that is not negative.
+fn number_of<T: NativePType>(item: T) -> usize {
+    usize::try_from(item.as_i128()).unwrap_or(usize::MAX)
+}
+
+/// The sum of items that are not negative.
+fn sum_of<T: NativePType>(items: &[T]) -> usize {
+    let mut sum = 0usize;
+    for item in items {
+        sum = sum.saturating_add(number_of(*item));
+    }
+    sum
+}
+
+/// The sum of the items that a reader lends, 0 where it lends none.
+fn sum_of_lent<T: BitPacked>(items: &UnpackedItems<'_, T>) -> usize {
+    match items.items() {
+        Some(items) => sum_of(items),
+        None => 0,
+    }
+}
+
+/// The sum of the items that a reader lends of the first and of the last block.
+fn sum_of_ends<T: BitPacked>(chunks: &mut BitUnpackedChunks<'_, T>) -> usize {
+    let first = sum_of_lent(&chunks.initial());
+    let last = sum_of_lent(&chunks.trailer());
+    first.saturating_add(last)
+}
+
+/// The sum of what a reader of the array lends.
+fn sum_lent<T: BitPacked>(array: &BitPackedArray) -> Came
+    requires { array.now.parts.ptype ≡ T.PTYPE }
+{
+    T::prove_fits_in_memory();
+    let mut scratch = [T::zero(); FL_CHUNK_SIZE];
+    match BitPackedArrayExt::unpacked_chunks::<T>(array, &mut scratch) {
+        Ok(mut chunks) => Ok(Outcome::Number(sum_of_ends(&mut chunks))),
+        Err(refusal) => Err(refusal),
+    }
+}
+
+/// The sum of the items, at most 1024 of them, that a reader of blocks writes.
+fn read<T: BitPacked>(bytes: &[u8], width: usize, offset: usize, len: usize) -> Came {
+    T::prove_fits_in_memory();
+    if width > T::PTYPE.bit_width() || len > 1024 {
+        return Err(FastLanesError::LengthOverflow);
+    }
+    let (mut scratch, mut room) = ([T::zero(); FL_CHUNK_SIZE], [T::zero(); 1024]);
+    let strategy = BitPackingStrategy;
+    match UnpackedChunks::try_new_with_strategy(strategy, bytes, width, offset, len, &mut scratch) {
+        Ok(mut chunks) => {
+            chunks.decode_into(&mut room[..len]);
+            Ok(Outcome::Number(sum_of(&room)))
+        }
+        Err(refusal) => Err(refusal),
+    }
+}
+
+/// Reads the blocks of an array.
+fn read_blocks(array: &BitPackedArray) -> Came {
+    let data = array.packed_data();
+    match array.bit_widths() {
+        BitWidthsView::Global(width) => {
+            let (bytes, width) = (data.packed().as_slice(), usize::from(width));
+            match_each_integer_ptype!(data.ptype(), read(bytes, width, data.offset(), data.len()))
+        }
+        BitWidthsView::Blocked(_) => Err(FastLanesError::NotGlobal),
+    }
+}
+
+/// An item as it is stored in packed bytes.
+fn item<T: PhysicalPType>(bytes: &[u8], width: usize, i: usize) -> Came {
+    let fits = 128 * width as u128 * (i as u128 / 1024 + 1) <= bytes.len() as u128;
+    if width > T::PTYPE.bit_width() || !fits {
+        return Err(FastLanesError::IndexOutOfBounds);
+    }
+    let item = unpack_single_primitive::<T>(bytes, width, i);
+    Ok(Outcome::Number(number_of(item)))
+}
+
+/// An item as it is stored in the bytes of an array whose blocks have one width.
+pub(super) fn stored_item(array: &BitPackedArray, i: usize) -> Came {
+    let data = array.packed_data();
+    match array.bit_widths() {
+        BitWidthsView::Global(width) => {
+            let (bytes, width) = (data.packed().as_slice(), usize::from(width));
+            match_each_integer_ptype!(data.ptype(), item(bytes, width, i))
+        }
+        BitWidthsView::Blocked(_) => Err(FastLanesError::NotGlobal),
+    }
+}
+
+/// The offset of data of the array's bytes with another width and offset.
+pub(super) fn data_with(array: &BitPackedArray, width: usize, offset: usize) -> Came {
+    let packed = array.packed_data().packed().clone()?;
+    let width = u8::try_from(width).unwrap_or(u8::MAX);
+    let offset = u16::try_from(offset).unwrap_or(u16::MAX);
+    let data = BitPackedData::try_new(packed, array.packed_data().patches(), width, offset)?;
+    Ok(Outcome::Number(usize::from(data.offset())))
+}
+
+/// Makes a call on a reader of an array.
+pub(super) fn call(name: &str, array: &BitPackedArray) -> Came {
+    let ptype = array.packed_data().ptype();
+    match name {
+        "read" => read_blocks(array),
+        "lent" => match_each_integer_ptype!(ptype, sum_lent(array)),
+        _ => Ok(Outcome::NoSuchCall),
+    }
+}
