@@ -1,16 +1,20 @@
 -- Columns that are judged before they make a run-length encoded array.
-use Rattle.std.proofs.Common.{◌≡◌, ℕ, length, true, None, Ok, IsTrue, sym, ◌∙◌, refl}
+use Rattle.std.proofs.Common.{◌≡◌, ◌*◌, ◌/◌, ◌%◌, ℕ, length, true, None, Ok, IsTrue, ap, arith, sym, ◌∙◌, refl}
 use Rattle.std.specs.Prelude.{Result}
 use Rattle.fl_types.specs.declared.dtype.DType.{DType}
 use Rattle.fl_types.specs.declared.dtype.DType.TheVariants as dtypes
+use Rattle.fl_types.specs.declared.dtype.Nullability.{Nullability}
+use Rattle.fl_types.specs.declared.dtype.Nullability.TheVariants.{NonNullable, Nullable}
+use Rattle.fl_types.specs.declared.dtype.PType.{PType}
 use Rattle.fl_types.specs.declared.error.FastLanesError.{FastLanesError}
+use Rattle.fl_types.specs.Integers.{is_unsigned}
 use Rattle.fl_types.specs.Types.{is_index_type, is_integer}
-use Rattle.fl_types.specs.Validities.{covers}
-use Rattle.fl_column.specs.Columns.{Column, column_of_primitive}
-use Rattle.fl_codec.specs.Parts.{RunParts}
-use Rattle.fl_codec.specs.RunColumns.{runs_refusal}
-use Rattle.fl_codec.specs.RunRefusals.{is_run_index_dtype, rle_refusal, rle_types_refusal}
-use Rattle.fl_codec.proofs.RunTypes.{have_types, judged}
+use Rattle.fl_types.specs.Validities.{covers, nullability_of}
+use Rattle.fl_column.specs.Columns.{Column, PrimitiveParts, column_of_primitive, numbers_of}
+use Rattle.fl_column.proofs.ItemLaws.{length-items_of}
+use Rattle.fl_codec.specs.Parts.{items_of_primitive}
+use Rattle.fl_codec.specs.RunRefusals.{is_run_index_dtype, rle_numbers_refusal, rle_refusal, rle_types_refusal}
+use Rattle.fl_codec.proofs.RunTypes.{have_types}
 use Rattle.fl_array.specs.Reads.{integer_column}
 
 indices_are_integers : (dtype : DType) → is_run_index_dtype dtype ≡ true → is_integer dtype ≡ true
@@ -21,20 +25,22 @@ positions_are_integers : (dtype : DType) → is_index_type dtype ≡ true → is
 positions_are_integers (dtypes.Primitive ptype nullability) h = refl
 positions_are_integers (dtypes.Bool nullability) h = cc
 
+index_is_unsigned : (ptype : PType) (nullability : Nullability) → is_index_type (dtypes.Primitive ptype nullability) ≡ true → is_unsigned ptype ≡ true
+index_is_unsigned ptype NonNullable h = h
+index_is_unsigned ptype Nullable h = cc
+
 is_read : (c : Column) → is_integer c.dtype ≡ true → integer_column c ≡ Ok c
 is_read c h = rw h refl
 
 -- columns of accepted types are columns of integers
-pub record AreRead (v i o : Column) : Type 0 where
-  pub values : integer_column v ≡ Ok v
+pub record AreRead (i o : Column) : Type 0 where
   pub indices : integer_column i ≡ Ok i
   pub offsets : integer_column o ≡ Ok o
 
-pub are_read : (v i o : Column) (offset len : ℕ) → rle_types_refusal v.dtype i.dtype o.dtype (length i.items) (length o.items) offset len ≡ None → AreRead v i o
+pub are_read : (v i o : Column) (offset len : ℕ) → rle_types_refusal v.dtype i.dtype o.dtype (length i.items) (length o.items) offset len ≡ None → AreRead i o
 are_read v i o offset len h =
     let types = have_types v i o offset len h in
     record {
-      values = is_read v types.integer;
       indices = is_read i (indices_are_integers i.dtype types.index);
       offsets = is_read o (positions_are_integers o.dtype types.positions);
     }
@@ -44,19 +50,34 @@ read_is c d e h =
     let same : (let r : Result Column FastLanesError = Ok d in r) ≡ Ok c = sym e ∙ h in
     cc
 
-same_refusals : (v w i j o p : Column) (offset len : ℕ) → v ≡ w → i ≡ j → o ≡ p → rle_refusal v i o offset len ≡ rle_refusal w j p offset len
-same_refusals v w i j o p offset len e f g = rw (e, f, g) refl
+-- the decoded run indices and run offsets of accepted types and lengths
+pub record AreDecoded (i o : Column) (indices offsets : PrimitiveParts) : Type 0 where
+  pub indices_are : column_of_primitive indices ≡ i
+  pub offsets_are : column_of_primitive offsets ≡ o
+  pub unsigned : is_unsigned offsets.ptype ≡ true
+  pub whole : length indices.slots ≡ 1024 * length offsets.slots
 
-same_types : (v w i j o p : Column) (offset len : ℕ) → v ≡ w → i ≡ j → o ≡ p → rle_types_refusal w.dtype j.dtype p.dtype (length j.items) (length p.items) offset len ≡ None → rle_types_refusal v.dtype i.dtype o.dtype (length i.items) (length o.items) offset len ≡ None
-same_types v w i j o p offset len e f g h = rw (e, f, g) h
-
--- what is judged of the decoded columns is what is judged of the columns
-pub judged_read : (parts : RunParts) (v i o : Column) (offset len : ℕ) → rle_types_refusal v.dtype i.dtype o.dtype (length i.items) (length o.items) offset len ≡ None
-    → integer_column v ≡ Ok (column_of_primitive parts.values) → integer_column i ≡ Ok (column_of_primitive parts.indices) → integer_column o ≡ Ok (column_of_primitive parts.offsets)
-    → IsTrue (covers parts.values.validity (length parts.values.slots)) → IsTrue (covers parts.indices.validity (length parts.indices.slots)) → IsTrue (covers parts.offsets.validity (length parts.offsets.slots)) → runs_refusal parts offset len ≡ rle_refusal v i o offset len
-judged_read parts v i o offset len h e f g x y z =
+pub are_decoded : (v i o : Column) (indices offsets : PrimitiveParts) (offset len : ℕ) → rle_types_refusal v.dtype i.dtype o.dtype (length i.items) (length o.items) offset len ≡ None
+    → integer_column i ≡ Ok (column_of_primitive indices) → integer_column o ≡ Ok (column_of_primitive offsets)
+    → IsTrue (covers indices.validity (length indices.slots)) → IsTrue (covers offsets.validity (length offsets.slots)) → AreDecoded i o indices offsets
+are_decoded v i o indices offsets offset len h e f x y =
+    let types = have_types v i o offset len h in
     let read = are_read v i o offset len h in
-    let values = read_is v (column_of_primitive parts.values) e read.values in
-    let indices = read_is i (column_of_primitive parts.indices) f read.indices in
-    let offsets = read_is o (column_of_primitive parts.offsets) g read.offsets in
-    judged parts offset len x y z (same_types _ v _ i _ o offset len values indices offsets h) ∙ same_refusals _ v _ i _ o offset len values indices offsets
+    let is = read_is i (column_of_primitive indices) e read.indices in
+    let os = read_is o (column_of_primitive offsets) f read.offsets in
+    let many : length i.items ≡ length indices.slots = ap (λ (c : Column). length c.items) (sym is) ∙ length-items_of indices.validity indices.slots x in
+    let chunks : length o.items ≡ length offsets.slots = ap (λ (c : Column). length c.items) (sym os) ∙ length-items_of offsets.validity offsets.slots y in
+    let index : is_index_type (column_of_primitive offsets).dtype ≡ true = ap (λ (c : Column). is_index_type c.dtype) os ∙ types.positions in
+    let whole = types.whole in
+    let count = types.count in
+    record {
+      indices_are = is;
+      offsets_are = os;
+      unsigned = index_is_unsigned offsets.ptype (nullability_of offsets.validity) index;
+      whole = omega arith;
+    }
+
+-- of decoded run indices and run offsets the numbers alone are left to be judged
+pub judged_numbers : (v i o : Column) (indices offsets : PrimitiveParts) (offset len : ℕ) → rle_types_refusal v.dtype i.dtype o.dtype (length i.items) (length o.items) offset len ≡ None → AreDecoded i o indices offsets
+    → rle_numbers_refusal (length v.items) (items_of_primitive indices) (numbers_of (column_of_primitive offsets)) ≡ rle_refusal v i o offset len
+judged_numbers v i o indices offsets offset len h d = rw (h, ← d.indices_are, ← d.offsets_are) refl

@@ -33,7 +33,7 @@ pub use crate::rle::rle_probe::RleProbeState;
 use fastlanes::FL_CHUNK_SIZE;
 use fl_codec::laws::runs_and_back;
 use fl_codec::rle::children::rle_types_refusal;
-use fl_codec::rle::refusals::runs_refusal;
+use fl_codec::rle::refusals::numbers_refusal;
 use fl_codec::rle::{Runs, decode, encode};
 use fl_column::{DType, FastLanesError, PrimitiveArray, Scalar, Validity, chunk_count};
 use std::alloc::Global;
@@ -109,8 +109,9 @@ fn has_empty_chunk(offsets: &ArrayRef) -> bool
     }
 }
 
-/// Accepts run values, run indices and run offsets, or says why they make no array. Each is decoded for it,
-/// into memory that is asked for by one allocation, unless the run offsets of several chunks are a constant array.
+/// Accepts run values, run indices and run offsets, or says why they make no array. The indices and the offsets are
+/// decoded for it, each into memory that is asked for by one allocation, unless the run offsets of several chunks are a
+/// constant array. Of the run values only their number and type matter.
 fn accept_children(
     alloc: Global,
     values: &ArrayRef,
@@ -127,11 +128,10 @@ fn accept_children(
     if has_empty_chunk(offsets) {
         return Err(FastLanesError::RunOffsets);
     }
-    let named = values.to_primitive(alloc)?;
     let names = indices.to_primitive(alloc)?;
     let starts = offsets.to_primitive(alloc)?;
-    let (_named, _names, _starts) = (named.validity(), names.validity(), starts.validity());
-    match runs_refusal(&named, &names, &starts, offset, len) {
+    let (_names, _starts) = (names.validity(), starts.validity());
+    match numbers_refusal(values.len(), &names, &starts) {
         Some(refusal) => Err(refusal),
         None => Ok(()),
     }

@@ -1,5 +1,5 @@
 -- Integers in another type, and the nulls that hinder it.
-use Rattle.std.proofs.Common.{◌≡◌, ℕ, ℤ, suc, ◌+◌, ◌<◌, ◌&&◌, ◌||◌, not, Bool, true, false, List, [], ◌∷◌, length, map, Option, Some, None, option_map, is_some, is_none, IsTrue, if◌then◌else◌, cond, nat_lt, refl, ap, ◌∙◌, sym, arith}
+use Rattle.std.proofs.Common.{◌≡◌, ℕ, ℤ, zero, suc, get_or, ◌+◌, ◌<◌, ◌&&◌, ◌||◌, not, Bool, true, false, List, [], ◌∷◌, length, map, Option, Some, None, option_map, is_some, is_none, IsTrue, if◌then◌else◌, cond, nat_lt, refl, ◌∙◌, sym, arith}
 use Rattle.std.specs.List.{list_all, list_any}
 use Rattle.std.proofs.lemmas.Bool.{lt-ltb}
 use Rattle.std.proofs.lemmas.Bool.Decides.{Decides-int_eq, Decides-ltb, Decides-eqb, Decides-like, same_from_decides}
@@ -30,14 +30,6 @@ pub some_if : {A : Type 0} (b : Bool) (x y : A) → Some x ≡ (if b then Some y
 some_if true x y e = (refl, cc)
 some_if false x y e = cc
 
-pub cast_some : (b : Bool) (x y : ℤ) → Some x ≡ (if b then Some y else None) → Some (Some x) ≡ (if b then Some (Some y) else None)
-cast_some true x y e = ap (λ o. Some o) e
-cast_some false x y e = cc
-
-pub cast_none : (b : Bool) (y : ℤ) → None ≡ (if b then Some y else None) → None ≡ (if b then Some (Some y) else None)
-cast_none true y e = cc
-cast_none false y e = refl
-
 none_of_all : {A : Type 0} (xs : List A) → list_any is_none (map (λ x. Some x) xs) ≡ false
 none_of_all [] = refl
 none_of_all (x ∷ xs) = none_of_all xs
@@ -58,6 +50,23 @@ any_masked (true ∷ bits) (x ∷ xs) e =
     same_test _ _ _ _ (λ h. omega arith) (λ h. omega arith) ∙ any_masked bits xs (omega arith)
 any_masked (false ∷ bits) (x ∷ xs) e = let few = count_by-le-length (λ bit. bit) bits in lt-ltb _ _ (omega arith)
 
+-- a bit that is not set is not counted
+pub some_unset : (bits : List Bool) (i : ℕ) → i < length bits → get_or bits i false ≡ false → true ≡ nat_lt (true_count bits) (length bits)
+some_unset [] i h e = absurd (omega arith)
+some_unset (true ∷ bits) zero h e = cc
+some_unset (true ∷ bits) (suc i) h e =
+    let more : true_count (true ∷ bits) ≡ 1 + true_count bits = sum_by-cons (λ bit. cond bit 1 0) true bits in
+    some_unset bits i (omega arith) e ∙ sym (same_test _ _ _ _ (λ k. omega arith) (λ k. omega arith))
+some_unset (false ∷ bits) i h e = let few = count_by-le-length (λ bit. bit) bits in sym (lt-ltb _ _ (omega arith))
+
+-- bits that are all set are all counted
+pub none_unset : (bits : List Bool) → ((i : ℕ) → i < length bits → get_or bits i false ≡ true) → false ≡ nat_lt (true_count bits) (length bits)
+none_unset [] each = refl
+none_unset (true ∷ bits) each =
+    let more : true_count (true ∷ bits) ≡ 1 + true_count bits = sum_by-cons (λ bit. cond bit 1 0) true bits in
+    none_unset bits (λ i h. each (suc i) (omega arith)) ∙ sym (same_test _ _ _ _ (λ k. omega arith) (λ k. omega arith))
+none_unset (false ∷ bits) each = let first : false ≡ true = each 0 (omega arith) in cc
+
 -- an item is null where the validity says so
 pub any_null_is : {A : Type 0} (v : Validity) (xs : List A) (n : ℕ) → n ≡ length xs → IsTrue (covers v (length xs)) → any_null v n ≡ list_any is_none (items_of v xs)
 any_null_is valid.NonNullable xs n e k = sym (none_of_all xs)
@@ -65,7 +74,8 @@ any_null_is valid.AllValid xs n e k = sym (none_of_all xs)
 any_null_is valid.AllInvalid xs n e k = rw e (sym (any_of_nulls xs))
 any_null_is (valid.Array bits) xs n e k = rw e (any_masked bits xs ((Decides-eqb (length bits) (length xs)).0 k))
 
-no_null : {A : Type 0} (xs : List (Option A)) → list_any is_none xs ≡ false → list_all is_some xs ≡ true
+-- no item is null
+pub no_null : {A : Type 0} (xs : List (Option A)) → list_any is_none xs ≡ false → list_all is_some xs ≡ true
 no_null [] e = refl
 no_null (Some x ∷ xs) e = no_null xs e
 no_null (None ∷ xs) e = cc

@@ -1,5 +1,5 @@
 -- What loops that gather items keep from step to step, and what they have made at the end.
-use Rattle.std.proofs.Common.{◌≡◌, ℕ, ℤ, ◌+◌, ◌-◌, ◌<◌, ◌≤◌, ◌||◌, pos, List, [], ◌∷◌, ◌++◌, length, map, take, replicate, get_or, slice_get, Option, Some, None, option_map, option_and_then, unsigned_abs, is_some, IsTrue, if◌then◌else◌, true, false, Bool, Ok, Err, refl, ap, ◌∙◌, sym, arith}
+use Rattle.std.proofs.Common.{◌≡◌, ℕ, ℤ, ◌+◌, ◌-◌, ◌<◌, ◌≤◌, ◌||◌, pos, List, [], ◌∷◌, ◌++◌, length, map, take, replicate, get_or, slice_get, Option, Some, None, option_map, option_and_then, unsigned_abs, is_some, IsTrue, true, false, Bool, Ok, Err, refl, ap, ◌∙◌, sym, arith}
 use borrow.Author.Count.{below_more}
 use Rattle.std.specs.List.{list_all, flat_map}
 use Rattle.fl_types.specs.Bits.{between}
@@ -13,15 +13,14 @@ use Rattle.fl_types.specs.declared.scalar.PValue.{PValue}
 use Rattle.fl_types.specs.declared.dtype.DType.TheVariants.{Primitive}
 use Rattle.fl_types.specs.declared.dtype.PType.{PType}
 use Rattle.fl_types.specs.declared.dtype.Nullability.{Nullability}
-use Rattle.fl_types.specs.declared.error.FastLanesError.TheVariants.{CastOutOfRange, IndexOutOfBounds}
+use Rattle.fl_types.specs.declared.error.FastLanesError.TheVariants.{IndexOutOfBounds}
 use Rattle.fl_types.specs.declared.validity.Validity.{Validity}
-use Rattle.fl_column.specs.Columns.{PrimitiveParts, column_of_primitive, option_all}
-use Rattle.fl_column.specs.Operations.{cast_items, is_in_range, kept, range_fits}
+use Rattle.fl_column.specs.Columns.{PrimitiveParts, column_of_primitive}
+use Rattle.fl_column.specs.Operations.{is_in_range, kept, range_fits}
 use Rattle.fl_column.specs.Questions.{each_next}
 use Rattle.fl_column.specs.Selections.{is_below_length, are_below_length, item_at_position, items_at, positions_in}
-use Rattle.fl_column.proofs.CastLaws.{some_if}
 use Rattle.fl_column.proofs.ItemLaws.{length-items_of, map_read}
-use Rattle.fl_column.proofs.ListLaws.{all_at, all_fails, all_first, all_kept, all_more, between_more, kept_no, kept_yes, taken_more}
+use Rattle.fl_column.proofs.ListLaws.{all_at, all_fails, all_first, all_kept, all_more, between_more, kept_no, kept_yes}
 use Rattle.fl_column.proofs.QuestionLaws.{next_fails, next_holds}
 use Rattle.fl_column.proofs.SelectionLaws.{all_positions, range_within, stands}
 use Rattle.std.proofs.lemmas.Option.{get_or_from_slice_get}
@@ -87,46 +86,10 @@ items_all f xs zs v i slots covered full =
     let long : length (items_of v (map f xs)) ≡ length xs = items_long f xs zs v slots covered in
     take_all i (items_of v (map f xs)) (omega arith) ∙ ap (items_of v) slots
 
--- one more item that is cast
-pub cast_more : {A : Type 0} (f : A → ℤ) (xs : List A) (zs : List ℤ) (v : Validity) (t : PType) (i : ℕ) (old new : List (Option ℤ)) (item x : Option ℤ) → map f xs ≡ zs → IsTrue (covers v (length zs)) → i < length xs
-    → list_all (option_all (fits t)) (take i (items_of v (map f xs))) ≡ true → old ≡ take i (items_of v (map f xs)) → new ≡ old ++ item ∷ [] → Some item ≡ (if option_all (fits t) x then Some x else None) → x ≡ get_or (items_of v (map f xs)) i None
-    → (list_all (option_all (fits t)) (take (i + 1) (items_of v (map f xs))) ≡ true) × (new ≡ take (i + 1) (items_of v (map f xs)))
-cast_more f xs zs v t i old new item x slots covered within fit before added cast read =
-    let long : length (items_of v (map f xs)) ≡ length xs = items_long f xs zs v slots covered in
-    let inside : i < length (items_of v (map f xs)) = omega arith in
-    let both = some_if (option_all (fits t) x) item x cast in
-    (all_more (option_all (fits t)) (items_of v (map f xs)) i None inside fit (rw (← read) both.0), taken_more new old (items_of v (map f xs)) item x None i added before both.1 read inside)
-
--- the array of the items that were cast
-pub cast_all : (t : PType) (n : Nullability) (ys all items : List (Option ℤ)) (array : PrimitiveParts) → column_of_primitive array ≡ record { dtype = Primitive t n; items = ys } → ys ≡ all → all ≡ items → list_all (option_all (fits t)) all ≡ true
-    → Answers column_of_primitive (Ok array) (cast_items t n items)
-cast_all t n ys all items array made same each fit =
-    let good : list_all (option_all (fits t)) items ≡ true = rw each at fit in
-    rw (made, same, each, good) refl
-
 -- a value at each position
 pub spread_all : {A : Type 0} (f : A → ℤ) (typed : Option A) (value : Option PValue) (ys : List (Option ℤ)) (positions : List (Option ℕ)) (i : ℕ) → option_map f typed ≡ option_map integer_of value → ys ≡ map (option_and_then (λ j. option_map f typed)) (take i positions) → length positions ≤ i
     → ys ≡ map (option_and_then (λ j. option_map integer_of value)) positions
 spread_all f typed value ys positions i same made full = mapped_all (option_and_then (λ j. option_map f typed)) ys positions i made full ∙ ap (λ z. map (option_and_then (λ j. z)) positions) same
-
-none_if : {A : Type 0} (b : Bool) (x : A) → None ≡ (if b then Some x else None) → b ≡ false
-none_if true x e = cc
-none_if false x e = refl
-
--- an item that isn't cast
-pub cast_fails : {A : Type 0} (f : A → ℤ) (xs : List A) (zs : List ℤ) (v : Validity) (t : PType) (n : Nullability) (i : ℕ) (x : Option ℤ) → map f xs ≡ zs → IsTrue (covers v (length zs)) → i < length xs
-    → None ≡ (if option_all (fits t) x then Some x else None) → x ≡ get_or (items_of v (map f xs)) i None → cast_items t n (items_of v zs) ≡ Err CastOutOfRange
-cast_fails f xs zs v t n i x slots covered within cast read =
-    let long : length (items_of v (map f xs)) ≡ length xs = items_long f xs zs v slots covered in
-    let inside : i < length (items_of v (map f xs)) = omega arith in
-    let fails : list_all (option_all (fits t)) (items_of v (map f xs)) ≡ false = all_fails (option_all (fits t)) (items_of v (map f xs)) i None inside (rw (← read) (none_if (option_all (fits t) x) x cast)) in
-    let none : list_all (option_all (fits t)) (items_of v zs) ≡ false = rw slots at fails in
-    rw none refl
-
--- no null where none may stand, as in the items that were cast
-pub cast_nulls : {A : Type 0} (f : A → ℤ) (xs : List A) (zs : List ℤ) (v : Validity) (n : Nullability) (i : ℕ) (ys : List (Option ℤ)) → map f xs ≡ zs → IsTrue (covers v (length zs)) → length xs ≤ i → ys ≡ take i (items_of v (map f xs))
-    → IsTrue (can_be_null n || list_all is_some (items_of v zs)) → IsTrue (can_be_null n || list_all is_some ys)
-cast_nulls f xs zs v n i ys slots covered full made nulls = rw (made, items_all f xs zs v i slots covered full) nulls
 
 -- one more item that the bits keep
 pub filtered_yes : {A : Type 0} (f : A → ℤ) (xs : List A) (zs : List ℤ) (v : Validity) (bits : List Bool) (i : ℕ) (bit : Bool) (old new : List (Option ℤ)) (y : Option ℤ) → map f xs ≡ zs → IsTrue (covers v (length zs)) → length bits ≡ length zs → i < length xs

@@ -1,5 +1,6 @@
 pub mod BuilderLaws
 pub mod CastLaws
+pub mod CastSlotLaws
 pub mod ChunkLaws
 pub mod ColumnAlgebra
 pub mod ConstantLaws
@@ -7,6 +8,7 @@ pub mod FullLaws
 pub mod GatherLaws
 pub mod ItemLaws
 pub mod ListLaws
+pub mod NamedBitLaws
 pub mod NamedLaws
 pub mod NumberLaws
 pub mod PatternLaws

@@ -1,5 +1,5 @@
 -- Tests of all items, and lists that a loop makes step by step.
-use Rattle.std.proofs.Common.{◌≡◌, ℕ, zero, suc, ◌+◌, ◌-◌, ◌<◌, ◌&&◌, ◌||◌, Bool, true, false, List, [], ◌∷◌, ◌++◌, length, map, take, drop, get_or, not, refl, ap, sym, ◌∙◌, arith}
+use Rattle.std.proofs.Common.{◌≡◌, ℕ, zero, suc, ◌+◌, ◌-◌, ◌<◌, ◌&&◌, ◌||◌, Bool, true, false, List, [], ◌∷◌, ◌++◌, length, map, take, drop, get_or, not, refl, ap, ◌∙◌, arith}
 use Rattle.std.proofs.lemmas.List.{length-drop, take_more, get_or-drop, map-append}
 use Rattle.std.specs.List.{list_all, list_any, flat_map}
 use Rattle.fl_types.specs.Bits.{between}
@@ -134,7 +134,3 @@ not_false false e = cc
 pub all_mapped_more : {A B : Type 0} (p : B → Bool) (f : A → B) (xs : List A) (i : ℕ) (x : A) → i < length xs → x ≡ get_or xs i x → list_all p (map f (take i xs)) ≡ true → p (f x) ≡ true → list_all p (map f (take (i + 1) xs)) ≡ true
 all_mapped_more p f xs i x h e all here =
     rw (take_more xs i x h, map-append, ← e) (list_all-append p (map f (take i xs)) (f x ∷ []) ∙ and_true _ _ all (and_true (p (f x)) true here refl))
-
--- a list that was the first items, and has the next one now
-pub taken_more : {A : Type 0} (new old items : List A) (item x d : A) (i : ℕ) → new ≡ old ++ item ∷ [] → old ≡ take i items → item ≡ x → x ≡ get_or items i d → i < length items → new ≡ take (i + 1) items
-taken_more new old items item x d i added before same read within = rw (added, before, same, read) (sym (take_more items i d within))

@@ -34,17 +34,20 @@ named_fails f h xs ys i y within is none =
     let some : list_all (λ index. is_in_range (length (map f xs)) (Some index)) (map h ys) ≡ false = all_fails (λ index. is_in_range (length (map f xs)) (Some index)) (map h ys) i (h y) inside (rw here out) in
     rw some refl
 
-full_items : {A : Type 0} (v : Validity) (xs : List A) → is_full v ≡ true → items_of v xs ≡ map (λ x. Some x) xs
+-- without a null each slot is an item
+pub full_items : {A : Type 0} (v : Validity) (xs : List A) → is_full v ≡ true → items_of v xs ≡ map (λ x. Some x) xs
 full_items valid.NonNullable xs full = refl
 full_items valid.AllValid xs full = refl
 full_items valid.AllInvalid xs full = cc
 full_items (valid.Array bits) xs full = cc
 
-in_range_all : (n : ℕ) (ys : List ℤ) → list_all (is_in_range n) (map (λ z. Some z) ys) ≡ list_all (λ z. is_in_range n (Some z)) ys
+-- indices that are not null lie in range where their integers do
+pub in_range_all : (n : ℕ) (ys : List ℤ) → list_all (is_in_range n) (map (λ z. Some z) ys) ≡ list_all (λ z. is_in_range n (Some z)) ys
 in_range_all n [] = refl
 in_range_all n (y ∷ ys) = ap (λ b. is_in_range n (Some y) && b) (in_range_all n ys)
 
-in_place : (n : ℕ) (z : ℤ) → is_in_range n (Some z) ≡ true → unsigned_abs z < n
+-- the place of an index in range
+pub in_place : (n : ℕ) (z : ℤ) → is_in_range n (Some z) ≡ true → unsigned_abs z < n
 in_place n (pos k) h = (Decides-ltb k n).0 (and_second (int_le (pos 0) (pos k)) (nat_lt k n) h)
 in_place n (negsuc k) h = cc
 
@@ -60,11 +63,12 @@ named_each xs (y ∷ ys) range =
     let here : get_or (map (λ z. Some z) xs) (unsigned_abs y) None ≡ Some (slot_named xs y) = get_or-map (λ z. Some z) xs (unsigned_abs y) (pos 0) None (in_place (length xs) y first) in
     (λ i. here i ∷ rest i)
 
-if_ok : {A E : Type 0} (b : Bool) (x y : A) (e : E) → (if b then Ok x else Err e) ≡ Ok y → (b ≡ true) × (x ≡ y)
+-- which answer a test gives
+pub if_ok : {A E : Type 0} (b : Bool) (x y : A) (e : E) → (if b then Ok x else Err e) ≡ Ok y → (b ≡ true) × (x ≡ y)
 if_ok true x y e h = (refl, cc)
 if_ok false x y e h = cc
 
-if_err : {A E : Type 0} (b : Bool) (x : A) (e f : E) → (if b then Ok x else Err e) ≡ Err f → (b ≡ false) × (e ≡ f)
+pub if_err : {A E : Type 0} (b : Bool) (x : A) (e f : E) → (if b then Ok x else Err e) ≡ Err f → (b ≡ false) × (e ≡ f)
 if_err true x e f h = cc
 if_err false x e f h = (refl, cc)
 

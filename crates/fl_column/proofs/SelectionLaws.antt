@@ -129,7 +129,8 @@ null_fit : {A : Type 0} (p : A → Bool) (xs : List A) → list_all (option_all 
 null_fit p [] = refl
 null_fit p (x ∷ xs) = null_fit p xs
 
-items_fit : {A : Type 0} (p : A → Bool) (v : Validity) (xs : List A) → list_all p xs ≡ true → list_all (option_all p) (items_of v xs) ≡ true
+-- what holds of all slots holds of the items
+pub items_fit : {A : Type 0} (p : A → Bool) (v : Validity) (xs : List A) → list_all p xs ≡ true → list_all (option_all p) (items_of v xs) ≡ true
 items_fit p valid.NonNullable xs fit = valid_fit p xs ∙ fit
 items_fit p valid.AllValid xs fit = valid_fit p xs ∙ fit
 items_fit p valid.AllInvalid xs fit = null_fit p xs

@@ -7,6 +7,7 @@ pub use Rattle.fl_types.specs.Types
 pub use Rattle.fl_types.specs.Validities
 pub use Rattle.fl_types.specs.Values
 pub mod Builders
+pub mod Casts
 pub mod Chunks
 pub mod Columns
 pub mod Numbers

@@ -50,3 +50,11 @@ slot_named slots index = slice_index_or slots (unsigned_abs index) (pos 0)
 -- the slots that indices name, or why there are none
 abbrev pub slots_named : List ℤ → List ℤ → Result (List ℤ) FastLanesError
 slots_named slots indices = if list_all (λ index. is_in_range (length slots) (Some index)) indices then Ok (map (slot_named slots) indices) else Err IndexOutOfBounds
+
+-- the bit that an index names
+abbrev pub bit_named : List Bool → ℤ → Bool
+bit_named bits index = slice_index_or bits (unsigned_abs index) false
+
+-- the validity of items with these bits, without them where no item is null
+abbrev pub validity_of_bits : List Bool → Validity
+validity_of_bits bits = if any_null (valid.Array bits) (length bits) then valid.Array bits else valid.AllValid

@@ -1,9 +1,11 @@
 //! Plain arrays in another integer type.
 
-ghost use Rattle.std.specs.Prelude.{◌≡◌, ◌<◌, ◌||◌, ◌&&◌, not, IsTrue, is_none, is_some, length, None, Some, option_map, if◌then◌else◌};
+ghost use Rattle.std.specs.Prelude.{◌≡◌, ◌<◌, ◌≤◌, ◌||◌, ◌&&◌, [], not, IsTrue, Ok, is_none, is_some, length, map, nat_lt, None, Some, option_map, vec_capacity, if◌then◌else◌};
 ghost use Rattle.std.specs.List.{list_all, list_any};
+ghost use Rattle.fl_types.specs.Bits.{true_count};
 ghost use Rattle.fl_types.specs.Buffers.{integers_of, ptype_of};
 ghost use Rattle.fl_types.specs.Integers.{fits};
+ghost use Rattle.fl_column.specs.Casts.{cast_slot, cast_validity};
 ghost use Rattle.fl_column.specs.Columns.{column_of_primitive, option_all};
 ghost use Rattle.fl_types.specs.Validities.{covers, items_of};
 ghost use Rattle.fl_column.specs.Operations.{cast_column, cast_items};
@@ -11,11 +13,10 @@ ghost use Rattle.fl_column.specs.Selections.{any_null};
 ghost use Rattle.fl_types.specs.Types.{can_be_null};
 ghost use Rattle.fl_types.specs.Refusals.{Answers};
 
-use crate::builder::PrimitiveBuilder;
 use crate::primitive::PrimitiveArray;
 use crate::selection::item_at;
 use fl_types::{
-    DType, FastLanesError, NativePType, Nullability, PType, PrimitiveBuffer, Validity,
+    BitList, DType, FastLanesError, NativePType, Nullability, PType, PrimitiveBuffer, Validity,
     match_each_integer_ptype,
 };
 use std::alloc::Global;
@@ -27,16 +28,60 @@ fn cast_value<T: NativePType>(value: i128) -> Option<T>
     T::from_i128(value)
 }
 
-/// The item in another type, or `None` where the type doesn't have it.
-fn cast_item<S: NativePType, T: NativePType>(item: Option<S>) -> Option<Option<T>>
-    ensures { option_map (option_map T.value) result ≡ (if option_all (fits T.PTYPE) (option_map S.value item) then Some (option_map S.value item) else None) }
+/// Whether the type has the item, as it has a null.
+fn item_fits<S: NativePType, T: NativePType>(item: Option<S>) -> bool
+    ensures { result ≡ option_all (fits T.PTYPE) (option_map S.value item) }
 {
     match item {
-        Some(value) => match cast_value(value.as_i128()) {
-            Some(cast) => Some(Some(cast)),
-            None => None,
-        },
-        None => Some(None),
+        Some(value) => cast_value::<T>(value.as_i128()).is_some(),
+        None => true,
+    }
+}
+
+/// Whether the type has each item.
+fn items_fit<S: NativePType, T: NativePType>(items: &[S], validity: &Validity) -> bool
+    requires { IsTrue (covers validity.now (length items.now)) }
+    ensures { result ≡ list_all (option_all (fits T.PTYPE)) (items_of validity.now (map S.value items.now)) }
+{
+    for i in 0..items.len() {
+        if !item_fits::<S, T>(item_at(items, validity, i)) {
+            return false;
+        }
+    }
+    true
+}
+
+/// Fills an empty list, in which there is room, with the integers in another type, 0 where the type
+/// doesn't have one, and returns whether it has all.
+fn write_cast<S: NativePType, T: NativePType>(items: &[S], slots: &mut Vec<T>) -> bool
+    requires empty { slots.old.items ≡ [] }
+    requires room { length items.now ≤ vec_capacity slots.old }
+    ensures slots { map T.value slots.new.items ≡ map (cast_slot T.PTYPE) (map S.value items.now) }
+    ensures fit { result ≡ list_all (fits T.PTYPE) (map S.value items.now) }
+{
+    let mut fit = true;
+    for item in items {
+        let cast = cast_value::<T>(item.as_i128());
+        fit &= cast.is_some();
+        slots.push_reserved(cast.unwrap_or(T::zero()));
+    }
+    fit
+}
+
+/// The validity of the same items where nulls may stand or not.
+fn cast_validity(
+    validity: &Validity,
+    alloc: Global,
+    len: usize,
+    nullability: Nullability,
+) -> Result<Validity, FastLanesError>
+    requires { IsTrue (covers validity.now len) }
+    ensures { Answers (λ v. v) result (Ok (cast_validity nullability len validity.now)) }
+{
+    match nullability {
+        Nullability::NonNullable => Ok(Validity::NonNullable),
+        Nullability::Nullable if has_null(validity, len) => validity.try_clone(alloc),
+        Nullability::Nullable => Ok(Validity::AllValid),
     }
 }
 
@@ -52,14 +97,12 @@ fn cast_typed<S: NativePType, T: NativePType>(
     ensures { Answers column_of_primitive result (cast_items T.PTYPE nullability (items_of validity.now (integers_of slots.now))) }
 {
     let items = S::as_slice(slots);
-    let mut cast = PrimitiveBuilder::with_capacity(alloc, items.len())?;
-    for i in 0..items.len() {
-        let Some(item) = cast_item::<S, T>(item_at(items, validity, i)) else {
-            return Err(FastLanesError::CastOutOfRange);
-        };
-        cast.push(item)?;
+    let mut cast = Vec::with_capacity(alloc, items.len())?;
+    if !write_cast::<S, T>(items, &mut cast) && !items_fit::<S, T>(items, validity) {
+        return Err(FastLanesError::CastOutOfRange);
     }
-    Ok(cast.finish(nullability))
+    let validity = cast_validity(validity, alloc, items.len(), nullability)?;
+    Ok(PrimitiveArray::new_unchecked(cast, validity))
 }
 
 fn cast_from<S: NativePType>(
@@ -77,6 +120,18 @@ fn cast_from<S: NativePType>(
     match_each_integer_ptype!(ptype, cast_typed::<S>(slots, alloc, validity, nullability))
 }
 
+/// Whether a bit is not set.
+pub(crate) fn has_unset(bits: &BitList) -> bool
+    ensures { result ≡ nat_lt (true_count bits.now) (length bits.now) }
+{
+    for i in 0..bits.len() {
+        if !bits.get(i) {
+            return true;
+        }
+    }
+    false
+}
+
 /// Whether any of this many items is null.
 fn has_null(validity: &Validity, len: usize) -> bool
     requires { IsTrue (covers validity.now len) }
@@ -86,7 +141,7 @@ fn has_null(validity: &Validity, len: usize) -> bool
         Validity::NonNullable => false,
         Validity::AllValid => false,
         Validity::AllInvalid => len > 0,
-        Validity::Array(bits) => bits.count_true() < len,
+        Validity::Array(bits) => has_unset(bits),
     }
 }
 

@@ -1,5 +1,6 @@
 //! Items of plain arrays that are selected: by positions, by ranges, by a mask.
 
+mod with_bits;
 mod without_nulls;
 
 ghost use Rattle.std.specs.Prelude.{◌≡◌, ◌<◌, ◌||◌, ◌+◌, ◌^◌, ◌++◌, IsTrue, is_some, map, length, Ok, OnOk, IfErr, None, option_map, slice_index_or, unsigned_abs};
@@ -274,6 +275,19 @@ fn filter_bits(
     match_each_integer_ptype!(slots.ptype(), filter_typed(slots, alloc, validity, bits))
 }
 
+/// The items that the indices name, null where an index is null.
+fn take_between_nulls(
+    alloc: Global,
+    array: &PrimitiveArray,
+    indices: &PrimitiveArray,
+) -> Result<PrimitiveArray, FastLanesError>
+    ensures { Answers column_of_primitive result (take_column (column_of_primitive indices.now) (column_of_primitive array.now)) }
+{
+    let positions = positions(alloc, indices, array.len())?;
+    let nullability = array.nullability().or(indices.nullability());
+    take_positions(alloc, array, &positions, nullability)
+}
+
 impl PrimitiveArray {
     /// The positions that the items name among `len` items, none at a null. The integer under a null
     /// is never looked at.
@@ -298,12 +312,15 @@ impl PrimitiveArray {
     ) -> Result<PrimitiveArray, FastLanesError>
         ensures { Answers column_of_primitive result (take_column (column_of_primitive indices.now) (column_of_primitive self.now)) }
     {
-        if is_full(self.validity()) && is_full(indices.validity()) {
-            return without_nulls::take(alloc, self, indices);
+        match self.validity() {
+            validity if is_full(validity) && is_full(indices.validity()) => {
+                without_nulls::take(alloc, self, indices)
+            }
+            Validity::Array(bits) if is_full(indices.validity()) => {
+                with_bits::take(alloc, self, bits, indices)
+            }
+            _ => take_between_nulls(alloc, self, indices),
         }
-        let positions = positions(alloc, indices, self.len())?;
-        let nullability = self.nullability().or(indices.nullability());
-        take_positions(alloc, self, &positions, nullability)
     }
 
     /// The items of the ranges, each a start and a length, one range after another. A range without

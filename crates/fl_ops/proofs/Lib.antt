@@ -12,3 +12,4 @@ mod NegatedLaws
 mod TakenShown
 mod PositionLaws
 mod SortedLaws
+mod ItemLaws

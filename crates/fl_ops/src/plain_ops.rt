@@ -11,7 +11,9 @@ ghost use Rattle.fl_column.specs.Questions.{between_column, compare_column, hold
 ghost use Rattle.fl_array.specs.BitPackedArrays.{tree_of_bitpacked};
 ghost use Rattle.fl_array.specs.Trees.{column};
 
+use crate::takes::items::take_items;
 use crate::takes::{filter_by_runs, filter_packed, ranges_by_runs, take_ranges_packed};
+use fastlanes::FL_CHUNK_SIZE;
 use fl_array::ArrayRef;
 use fl_array::bitpacking::BitPackedArray;
 use fl_column::{
@@ -20,7 +22,8 @@ use fl_column::{
 };
 use std::alloc::Global;
 
-/// The items that plain indices name.
+/// The items that plain indices name. Of an encoding without a way of its own they are read one by one where the
+/// indices are at most one for each chunk of the array, and else the array is decoded.
 fn take_plain(
     alloc: Global,
     array: &ArrayRef,
@@ -36,6 +39,9 @@ fn take_plain(
     }
     if let Some(packed) = array.as_bitpacked() {
         return packed.take(alloc, indices);
+    }
+    if indices.len() <= array.len() / FL_CHUNK_SIZE {
+        return take_items(alloc, array, indices);
     }
     array.to_primitive(alloc)?.take(alloc, indices)
 }

@@ -1,5 +1,7 @@
 //! Takes, takes of ranges and filters of bit-packed arrays, where the packed items are read run by run.
 
+pub(crate) mod items;
+
 ghost use Rattle.std.specs.Prelude.{◌≡◌, ◌*◌, ◌+◌, ◌-◌, ◌^◌, ◌++◌, ◌<◌, ◌≤◌, IfOk, IfSome, IsTrue, Ok, OnOk, Some, length, nat_lt};
 ghost use Rattle.std.specs.List.{list_all, range_with_len};
 ghost use Rattle.fl_types.specs.Masks.{mask_bits, mask_len};

@@ -1,12 +1,11 @@
 -- All patches, found one after the other: no position between two of them is looked at.
-use Rattle.std.proofs.Common.{◌≡◌, ◌≢◌, ℕ, zero, suc, ◌+◌, ◌-◌, ◌<◌, ◌≤◌, true, List, [], ◌∷◌, ◌++◌, length, map, get_or, Option, Some, None, refl, ap, subst, ◌∙◌, sym, inl, inr, arith}
-use Rattle.std.proofs.lemmas.Bool.{cases_lt}
+use Rattle.std.proofs.Common.{◌≡◌, ℕ, zero, suc, ◌+◌, ◌-◌, ◌<◌, true, List, [], ◌∷◌, ◌++◌, length, map, get_or, Option, Some, ap, ◌∙◌, sym, arith}
 use Rattle.std.proofs.lemmas.List.{length-map}
 use Rattle.std.proofs.lemmas.List.FromFn.{length-map-range_with_len, map-range_with_len_more}
 use Rattle.fl_types.specs.Bits.{table}
 use Rattle.fl_patches.specs.PatchMaps.{AreFound, AreFoundTo, count_below, is_rising, rank_of, ranks_at, ranks_to}
 use Rattle.fl_patches.proofs.Kept.{ranks_more}
-use Rattle.fl_patches.proofs.Rising.{count_ge, count_lt, count_next, count_split, count_within, rank_absent, rank_found, rising_at, rising_to}
+use Rattle.fl_patches.proofs.Rising.{count_lt, count_next, count_split, count_up, rank_absent, rank_found, rising_at, rising_to}
 use Rattle.fl_patches.proofs.Sparse.{found_none}
 
 ranks_to_more : (offset : ℕ) (indices : List ℕ) (m : ℕ) → ranks_to offset indices (m + 1) ≡ ranks_to offset indices m ++ rank_of (offset + m) indices ∷ []
@@ -14,17 +13,6 @@ ranks_to_more offset indices m = ap (λ positions. ranks_at offset indices (map 
 
 length_ranks_to : (offset : ℕ) (indices : List ℕ) (m : ℕ) → length (ranks_to offset indices m) ≡ m
 length_ranks_to offset indices m = length-map (map (λ i. Some i) (table (λ i. i) m)) _ ∙ (length-map (table (λ i. i) m) _ ∙ length-map-range_with_len (λ i. i) 0 m)
-
--- as many indices are below a number as below a greater one, or fewer
-count_up : (xs : List ℕ) (a b : ℕ) → is_rising xs ≡ true → a ≤ b → count_below a xs ≤ count_below b xs
-count_up xs a b rise order = elim (cases_lt (count_below b xs) (count_below a xs)) [
-  | inl wrong ↦ absurd (
-      let within = count_within xs a in
-      let low = count_lt xs a (count_below b xs) rise wrong in
-      let high = count_ge xs b (count_below b xs) rise (omega arith) (omega arith) in
-      omega arith)
-  | inr right ↦ right
-]
 
 -- an index stands behind those below it
 count_here : (xs : List ℕ) (k : ℕ) → is_rising xs ≡ true → k < length xs → count_below (get_or xs k 0) xs ≡ k

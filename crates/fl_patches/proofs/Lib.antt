@@ -4,6 +4,7 @@ pub mod Kept
 pub mod Parts
 pub mod Picked
 pub mod Rising
+pub mod SearchRanges
 pub mod Selected
 pub mod Slices
 pub mod Sparse

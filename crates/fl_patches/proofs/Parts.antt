@@ -1,5 +1,5 @@
 -- What holds of the parts of patches.
-use Rattle.std.proofs.Common.{◌≡◌, ℕ, ◌+◌, ◌-◌, ◌<◌, nat_le, unsigned_abs, if◌then◌else◌, Bool, true, false, not, List, length, ℤ, get_or, Option, Some, None, Result, Ok, IsTrue, refl, ap, ◌∙◌, sym, inl, inr, arith}
+use Rattle.std.proofs.Common.{◌≡◌, ℕ, ◌+◌, ◌-◌, ◌<◌, ◌&&◌, eqb, nat_le, nat_lt, unsigned_abs, if◌then◌else◌, Bool, true, false, not, List, length, ℤ, get_or, Option, Some, None, Result, Ok, IsTrue, refl, ap, ◌∙◌, sym, inl, inr, arith}
 use Rattle.std.proofs.lemmas.Bool.{and_from, and_parts, cases_Bool, eq-eqb, eqb-true, false≢true, leb-true, lt-ltb, ltb-true, not-true, not_from_false, true≢false}
 use Rattle.std.proofs.lemmas.List.{length-map}
 use Rattle.fl_patches.proofs.Rising.{count_split, rank_found}
@@ -12,9 +12,10 @@ use Rattle.std.specs.Prelude.{is_none}
 use Rattle.fl_types.specs.Types.{is_index_type}
 use Rattle.fl_types.specs.declared.error.FastLanesError.{FastLanesError}
 use Rattle.fl_types.specs.declared.error.FastLanesError.TheVariants.{PatchType, PatchLength, PatchContent}
-use Rattle.fl_column.specs.Columns.{column_of_primitive}
+use Rattle.fl_column.specs.Chunks.{chunk_count}
+use Rattle.fl_column.specs.Columns.{PrimitiveParts, column_of_primitive, option_all}
 use Rattle.fl_column.specs.Numbers.{numbers}
-use Rattle.fl_patches.specs.PatchMaps.{ArePatches, PatchesParts, count_below, patched, is_index_within, is_rising, patch_contents_fit, patch_lengths_fit, patch_types_fit, refusal_of}
+use Rattle.fl_patches.specs.PatchMaps.{ArePatches, PatchesParts, are_chunk_offsets, count_below, patched, is_index_within, is_rising, patch_contents_fit, patch_lengths_fit, patch_types_fit, refusal_of}
 
 -- parts that nothing speaks against
 pub record AreSound (p : PatchesParts) : Type 0 where
@@ -48,6 +49,24 @@ sound p e =
       within = ranged.0;
       valued = not-true _ rest.0;
     }
+
+-- chunk offsets that nothing speaks against
+pub record AreSoundOffsets (p : PatchesParts) (offsets : PrimitiveParts) : Type 0 where
+  pub long : length offsets.slots ≡ chunk_count p.array_len
+  pub start : p.offset ≡ 0
+  pub count : are_chunk_offsets (numbers p.indices) (numbers offsets) ≡ true
+
+pub sound_offsets : (p : PatchesParts) (offsets : PrimitiveParts) → refusal_of p ≡ None → p.chunk_offsets ≡ Some offsets → AreSoundOffsets p offsets
+sound_offsets p offsets e some =
+    let fit = unrefused (patch_types_fit p) (patch_lengths_fit p) (patch_contents_fit p) PatchType PatchLength PatchContent e in
+    let lengths = and_parts (nat_lt 0 (length p.indices.slots)) _ (and_parts _ _ fit.1).1 in
+    let ranged = and_parts (list_all (is_index_within p.offset p.array_len) (numbers p.indices)) _ (and_parts (is_rising (numbers p.indices)) _ fit.2).1 in
+    let counts = and_parts _ _ ranged.1 in
+    let each : option_all (λ c. eqb (length c.slots) (chunk_count p.array_len)) p.chunk_offsets ≡ true = lengths.1 in
+    let long : eqb (length offsets.slots) (chunk_count p.array_len) ≡ true = rw some at each in
+    let from_0 : option_all (λ c. (eqb p.offset 0) && are_chunk_offsets (numbers p.indices) (numbers c)) p.chunk_offsets ≡ true = counts.1 in
+    let right = and_parts (eqb p.offset 0) (are_chunk_offsets (numbers p.indices) (numbers offsets)) (rw some at from_0) in
+    record { long = eqb-true _ _ long; start = eqb-true _ _ right.0; count = right.1 }
 
 accept : (types lengths contents : Bool) (a b d : FastLanesError) → types ≡ true → lengths ≡ true → contents ≡ true → (if not types then Some a else if not lengths then Some b else if not contents then Some d else None) ≡ None
 accept types lengths contents a b d e f g = rw (e, f, g) refl

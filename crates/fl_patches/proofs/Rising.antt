@@ -1,5 +1,5 @@
 -- Rising numbers: where one stands among them, and how many are below it.
-use Rattle.std.proofs.Common.{◌≡◌, ◌≢◌, ℕ, Option, Some, None, option_map, eqb, ℤ, zero, suc, ◌+◌, ◌<◌, ◌≤◌, true, false, List, [], ◌∷◌, length, map, get_or, cond, nat_lt, unsigned_abs, refl, ap, ◌∙◌, sym, arith, inl, inr, ◌⊎◌}
+use Rattle.std.proofs.Common.{◌≡◌, ◌≢◌, ℕ, Option, Some, None, option_map, eqb, ℤ, zero, suc, ◌+◌, ◌<◌, ◌≤◌, true, false, List, [], ◌∷◌, length, map, get_or, cond, nat_lt, unsigned_abs, refl, ap, ◌∙◌, arith, inl, inr, ◌⊎◌}
 use Rattle.std.proofs.lemmas.Bool.{ltb-true, lt-ltb, le-ltb, ltb-false, cases_lt, cases_Bool, eq-eqb, eqb-true, ne_eqb}
 use Rattle.std.proofs.lemmas.List.{length-map, get_or-map}
 use Rattle.std.proofs.lemmas.List.Sums.{sum_by-cons, count_by-le-length}
@@ -77,6 +77,17 @@ count_ge (x ∷ xs) limit i rise h k = elim (cases_lt x limit) [
       let step = count-cons limit x xs ∙ ap (λ b. cond b 1 0 + count_below limit xs) (lt-ltb x limit low) in
       ge_after x xs limit i (omega arith) (λ j l. count_ge xs limit j (rising_rest x xs rise) l.0 l.1) (omega arith, omega arith)
   | inr high ↦ (let up = rising_to (x ∷ xs) 0 i rise (omega arith) k in omega arith)
+]
+
+-- as many indices are below a number as below a greater one, or fewer
+pub count_up : (xs : List ℕ) (a b : ℕ) → is_rising xs ≡ true → a ≤ b → count_below a xs ≤ count_below b xs
+count_up xs a b rise order = elim (cases_lt (count_below b xs) (count_below a xs)) [
+  | inl wrong ↦ absurd (
+      let within = count_within xs a in
+      let low = count_lt xs a (count_below b xs) rise wrong in
+      let high = count_ge xs b (count_below b xs) rise (omega arith) (omega arith) in
+      omega arith)
+  | inr right ↦ right
 ]
 
 -- a number that is not there has no place

@@ -1,5 +1,5 @@
 -- Patches: a finite map from positions of an array to values.
-use Rattle.std.specs.Prelude.{◌≡◌, ◌+◌, ◌-◌, ◌*◌, ◌==◌, ◌&&◌, ◌<◌, ◌↔◌, IsNone, ℕ, ℤ, pos, Bool, true, not, List, [], ◌∷◌, length, map, Option, Some, None, Result, Ok, Err, option_map, option_and_then, is_none, nat_lt, nat_le, if◌then◌else◌, count_by, slice_index_or, unsigned_abs}
+use Rattle.std.specs.Prelude.{◌≡◌, ◌+◌, ◌-◌, ◌*◌, ◌/◌, ◌==◌, ◌&&◌, ◌<◌, ◌≤◌, ◌↔◌, IsNone, ℕ, ℤ, pos, Bool, true, not, List, [], ◌∷◌, length, map, Option, Some, None, Result, Ok, Err, option_map, option_and_then, is_none, nat_lt, nat_le, if◌then◌else◌, count_by, slice_index_or, unsigned_abs}
 use Rattle.std.specs.List.{list_all, list_any, enumerate_from}
 use Rattle.fl_types.specs.declared.dtype.PType.{PType}
 use Rattle.fl_types.specs.declared.dtype.Nullability.{Nullability}
@@ -49,6 +49,16 @@ pub record ArePatches (patches : Option PatchesParts) (len : ℕ) (at : ℕ → 
 abbrev pub count_below : ℕ → List ℕ → ℕ
 count_below limit indices = count_by (λ index. nat_lt index limit) indices
 
+-- an index stands from start to below end among the indices, if it is one of them
+pub record IsSearchRange (index : ℕ) (indices : List ℕ) (start end : ℕ) : Type 0 where
+  pub low : start ≤ count_below index indices
+  pub high : count_below (index + 1) indices ≤ end
+  pub within : end ≤ length indices
+
+-- the place of the first index of chunk k, and the place behind its last one, where indices count from offset 0
+abbrev pub chunk_places : List ℕ → ℕ → ℕ × ℕ
+chunk_places indices k = (count_below (1024 * k) indices, count_below (1024 * (k + 1)) indices)
+
 -- each number is below the next
 abbrev pub is_rising : List ℕ → Bool
 is_rising indices = each_next nat_lt indices
@@ -79,6 +89,10 @@ patch_contents_fit p =
     && (list_all (is_index_within p.offset p.array_len) (numbers p.indices)
     && (not (list_any is_none (column_of_primitive p.values).items)
     && option_all (λ c. (p.offset == 0) && are_chunk_offsets (numbers p.indices) (numbers c)) p.chunk_offsets))
+
+-- the index of each position of chunk k stands from start to below end among the indices, if it is one of them
+abbrev pub IsChunkRange : PatchesParts → ℕ → ℕ → ℕ → Type 0
+IsChunkRange p k start end = (i : ℕ) → i / 1024 ≡ k → IsSearchRange (p.offset + i) (numbers p.indices) start end
 
 -- why parts are no patches, the first reason that holds
 abbrev pub refusal_of : PatchesParts → Option FastLanesError

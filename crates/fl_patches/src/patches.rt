@@ -1,13 +1,14 @@
 //! Patches: a finite map from positions of an array to values.
 
-ghost use Rattle.std.specs.Prelude.{◌≡◌, ◌≤◌, ◌<◌, ◌-◌, ◌+◌, false, pos, is_none, IfOk, IfSome, Ok, Some, None, length, option_map, option_and_then, map, slice_index_or};
+ghost use Rattle.std.specs.Prelude.{◌≡◌, ◌≤◌, ◌<◌, ◌-◌, ◌+◌, ◌/◌, false, pos, is_none, IfOk, IfSome, Ok, Some, None, length, option_map, option_and_then, map, slice_index_or};
 ghost use Rattle.std.specs.List.{list_any};
 ghost use Rattle.std.specs.Option.{option_copied};
 ghost use Rattle.fl_types.specs.Masks.{mask_len};
 ghost use Rattle.fl_types.specs.Refusals.{Answers};
 ghost use Rattle.fl_types.specs.Values.{integer_of, ptype_of_value};
 ghost use Rattle.fl_column.specs.Columns.{column_of_primitive, slice_primitive};
-ghost use Rattle.fl_patches.specs.PatchMaps.{ArePatches, new_patches, patched, refusal_of, slice_patches};
+ghost use Rattle.fl_column.specs.Numbers.{numbers};
+ghost use Rattle.fl_patches.specs.PatchMaps.{ArePatches, IsChunkRange, chunk_places, new_patches, patched, refusal_of, slice_patches};
 
 use crate::checks::first_refusal;
 use crate::indices::{count_in, rank_in};
@@ -62,6 +63,17 @@ fn value_in(values: &PrimitiveArray, i: usize) -> Option<PValue>
     // For the proof: the validity covers the values.
     let _validity = values.validity();
     values.get(i)
+}
+
+/// The chunk offset of a chunk, which for a chunk behind the last one is the number of patches.
+fn chunk_offset_at(chunk_offsets: &PrimitiveArray, chunk: usize, num_patches: usize) -> usize
+    ensures { result ≡ slice_index_or (numbers chunk_offsets.now) chunk num_patches }
+{
+    if chunk < chunk_offsets.len() {
+        chunk_offsets.number_at(chunk)
+    } else {
+        num_patches
+    }
 }
 
 /// The items from `start` to below `end`.
@@ -183,12 +195,33 @@ impl Patches {
         self.chunk_offsets.as_ref()
     }
 
+    /// Where the index of a position is to be looked for among the indices: from the first of these
+    /// places to below the second. With chunk offsets they are those of the patches of the position's
+    /// chunk of 1024 items, without chunk offsets those of all patches. They hold for each position of
+    /// the chunk.
+    pub fn search_range(&self, i: usize) -> (usize, usize)
+        ensures range { IsChunkRange self.now (i / 1024) result.0 result.1 }
+        ensures narrow { IfSome self.now.chunk_offsets (λ _. result ≡ chunk_places (numbers self.now.indices) (i / 1024)) }
+    {
+        let num_patches = self.indices.len();
+        match &self.chunk_offsets {
+            Some(chunk_offsets) => {
+                let chunk = i / 1024;
+                let start = chunk_offset_at(chunk_offsets, chunk, num_patches);
+                let end = chunk_offset_at(chunk_offsets, chunk + 1, num_patches);
+                (start, end)
+            }
+            None => (0, num_patches),
+        }
+    }
+
     /// The value at a position, if it is patched.
     pub fn get_patched(&self, i: usize) -> Option<PValue>
         ensures value { option_map integer_of result ≡ patched self.now i }
         ensures typed { IfSome result (λ v. ptype_of_value v ≡ self.now.values.ptype) }
     {
-        let rank = rank_in(&self.indices, self.offset as u128 + i as u128)?;
+        let (start, end) = self.search_range(i);
+        let rank = rank_in(&self.indices, start, end, self.offset as u128 + i as u128)?;
         value_in(&self.values, rank)
     }
 

@@ -1,14 +1,9 @@
-//! What run values, run indices and run offsets must be, by their types and lengths, and which run values
-//! a slice keeps.
+//! What run values, run indices and run offsets must be, by their types and lengths.
 
-ghost use Rattle.std.specs.Prelude.{◌≡◌, ◌≤◌, IsTrue, length};
-ghost use Rattle.fl_types.specs.Integers.{is_unsigned};
-ghost use Rattle.fl_column.specs.Columns.{column_of_primitive, numbers_of};
-ghost use Rattle.fl_codec.specs.RunRefusals.{is_run_index_dtype, kept_values_end, kept_values_start, rle_types_refusal};
+ghost use Rattle.std.specs.Prelude.{◌≡◌};
+ghost use Rattle.fl_codec.specs.RunRefusals.{is_run_index_dtype, rle_types_refusal};
 
-use crate::rle::{end_of_chunk, start_of_chunk};
 use fastlanes::FL_CHUNK_SIZE;
-use fl_column::PrimitiveArray;
 use fl_types::{DType, FastLanesError, Nullability, PType};
 
 /// Whether a type is that of run indices.
@@ -61,27 +56,4 @@ pub fn rle_types_refusal(
         return Some(FastLanesError::BlockOffsetsCount);
     }
     None
-}
-
-/// Where the run values of the chunks from `first` to below `last` start and end, among `count` of them;
-/// 0 and 0 without a chunk.
-pub fn kept_values(
-    offsets: &PrimitiveArray,
-    count: usize,
-    first: usize,
-    last: usize,
-) -> (usize, usize)
-    requires order { first ≤ last }
-    requires range { last ≤ length offsets.now.slots }
-    requires unsigned { IsTrue (is_unsigned offsets.now.ptype) }
-    ensures from { result.0 ≡ kept_values_start (numbers_of (column_of_primitive offsets.now)) first last }
-    ensures to { result.1 ≡ kept_values_end (numbers_of (column_of_primitive offsets.now)) count first last }
-{
-    if first < last {
-        let start = start_of_chunk(offsets, first);
-        let end = end_of_chunk(offsets, count, last - 1);
-        (start, end)
-    } else {
-        (0, 0)
-    }
 }

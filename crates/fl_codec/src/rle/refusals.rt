@@ -7,7 +7,8 @@ ghost use Rattle.fl_types.specs.Types.{is_index_type};
 ghost use Rattle.fl_column.specs.Columns.{column_of_primitive, numbers_of};
 ghost use Rattle.fl_codec.specs.Chunks.{chunk};
 ghost use Rattle.fl_codec.specs.Parts.{items_of_primitive};
-ghost use Rattle.fl_codec.specs.RunColumns.{are_run_indices, are_run_offsets, contents_refusal, is_chunk_of_runs, is_run_index, run_count, runs_refusal};
+ghost use Rattle.fl_codec.specs.RunColumns.{are_run_indices, are_run_offsets, is_chunk_of_runs, is_run_index, run_count, runs_refusal};
+ghost use Rattle.fl_codec.specs.RunRefusals.{rle_numbers_refusal};
 
 use crate::rle::{end_of_chunk, number_at, start_of_chunk};
 use fastlanes::FL_CHUNK_SIZE;
@@ -96,17 +97,21 @@ fn are_run_indices(indices: &PrimitiveArray, offsets: &PrimitiveArray, count: us
     true
 }
 
-/// Why run offsets or run indices name no run values, if they do not.
-fn contents_refusal(
-    values: &PrimitiveArray,
+/// Why run offsets or run indices name none of this many run values, if they do not: `RunOffsets` where an
+/// offset is below the first one, or a chunk has no run value or more than 1024, or there are run values
+/// without a chunk; then `RunIndex` where an index that is not null is not below its chunk's number of run
+/// values.
+///
+/// The run offsets are unsigned, and for each there are 1024 run indices.
+pub fn numbers_refusal(
+    count: usize,
     indices: &PrimitiveArray,
     offsets: &PrimitiveArray,
 ) -> Option<FastLanesError>
     requires unsigned { IsTrue (is_unsigned offsets.now.ptype) }
     requires whole { length indices.now.slots ≡ 1024 * length offsets.now.slots }
-    ensures { result ≡ contents_refusal (record { values = values.now; indices = indices.now; offsets = offsets.now }) }
+    ensures { result ≡ rle_numbers_refusal count (items_of_primitive indices.now) (numbers_of (column_of_primitive offsets.now)) }
 {
-    let count = values.len();
     if !are_run_offsets(offsets, count) {
         return Some(FastLanesError::RunOffsets);
     }
@@ -166,5 +171,5 @@ pub fn runs_refusal(
     if chunks != total / FL_CHUNK_SIZE {
         return Some(FastLanesError::BlockOffsetsCount);
     }
-    contents_refusal(values, indices, offsets)
+    numbers_refusal(values.len(), indices, offsets)
 }

@@ -44,7 +44,7 @@ fn items_named<T: NativePType, I: NativePType>(
         let Some(place) = place_of(*index, items.len()) else {
             return Err(FastLanesError::IndexOutOfBounds);
         };
-        named.push(items[place])?;
+        named.push_reserved(items[place]);
     }
     Ok(named)
 }
@@ -76,7 +76,7 @@ fn take_from<T: NativePType>(
 }
 
 /// The slots that the indices name.
-fn take_slots(
+pub(crate) fn take_slots(
     slots: &PrimitiveBuffer,
     alloc: Global,
     indices: &PrimitiveBuffer,

@@ -8,7 +8,7 @@ use Rattle.fl_bitpacking.proofs.taking.patch_values.patched_or.Goals as goal
 pub offset_bounds-values-rank : goal.offset_bounds-values-rank
 offset_bounds-values-rank g c =
     let xs = numbers_by g.I.Number.value c.args.indices.now in
-    let found : rank_of c.args.index xs ≡ Some c.in-Some.rank = sym c.rank_typed.ensures ∙ c.in-Some.is in
+    let found : rank_of c.args.index xs ≡ Some c.in-Some.rank = sym c.rank_between.ensures ∙ c.in-Some.is in
     let inside = (rank_at xs c.args.index c.in-Some.rank found).0 in
     let long = length-numbers_by g.I.Number.value c.args.indices.now in
     let even = c.requires.even in
@@ -17,7 +17,7 @@ offset_bounds-values-rank g c =
 pub bounds-values-rank : goal.bounds-values-rank
 bounds-values-rank g c =
     let xs = numbers_by g.I.Number.value c.args.indices.now in
-    let found : rank_of c.args.index xs ≡ Some c.in-Some.rank = sym c.rank_typed.ensures ∙ c.in-Some.is in
+    let found : rank_of c.args.index xs ≡ Some c.in-Some.rank = sym c.rank_between.ensures ∙ c.in-Some.is in
     let inside = (rank_at xs c.args.index c.in-Some.rank found).0 in
     let long = length-numbers_by g.I.Number.value c.args.indices.now in
     let even = c.requires.even in
@@ -26,7 +26,7 @@ bounds-values-rank g c =
 pub returns-in-Some : goal.returns-in-Some
 returns-in-Some g c =
     let xs = numbers_by g.I.Number.value c.args.indices.now in
-    let found : rank_of c.args.index xs ≡ Some c.in-Some.rank = sym c.rank_typed.ensures ∙ c.in-Some.is in
+    let found : rank_of c.args.index xs ≡ Some c.in-Some.rank = sym c.rank_between.ensures ∙ c.in-Some.is in
     let inside = (rank_at xs c.args.index c.in-Some.rank found).0 in
     let long = length-numbers_by g.I.Number.value c.args.indices.now in
     let even = c.requires.even in

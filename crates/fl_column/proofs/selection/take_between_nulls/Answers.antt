@@ -4,11 +4,11 @@ use Rattle.fl_types.specs.Types.{either_nullable}
 use Rattle.fl_column.specs.Operations.{item_named}
 use Rattle.fl_column.specs.Selections.{items_at}
 use Rattle.fl_column.proofs.SelectionLaws.{ok_positions, taken_below, taken_stands, taken_named}
-use Rattle.fl_column.proofs.primitive.PrimitiveArray.take.Goals as goal
+use Rattle.fl_column.proofs.selection.take_between_nulls.Goals as goal
 
 pub take_positions-requires-clause-below : goal.take_positions-requires-clause-below
 take_positions-requires-clause-below c =
-    let a = c.args.self.now in
+    let a = c.args.array.now in
     let b = c.args.indices.now in
     let items = items_of a.validity a.slots in
     let indices = items_of b.validity b.slots in
@@ -17,7 +17,7 @@ take_positions-requires-clause-below c =
 
 pub take_positions-requires-clause-nulls : goal.take_positions-requires-clause-nulls
 take_positions-requires-clause-nulls c =
-    let a = c.args.self.now in
+    let a = c.args.array.now in
     let b = c.args.indices.now in
     let items = items_of a.validity a.slots in
     let indices = items_of b.validity b.slots in
@@ -26,7 +26,7 @@ take_positions-requires-clause-nulls c =
 
 pub returns : goal.returns
 returns c =
-    let a = c.args.self.now in
+    let a = c.args.array.now in
     let b = c.args.indices.now in
     let items = items_of a.validity a.slots in
     let indices = items_of b.validity b.slots in
