@@ -126,7 +126,7 @@ fn slice_patches(
     ensures map { IfOk result (λ p. (i : ℕ) → i < end - start → patched_in p i ≡ patched_in patches.now (start + i)) }
 {
     match patches {
-        Some(patches) => patches.slice(alloc, start, end),
+        Some(patches) => patches.slice(alloc, start..end),
         None => Ok(None),
     }
 }

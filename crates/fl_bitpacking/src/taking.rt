@@ -180,7 +180,7 @@ impl<'a> Taking<'a> {
     {
         let mut taken = PrimitiveBuilder::with_capacity(alloc, slots.len())?;
         for k in 0..slots.len() {
-            taken.push(self.item(slots, k))?;
+            taken.push(alloc, self.item(slots, k))?;
         }
         Ok(taken.finish(nullability))
     }
@@ -251,7 +251,7 @@ impl<'a> Taking<'a> {
         let mut next = 0;
         for k in 0..indices.len() {
             let (item, after) = self.next_item(slots, indices, k, next);
-            taken.push(item)?;
+            taken.push(alloc, item)?;
             next = after;
         }
         Ok(taken.finish(Nullability::Nullable))

@@ -98,12 +98,6 @@ constant_ranges c ptype ranges total e fits is =
     let small = some_if (nat_lt sum (2 ^ 64)) total sum is in
     rw (length-replicate, integer_dtype c.scalar.dtype ptype e, fits, small.0, ranges_of_constant c.scalar.value c.len ranges fits, small.1) refl
 
-pub constant_ranges_out : (c : ConstantParts) (ptype : PType) (ranges : List (ℕ × ℕ)) → integer_type c.scalar.dtype ≡ Some ptype → list_all (range_fits c.len) ranges ≡ false → ranges_column ranges (column_of_constant c) ≡ Err RangeOutOfBounds
-constant_ranges_out c ptype ranges e fits = rw (length-replicate, integer_dtype c.scalar.dtype ptype e, fits) refl
-
-pub constant_ranges_over : (c : ConstantParts) (ptype : PType) (ranges : List (ℕ × ℕ)) → integer_type c.scalar.dtype ≡ Some ptype → list_all (range_fits c.len) ranges ≡ true → None ≡ total_of ranges → ranges_column ranges (column_of_constant c) ≡ Err LengthOverflow
-constant_ranges_over c ptype ranges e fits is = rw (length-replicate, integer_dtype c.scalar.dtype ptype e, fits, ← is) refl
-
 pub constant_filter : (c : ConstantParts) (mask : Mask) → mask_len mask ≡ c.len → filter_of mask (column_of_constant c) ≡ column_of_constant (record { scalar = c.scalar; len = true_count (mask_bits mask) })
 constant_filter c mask e = rw (kept_constant c.scalar.value (mask_bits mask) c.len (length-mask_bits mask ∙ e)) refl
 

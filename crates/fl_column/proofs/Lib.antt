@@ -14,3 +14,4 @@ pub mod NumberLaws
 pub mod PatternLaws
 pub mod QuestionLaws
 pub mod SelectionLaws
+pub mod SimplestLaws

@@ -1,5 +1,5 @@
 -- Columns: a type, whether nulls may stand in it, and the items. And the plain arrays that are stored as they are.
-use Rattle.std.specs.Prelude.{◌&&◌, ◌||◌, ℕ, ℤ, pos, Bool, true, List, length, map, Option, Some, None, Result, Ok, Err, replicate, option_map, unwrap_or, unsigned_abs, is_some, if◌then◌else◌}
+use Rattle.std.specs.Prelude.{◌&&◌, ◌||◌, ℕ, ℤ, pos, Bool, true, List, length, map, Option, Some, None, Result, Ok, Err, replicate, option_map, unwrap_or, unsigned_abs, is_none, is_some, if◌then◌else◌}
 use Rattle.std.specs.List.{list_all}
 use Rattle.fl_types.specs.declared.dtype.PType.{PType}
 use Rattle.fl_types.specs.declared.dtype.PType.TheVariants.{U8}
@@ -13,6 +13,7 @@ use Rattle.fl_types.specs.declared.validity.Validity.TheVariants as valid
 use Rattle.fl_types.specs.Bits.{between}
 use Rattle.fl_types.specs.Integers.{pattern_of, read_as}
 use Rattle.fl_types.specs.declared.dtype.Nullability.{Nullability}
+use Rattle.fl_types.specs.declared.dtype.Nullability.TheVariants.{NonNullable, Nullable}
 use Rattle.fl_types.specs.Validities.{covers, full_validity, items_of, nullability_of, validity_between}
 use Rattle.fl_types.specs.Types.{can_be_null, integer_type, is_integer, is_nullable, nullability_in}
 use Rattle.fl_types.specs.Values.{fits_in, ScalarParts, bool_number}
@@ -45,6 +46,14 @@ pub record ConstantParts : Type 0 where
 -- the validity of a repeated scalar
 abbrev pub validity_of_constant : ScalarParts → Validity
 validity_of_constant scalar = unwrap_or (option_map (λ z. if can_be_null (nullability_in scalar.dtype) then valid.AllValid else valid.NonNullable) scalar.value) valid.AllInvalid
+
+-- the simplest validity of items, where nulls may stand or not: by its form where none is null or each is, else a bit for each
+abbrev pub item_validity : {A : Type 0} → Nullability → List (Option A) → Validity
+item_validity NonNullable items = valid.NonNullable
+item_validity Nullable items =
+    if list_all (λ item. is_some item) items then valid.AllValid
+    else if list_all (λ item. is_none item) items then valid.AllInvalid
+    else valid.Array (map (λ item. is_some item) items)
 
 -- booleans, also under a null, and which of them are valid
 pub record BoolParts : Type 0 where

@@ -1,5 +1,5 @@
 -- What operations make of columns, or why they make nothing.
-use Rattle.std.specs.Prelude.{◌+◌, ◌+ℤ◌, ◌==◌, ◌&&◌, ◌||◌, ◌^◌, ℕ, ℤ, pos, Bool, not, List, [], ◌∷◌, length, map, Option, Some, None, Result, Ok, Err, option_map, option_and_then, is_none, nat_le, nat_lt, int_le, int_lt, if◌then◌else◌, sum_by, flat_map, slice_index_or, unsigned_abs}
+use Rattle.std.specs.Prelude.{◌+◌, ◌+ℤ◌, ◌==◌, ◌&&◌, ◌||◌, ◌^◌, ℕ, ℤ, pos, Bool, not, List, [], ◌∷◌, length, map, Option, Some, None, Result, Ok, Err, ok_or, option_map, option_and_then, is_none, nat_le, nat_lt, int_le, int_lt, if◌then◌else◌, sum_by, flat_map, slice_index_or, unsigned_abs}
 use Rattle.std.specs.List.{list_all, list_any}
 use Rattle.fl_types.specs.declared.dtype.DType.{DType}
 use Rattle.fl_types.specs.declared.dtype.DType.TheVariants as dtypes
@@ -59,6 +59,10 @@ ranges_of ranges c = record { dtype = c.dtype; items = flat_map (λ range. betwe
 -- how many items the ranges have, where that is below 2 ^ 64
 abbrev pub total_of : List (ℕ × ℕ) → Option ℕ
 total_of ranges = let total = sum_by (λ range. range.1) ranges in if nat_lt total (2 ^ 64) then Some total else None
+
+-- how many items the ranges have among so many, or why they are refused
+abbrev pub ranges_total : ℕ → List (ℕ × ℕ) → Result ℕ FastLanesError
+ranges_total len ranges = if not (list_all (range_fits len) ranges) then Err RangeOutOfBounds else ok_or (total_of ranges) LengthOverflow
 
 -- the items of the ranges, or why there are none
 abbrev pub ranges_column : List (ℕ × ℕ) → Column → Result Column FastLanesError

@@ -1,6 +1,8 @@
 //! Plain arrays of booleans.
 
 ghost use Rattle.std.specs.Prelude.{◌≡◌, ◌≤◌, ◌<◌, IsTrue, length, slice_index_or, None, Ok};
+ghost use Rattle.fl_types.specs.declared.dtype.DType.TheVariants.{Bool};
+ghost use Rattle.fl_types.specs.declared.dtype.Nullability.TheVariants.{Nullable};
 ghost use Rattle.fl_types.specs.Validities.{covers};
 ghost use Rattle.fl_types.specs.Values.{scalar_parts};
 ghost use Rattle.fl_column.specs.Columns.{column_of_bools, new_bools, slice_bools, bools};
@@ -135,6 +137,21 @@ impl BoolArray {
         let validity = self.validity.slice(alloc, start, end, len)?;
         let bits = self.bits.slice(alloc, start, end)?;
         Ok(BoolArray { bits, validity })
+    }
+
+    /// The same items in an array in which nulls may stand.
+    pub fn into_nullable(self) -> BoolArray
+        ensures bits { result.bits ≡ self.bits }
+        ensures column { column_of_bools result ≡ record { dtype = Bool Nullable; items = (column_of_bools self).items } }
+    {
+        let BoolArray { bits, validity } = self;
+        let validity = match validity {
+            Validity::NonNullable => Validity::AllValid,
+            Validity::AllValid => Validity::AllValid,
+            Validity::AllInvalid => Validity::AllInvalid,
+            Validity::Array(valid) => Validity::Array(valid),
+        };
+        BoolArray { bits, validity }
     }
 
     /// A copy.

@@ -18,7 +18,6 @@ use std::marker::Model;
 /// is set where it is not null. Contracts see the list of the items.
 #[derive(Drop)]
 pub struct PrimitiveBuilder<T: NativePType> {
-    alloc: Global,
     slots: Vec<T>,
     validity: Validity,
 }
@@ -74,7 +73,6 @@ impl<T: NativePType> PrimitiveBuilder<T> {
     {
         let slots = Vec::with_capacity(alloc, len)?;
         Ok(PrimitiveBuilder {
-            alloc,
             slots,
             validity: Validity::AllValid,
         })
@@ -82,14 +80,14 @@ impl<T: NativePType> PrimitiveBuilder<T> {
 
     /// Adds an item.
     #[tactic(auto, using(crate::proofs::BuilderLaws::item_more))]
-    pub fn push(&mut self, item: Option<T>) -> Result<(), FastLanesError>
+    pub fn push(&mut self, alloc: Global, item: Option<T>) -> Result<(), FastLanesError>
         ensures items { OnOk result (self.new ≡ self.old ++ option_map T.value item ∷ []) }
         ensures err { OnErr result (self.new ≡ self.old) }
         ensures memory { IfErr result (λ e. e ≡ OutOfMemory) }
     {
         self.slots.reserve(1)?;
         let len = self.slots.as_slice().len();
-        push_validity(&mut self.validity, self.alloc, len, item.is_some())?;
+        push_validity(&mut self.validity, alloc, len, item.is_some())?;
         self.slots.push_reserved(item.unwrap_or(T::zero()));
         Ok(())
     }
@@ -100,11 +98,7 @@ impl<T: NativePType> PrimitiveBuilder<T> {
         requires { IsTrue (can_be_null nullability || list_all is_some self) }
         ensures { column_of_primitive result ≡ record { dtype = Primitive T.PTYPE nullability; items = self } }
     {
-        let PrimitiveBuilder {
-            alloc: _,
-            slots,
-            validity,
-        } = self;
+        let PrimitiveBuilder { slots, validity } = self;
         match nullability {
             Nullability::NonNullable => PrimitiveArray::non_nullable(slots),
             Nullability::Nullable => PrimitiveArray::new_unchecked(slots, validity),

@@ -17,7 +17,7 @@ use crate::bools::BoolArray;
 use crate::builder::PrimitiveBuilder;
 use crate::constant::ConstantArray;
 use crate::primitive::PrimitiveArray;
-use crate::selection::{positions, ranges_fit, total_len};
+use crate::selection::{positions, ranges_total};
 use fl_types::{
     BetweenOptions, CompareOperator, DType, FastLanesError, Mask, NativePType, Nullability, PType,
     PValue, PrimitiveBuffer, Validity, match_each_integer_ptype,
@@ -77,7 +77,7 @@ fn spread_typed<T: NativePType>(
     let value = typed_value::<T>(value);
     let mut taken = PrimitiveBuilder::with_capacity(alloc, positions.len())?;
     for position in positions {
-        taken.push(value_where(value, *position))?;
+        taken.push(alloc, value_where(value, *position))?;
     }
     Ok(taken.finish(nullability))
 }
@@ -166,13 +166,8 @@ impl ConstantArray {
     {
         // For the proof: the column is of integers.
         let _ptype = self.ptype();
-        if !ranges_fit(ranges, self.len()) {
-            return Err(FastLanesError::RangeOutOfBounds);
-        }
-        match total_len(ranges) {
-            Some(total) => self.with_len(total).decode(alloc),
-            None => Err(FastLanesError::LengthOverflow),
-        }
+        let total = ranges_total(ranges, self.len())?;
+        self.with_len(total).decode(alloc)
     }
 
     /// The items at the mask's true places. The mask has the array's length.

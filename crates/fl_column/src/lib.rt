@@ -16,6 +16,7 @@ pub mod primitive;
 mod questions;
 mod reinterpret;
 mod selection;
+mod simplest;
 
 pub use crate::bools::BoolArray;
 pub use crate::builder::PrimitiveBuilder;
@@ -24,7 +25,7 @@ pub use crate::constant::ConstantArray;
 pub use crate::numbers::{index_array, number_at};
 pub use crate::physical::PhysicalPType;
 pub use crate::primitive::PrimitiveArray;
-pub use crate::selection::item_at;
+pub use crate::selection::{item_at, ranges_total};
 pub use fl_types::{
     BetweenOptions, BitList, CompareOperator, DType, FastLanesError, Mask, NativePType,
     Nullability, PType, PValue, PrimitiveBuffer, Scalar, StrictComparison, Validity, is_equal,

@@ -1,6 +1,6 @@
 //! The bit patterns of integers, as numbers and as the words that the kernels work on.
 
-ghost use Rattle.std.specs.Prelude.{◌≡◌, ◌<◌, ◌≤◌, ◌++◌, ℕ, OnOk, length, map, pos, slice_index_or};
+ghost use Rattle.std.specs.Prelude.{◌≡◌, ◌<◌, ◌≤◌, ◌++◌, ℕ, OnErr, OnOk, length, map, pos, slice_index_or};
 ghost use Rattle.fastlanes.specs.Layout.{pattern_at};
 ghost use Rattle.fl_types.specs.Integers.{pattern_of, read_as};
 
@@ -83,12 +83,13 @@ pub fn write_patterns<T: PhysicalPType>(values: &[T], block: &mut [T::Physical; 
     }
 }
 
-/// Adds the values of these patterns.
+/// Adds the values of these patterns. Where a growth is refused nothing is added.
 pub fn push_values<T: PhysicalPType>(
     patterns: &[T::Physical],
     values: &mut Vec<T>,
 ) -> Result<(), AllocError>
-    ensures { OnOk result (map T.value values.new.items ≡ map T.value values.old.items ++ map (λ w. read_as T.PTYPE (T.Physical.pattern w)) patterns.now) }
+    ensures values { OnOk result (map T.value values.new.items ≡ map T.value values.old.items ++ map (λ w. read_as T.PTYPE (T.Physical.pattern w)) patterns.now) }
+    ensures err { OnErr result (values.new.items ≡ values.old.items) }
 {
     values.reserve(patterns.len())?;
     for pattern in patterns {

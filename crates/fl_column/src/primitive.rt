@@ -1,6 +1,6 @@
 //! Plain arrays of integers.
 
-ghost use Rattle.std.specs.Prelude.{◌≡◌, ◌≤◌, ◌<◌, ℤ, map, length, IfOk, IfSome, IsTrue, Ok, Some, None, option_map, slice_index_or};
+ghost use Rattle.std.specs.Prelude.{◌≡◌, ◌≤◌, ◌<◌, ℤ, [], map, length, IfOk, IfSome, IsTrue, Ok, Some, None, option_map, slice_index_or};
 ghost use Rattle.std.specs.List.{list_all};
 ghost use Rattle.fl_types.specs.Bits.{between};
 ghost use Rattle.fl_types.specs.Buffers.{integers_of, ptype_of};
@@ -50,6 +50,12 @@ impl Model for PrimitiveArray {
     ghost invariant = { λ a. IsTrue (covers a.validity (length (integers_of a.slots))) };
 }
 
+fn empty_typed<T: NativePType>(alloc: Global, nullability: Nullability) -> PrimitiveArray
+    ensures { result ≡ without_nulls T.PTYPE nullability [] }
+{
+    PrimitiveArray::without_nulls::<T>(Vec::new(alloc), nullability)
+}
+
 impl PrimitiveArray {
     /// An array of these parts.
     ///
@@ -78,6 +84,13 @@ impl PrimitiveArray {
             slots: T::into_buffer(items),
             validity,
         }
+    }
+
+    /// An array of a type without items. It takes no memory.
+    pub fn empty(alloc: Global, ptype: PType, nullability: Nullability) -> PrimitiveArray
+        ensures { result ≡ without_nulls ptype nullability [] }
+    {
+        match_each_integer_ptype!(ptype, empty_typed(alloc, nullability))
     }
 
     /// An array of these integers, none of which is null, where nulls may stand or not.

@@ -3,13 +3,13 @@
 mod with_bits;
 mod without_nulls;
 
-ghost use Rattle.std.specs.Prelude.{◌≡◌, ◌<◌, ◌||◌, ◌+◌, ◌^◌, ◌++◌, IsTrue, is_some, map, length, Ok, OnOk, IfErr, None, option_map, slice_index_or, unsigned_abs};
+ghost use Rattle.std.specs.Prelude.{◌≡◌, ◌<◌, ◌||◌, ◌+◌, ◌^◌, ◌++◌, IsTrue, is_some, map, length, Ok, OnOk, IfErr, IfOk, None, Some, option_map, slice_index_or, unsigned_abs};
 ghost use Rattle.std.specs.List.{flat_map, list_all};
 ghost use Rattle.fl_types.specs.Buffers.{integers_of, ptype_of};
 ghost use Rattle.fl_types.specs.Bits.{between};
 ghost use Rattle.fl_column.specs.Columns.{column_of_primitive};
 ghost use Rattle.fl_types.specs.Validities.{covers, items_of, nullability_of};
-ghost use Rattle.fl_column.specs.Operations.{filter_of, is_in_range, kept, range_fits, ranges_column, ranges_of, take_column, total_of};
+ghost use Rattle.fl_column.specs.Operations.{filter_of, is_in_range, kept, range_fits, ranges_column, ranges_of, ranges_total, take_column, total_of};
 ghost use Rattle.fl_types.specs.Masks.{mask_len};
 ghost use Rattle.fl_column.specs.Selections.{are_below_length, is_below_length, item_at_position, items_at, positions_in};
 ghost use Rattle.fl_types.specs.Types.{can_be_null};
@@ -72,7 +72,7 @@ pub(crate) fn take_typed<T: NativePType>(
     let items = T::as_slice(slots);
     let mut taken = PrimitiveBuilder::with_capacity(alloc, positions.len())?;
     for position in positions {
-        taken.push(item_at_position(items, validity, *position))?;
+        taken.push(alloc, item_at_position(items, validity, *position))?;
     }
     Ok(taken.finish(nullability))
 }
@@ -127,6 +127,7 @@ fn positions_typed<T: NativePType>(
 /// Adds the items from `start` to below `start + len`.
 fn push_range<T: NativePType>(
     builder: &mut PrimitiveBuilder<T>,
+    alloc: Global,
     items: &[T],
     validity: &Validity,
     start: usize,
@@ -138,7 +139,7 @@ fn push_range<T: NativePType>(
     ensures memory { IfErr result (λ e. e ≡ OutOfMemory) }
 {
     for k in 0..len {
-        builder.push(item_at(items, validity, start + k))?;
+        builder.push(alloc, item_at(items, validity, start + k))?;
     }
     Ok(())
 }
@@ -159,7 +160,7 @@ fn ranges_typed<T: NativePType>(
     let items = T::as_slice(slots);
     let mut taken = PrimitiveBuilder::with_capacity(alloc, total)?;
     for range in ranges {
-        push_range(&mut taken, items, validity, range.0, range.1)?;
+        push_range(&mut taken, alloc, items, validity, range.0, range.1)?;
     }
     Ok(taken.finish(validity.nullability()))
 }
@@ -180,7 +181,7 @@ fn filter_typed<T: NativePType>(
     let mut kept = PrimitiveBuilder::with_capacity(alloc, bits.count_true())?;
     for i in 0..items.len() {
         if bits.get(i) {
-            kept.push(item_at(items, validity, i))?;
+            kept.push(alloc, item_at(items, validity, i))?;
         }
     }
     Ok(kept.finish(validity.nullability()))
@@ -219,7 +220,7 @@ pub(crate) fn take_positions(
 }
 
 /// Whether every range lies among this many items. A range without items does wherever it starts.
-pub(crate) fn ranges_fit(ranges: &[(usize, usize)], len: usize) -> bool
+fn ranges_fit(ranges: &[(usize, usize)], len: usize) -> bool
     ensures { result ≡ list_all (range_fits len) ranges.now }
 {
     for (start, count) in ranges {
@@ -231,7 +232,7 @@ pub(crate) fn ranges_fit(ranges: &[(usize, usize)], len: usize) -> bool
 }
 
 /// How many items the ranges have, where a `usize` holds it.
-pub(crate) fn total_len(ranges: &[(usize, usize)]) -> Option<usize>
+fn total_len(ranges: &[(usize, usize)]) -> Option<usize>
     ensures { result ≡ total_of ranges.now }
 {
     let mut total = 0usize;
@@ -239,6 +240,25 @@ pub(crate) fn total_len(ranges: &[(usize, usize)]) -> Option<usize>
         total = total.checked_add(range.1)?;
     }
     Some(total)
+}
+
+/// How many items ranges have, each a start and a length, in an array of `len` items.
+///
+/// # Errors
+/// `RangeOutOfBounds` where a range with items reaches beyond `len`, and then `LengthOverflow` where the
+/// lengths' sum is above `usize::MAX`.
+pub fn ranges_total(ranges: &[(usize, usize)], len: usize) -> Result<usize, FastLanesError>
+    ensures value { result ≡ ranges_total len ranges.now }
+    ensures fit { OnOk result (IsTrue (list_all (range_fits len) ranges.now)) }
+    ensures total { IfOk result (λ total. total_of ranges.now ≡ Some total) }
+{
+    if !ranges_fit(ranges, len) {
+        return Err(FastLanesError::RangeOutOfBounds);
+    }
+    match total_len(ranges) {
+        Some(total) => Ok(total),
+        None => Err(FastLanesError::LengthOverflow),
+    }
 }
 
 /// The items of the ranges, which lie in the array, one range after another.
@@ -336,13 +356,8 @@ impl PrimitiveArray {
     ) -> Result<PrimitiveArray, FastLanesError>
         ensures { Answers column_of_primitive result (ranges_column ranges.now (column_of_primitive self.now)) }
     {
-        if !ranges_fit(ranges, self.len()) {
-            return Err(FastLanesError::RangeOutOfBounds);
-        }
-        match total_len(ranges) {
-            Some(total) => take_fitting_ranges(alloc, self, ranges, total),
-            None => Err(FastLanesError::LengthOverflow),
-        }
+        let total = ranges_total(ranges, self.len())?;
+        take_fitting_ranges(alloc, self, ranges, total)
     }
 
     /// The items at the mask's true places, in order. The mask has the array's length.

@@ -16,6 +16,7 @@ use fl_column::PrimitiveArray;
 use fl_types::{DType, FastLanesError, PValue};
 use std::alloc::Global;
 use std::marker::Model;
+use std::ops::Range;
 
 /// Patches of an array: values at some of its positions. The patch at position `i` has the index
 /// `offset + i`, so that a slice can keep the indices of the array that it was cut from. Contracts
@@ -225,19 +226,19 @@ impl Patches {
         value_in(&self.values, rank)
     }
 
-    /// The patches of the items from `start` to below `end`, or `None` where there are none. The
-    /// indices stay, `start` is added to the offset, and there are no chunk offsets.
+    /// The patches of the items of a range, or `None` where there are none. The indices stay, the
+    /// range's start is added to the offset, and there are no chunk offsets.
     pub fn slice(
         &self,
         alloc: Global,
-        start: usize,
-        end: usize,
+        range: Range<usize>,
     ) -> Result<Option<Patches>, FastLanesError>
-        requires order { start ≤ end }
-        requires range { end ≤ self.now.array_len }
-        ensures parts { Answers (λ o. o) result (Ok (slice_patches start end self.now)) }
-        ensures map { IfOk result (λ o. ArePatches o (end - start) (λ i. patched self.now (start + i))) }
+        requires order { range.start ≤ range.end }
+        requires range { range.end ≤ self.now.array_len }
+        ensures parts { Answers (λ o. o) result (Ok (slice_patches range.start range.end self.now)) }
+        ensures map { IfOk result (λ o. ArePatches o (range.end - range.start) (λ i. patched self.now (range.start + i))) }
     {
+        let (start, end) = (range.start, range.end);
         let first = count_in(&self.indices, self.offset as u128 + start as u128);
         let last = count_in(&self.indices, self.offset as u128 + end as u128);
         if first == last {

@@ -56,7 +56,7 @@ fn slice(alloc: Global, patches: &Patches, range: &str) -> Selected {
     if start > end || end > patches.array_len() {
         return Err(FastLanesError::RangeOutOfBounds);
     }
-    patches.slice(alloc, start, end)
+    patches.slice(alloc, start..end)
 }
 
 /// A mask that keeps the items of a range.

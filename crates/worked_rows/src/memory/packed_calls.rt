@@ -25,7 +25,7 @@ fn select(alloc: Global, patches: &Patches, inputs: &Inputs) -> Came {
     let len = patches.array_len();
     let made = match (inputs.ops.as_slice(), inputs.columns.as_slice()) {
         ([Op::Slice(range)], _) if range.start <= range.end && range.end <= len => {
-            patches.slice(alloc, range.start, range.end)?
+            patches.slice(alloc, range.start..range.end)?
         }
         ([Op::Filter(mask)], _) if mask.len() == len => patches.filter(alloc, mask)?,
         ([Op::Take(_)], [_, indices, ..]) => patches.take(alloc, indices)?,

@@ -34,8 +34,8 @@ push_reserved-requires g c =
     let more = c.loop-pattern-test.true in
     omega arith
 
-pub returns : goal.returns
-returns g c =
+pub returns-clause-values : goal.returns-clause-values
+returns-clause-values g c =
     let start = map g.T.Number.value c.args.values.now.items in
     let read = map (λ w. read_as g.T.NativePType.PTYPE (g.T.Physical.FastLanes.pattern w)) in
     c.loop-pattern.invariant.values ∙ ap (λ ws. start ++ read ws) (take_all c.loop-pattern.pattern-index c.args.patterns.now c.loop-pattern-test.false)

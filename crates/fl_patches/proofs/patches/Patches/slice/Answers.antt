@@ -25,7 +25,7 @@ pub returns-then-first-last-clause-parts : goal.returns-then-first-last-clause-p
 returns-then-first-last-clause-parts c =
     let f = c.self.inside in
     let p : PatchesParts = record { array_len = f.array_len; offset = f.offset; indices = f.indices; values = f.values; chunk_offsets = f.chunk_offsets } in
-    let same : patches_before c.args.start p ≡ patches_before c.args.end p = sym c.count_in-first.ensures ∙ (c.if-first-last.true ∙ c.count_in-last.ensures) in
+    let same : patches_before c.args.range.start p ≡ patches_before c.args.range.end p = sym c.count_in-first.ensures ∙ (c.if-first-last.true ∙ c.count_in-last.ensures) in
     rw (← c.self.view_is, eq-eqb _ _ same) refl
 
 pub returns-then-first-last-clause-map : goal.returns-then-first-last-clause-map
@@ -33,15 +33,15 @@ returns-then-first-last-clause-map c =
     let f = c.self.inside in
     let p : PatchesParts = record { array_len = f.array_len; offset = f.offset; indices = f.indices; values = f.values; chunk_offsets = f.chunk_offsets } in
     let s = sound p c.self.invariant in
-    let same : patches_before c.args.start p ≡ patches_before c.args.end p = sym c.count_in-first.ensures ∙ (c.if-first-last.true ∙ c.count_in-last.ensures) in
-    rw (← c.self.view_is) (patches_none (c.args.end - c.args.start) (λ i. patched p (c.args.start + i)) (λ i h. none_cut p c.args.start c.args.end i s same h))
+    let same : patches_before c.args.range.start p ≡ patches_before c.args.range.end p = sym c.count_in-first.ensures ∙ (c.if-first-last.true ∙ c.count_in-last.ensures) in
+    rw (← c.self.view_is) (patches_none (c.args.range.end - c.args.range.start) (λ i. patched p (c.args.range.start + i)) (λ i h. none_cut p c.args.range.start c.args.range.end i s same h))
 
 pub number_at-index-requires : goal.number_at-index-requires
 number_at-index-requires c =
     let f = c.self.inside in
     let p : PatchesParts = record { array_len = f.array_len; offset = f.offset; indices = f.indices; values = f.values; chunk_offsets = f.chunk_offsets } in
-    let order = before_in_order p c.args.start c.args.end (sound p c.self.invariant) c.requires.order in
-    let room = before_within p c.args.end in
+    let order = before_in_order p c.args.range.start c.args.range.end (sound p c.self.invariant) c.requires.order in
+    let room = before_within p c.args.range.end in
     let first = c.count_in-first.ensures in
     let last = c.count_in-last.ensures in
     let other = c.if-first-last.false in
@@ -51,16 +51,16 @@ pub overflow_add-slice_offset : goal.overflow_add-slice_offset
 overflow_add-slice_offset c =
     let f = c.self.inside in
     let p : PatchesParts = record { array_len = f.array_len; offset = f.offset; indices = f.indices; values = f.values; chunk_offsets = f.chunk_offsets } in
-    let other : patches_before c.args.start p ≢ patches_before c.args.end p = λ e. c.if-first-last.false (c.count_in-first.ensures ∙ (e ∙ sym c.count_in-last.ensures)) in
-    let low = first_at p c.args.start c.args.end (sound p c.self.invariant) c.requires.order other in
-    let high : get_or (numbers p.indices) (patches_before c.args.start p) 0 < 2 ^ 64 = rw (← c.count_in-first.ensures, ← c.number_at-index.ensures) c.number_at-index.type_inv in
+    let other : patches_before c.args.range.start p ≢ patches_before c.args.range.end p = λ e. c.if-first-last.false (c.count_in-first.ensures ∙ (e ∙ sym c.count_in-last.ensures)) in
+    let low = first_at p c.args.range.start c.args.range.end (sound p c.self.invariant) c.requires.order other in
+    let high : get_or (numbers p.indices) (patches_before c.args.range.start p) 0 < 2 ^ 64 = rw (← c.count_in-first.ensures, ← c.number_at-index.ensures) c.number_at-index.type_inv in
     omega arith
 
 pub slice_of-requires-clause-order : goal.slice_of-requires-clause-order
 slice_of-requires-clause-order c =
     let f = c.self.inside in
     let p : PatchesParts = record { array_len = f.array_len; offset = f.offset; indices = f.indices; values = f.values; chunk_offsets = f.chunk_offsets } in
-    let order = before_in_order p c.args.start c.args.end (sound p c.self.invariant) c.requires.order in
+    let order = before_in_order p c.args.range.start c.args.range.end (sound p c.self.invariant) c.requires.order in
     let first = c.count_in-first.ensures in
     let last = c.count_in-last.ensures in
     omega arith
@@ -69,7 +69,7 @@ pub slice_of-requires-clause-range : goal.slice_of-requires-clause-range
 slice_of-requires-clause-range c =
     let f = c.self.inside in
     let p : PatchesParts = record { array_len = f.array_len; offset = f.offset; indices = f.indices; values = f.values; chunk_offsets = f.chunk_offsets } in
-    let room = before_within p c.args.end in
+    let room = before_within p c.args.range.end in
     let last = c.count_in-last.ensures in
     omega arith
 
@@ -77,7 +77,7 @@ pub slice_of-requires-2-clause-order : goal.slice_of-requires-2-clause-order
 slice_of-requires-2-clause-order c =
     let f = c.self.inside in
     let p : PatchesParts = record { array_len = f.array_len; offset = f.offset; indices = f.indices; values = f.values; chunk_offsets = f.chunk_offsets } in
-    let order = before_in_order p c.args.start c.args.end (sound p c.self.invariant) c.requires.order in
+    let order = before_in_order p c.args.range.start c.args.range.end (sound p c.self.invariant) c.requires.order in
     let first = c.count_in-first.ensures in
     let last = c.count_in-last.ensures in
     omega arith
@@ -86,7 +86,7 @@ pub slice_of-requires-2-clause-range : goal.slice_of-requires-2-clause-range
 slice_of-requires-2-clause-range c =
     let f = c.self.inside in
     let p : PatchesParts = record { array_len = f.array_len; offset = f.offset; indices = f.indices; values = f.values; chunk_offsets = f.chunk_offsets } in
-    let room = before_within p c.args.end in
+    let room = before_within p c.args.range.end in
     let even = (sound p c.self.invariant).even in
     let last = c.count_in-last.ensures in
     omega arith
@@ -95,8 +95,8 @@ pub invariant_of-result : goal.invariant_of-result
 invariant_of-result c =
     let f = c.self.inside in
     let p : PatchesParts = record { array_len = f.array_len; offset = f.offset; indices = f.indices; values = f.values; chunk_offsets = f.chunk_offsets } in
-    let start = c.args.start in
-    let end = c.args.end in
+    let start = c.args.range.start in
+    let end = c.args.range.end in
     let first : c.count_in-first.result ≡ patches_before start p = c.count_in-first.ensures in
     let last : c.count_in-last.result ≡ patches_before end p = c.count_in-last.ensures in
     let other : patches_before start p ≢ patches_before end p = λ e. c.if-first-last.false (first ∙ (e ∙ sym last)) in
@@ -111,8 +111,8 @@ pub returns-clause-parts : goal.returns-clause-parts
 returns-clause-parts c =
     let f = c.self.inside in
     let p : PatchesParts = record { array_len = f.array_len; offset = f.offset; indices = f.indices; values = f.values; chunk_offsets = f.chunk_offsets } in
-    let start = c.args.start in
-    let end = c.args.end in
+    let start = c.args.range.start in
+    let end = c.args.range.end in
     let first : c.count_in-first.result ≡ patches_before start p = c.count_in-first.ensures in
     let last : c.count_in-last.result ≡ patches_before end p = c.count_in-last.ensures in
     let other : patches_before start p ≢ patches_before end p = λ e. c.if-first-last.false (first ∙ (e ∙ sym last)) in
@@ -128,8 +128,8 @@ pub returns-clause-map : goal.returns-clause-map
 returns-clause-map c =
     let f = c.self.inside in
     let p : PatchesParts = record { array_len = f.array_len; offset = f.offset; indices = f.indices; values = f.values; chunk_offsets = f.chunk_offsets } in
-    let start = c.args.start in
-    let end = c.args.end in
+    let start = c.args.range.start in
+    let end = c.args.range.end in
     let first : c.count_in-first.result ≡ patches_before start p = c.count_in-first.ensures in
     let last : c.count_in-last.result ≡ patches_before end p = c.count_in-last.ensures in
     let other : patches_before start p ≢ patches_before end p = λ e. c.if-first-last.false (first ∙ (e ∙ sym last)) in
