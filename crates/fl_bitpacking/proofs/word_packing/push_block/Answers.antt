@@ -14,10 +14,10 @@ returns-clause-long g c =
     let old = c.args.packed.now.items in
     let words = c.pack.new.packed in
     let block = front_words g.T.Physical.FastLanes.T g.T.Physical.FastLanes.LANES c.args.width c.LANES-lanes.result c.args.words.now words g.met.T.Physical.FastLanes.shape c.requires.width c.LANES-lanes.ensures c.requires.words c.pack.auto.packed in
-    words_more g.T.Physical.FastLanes.pattern g.T.Number.value g.T.NativePType.PTYPE old c.push_values.new.values.items words c.in_ok-push_values.ensures ∙ ap (λ n. length old + n) block
+    words_more g.T.Physical.FastLanes.pattern g.T.Number.value g.T.NativePType.PTYPE old c.push_values.new.values.items words c.in_ok-push_values.ensures.values ∙ ap (λ n. length old + n) block
 
 pub returns-clause-before : goal.returns-clause-before
-returns-clause-before g c m h = words_kept g.T.Number.value g.T.NativePType.PTYPE c.args.packed.now.items _ _ c.in_ok-push_values.ensures m h
+returns-clause-before g c m h = words_kept g.T.Number.value g.T.NativePType.PTYPE c.args.packed.now.items _ _ c.in_ok-push_values.ensures.values m h
 
 pub returns-clause-packed : goal.returns-clause-packed
 returns-clause-packed g c =
@@ -25,7 +25,7 @@ returns-clause-packed g c =
     let block = front_words g.T.Physical.FastLanes.T g.T.Physical.FastLanes.LANES c.args.width c.LANES-lanes.result c.args.words.now words g.met.T.Physical.FastLanes.shape c.requires.width c.LANES-lanes.ensures c.requires.words c.pack.auto.packed in
     let packed = packed_by_items _ _ c.args.width _ _ _ g.met.T.Physical.FastLanes.shape (λ i h. sym (c.write_padded_patterns.ensures.patterns i h)) c.pack.ensures in
     block_added g.T.Physical.FastLanes.pattern g.T.Number.value g.T.NativePType.PTYPE g.T.Physical.FastLanes.T g.T.Physical.FastLanes.LANES c.args.width _ c.args.packed.now.items _ words g.met.T.Physical.FastLanes.shape g.met.T.PhysicalPType.width_law block
-    c.in_ok-push_values.ensures c.prove_all_in_range.ensures packed
+    c.in_ok-push_values.ensures.values c.prove_all_in_range.ensures packed
 
 pub overflow_mul-words : goal.overflow_mul-words
 overflow_mul-words g c =

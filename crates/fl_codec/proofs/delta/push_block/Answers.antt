@@ -40,7 +40,7 @@ returns-clause-long g c =
     let whole = c.told-block in
     let size = c.len.ensures in
     let so_far = c.requires.long in
-    on_ok c.push_values.result (λ e. let all = longer g.T.Number.value (λ w. read (g.T.Physical.FastLanes.pattern w)) c.push_values.new.values.items c.args.values.now.items c.args.block.now low (c.min-high.result - low) (omega arith) e in omega arith) c.push_values.ensures
+    on_ok c.push_values.result (λ e. let all = longer g.T.Number.value (λ w. read (g.T.Physical.FastLanes.pattern w)) c.push_values.new.values.items c.args.values.now.items c.args.block.now low (c.min-high.result - low) (omega arith) e in omega arith) c.push_values.ensures.values
 
 pub returns-clause-items : goal.returns-clause-items
 returns-clause-items g c =
@@ -50,4 +50,4 @@ returns-clause-items g c =
     let so_far = c.requires.long in
     let room : low + (c.min-high.result - low) ≤ length c.args.block.now = omega arith in
     let here : 1024 * c.args.k + low ≡ c.args.offset + length c.args.values.now.items = omega arith in
-    on_ok c.push_values.result (λ e item each so_far. more_items g.T.Number.value g.T.Physical.FastLanes.pattern (read_as g.T.NativePType.PTYPE) c.push_values.new.values.items c.args.values.now.items c.args.block.now item c.args.offset (1024 * c.args.k) low (c.min-high.result - low) room here whole e each so_far) c.push_values.ensures
+    on_ok c.push_values.result (λ e item each so_far. more_items g.T.Number.value g.T.Physical.FastLanes.pattern (read_as g.T.NativePType.PTYPE) c.push_values.new.values.items c.args.values.now.items c.args.block.now item c.args.offset (1024 * c.args.k) low (c.min-high.result - low) room here whole e each so_far) c.push_values.ensures.values

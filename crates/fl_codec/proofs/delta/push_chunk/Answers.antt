@@ -26,7 +26,7 @@ returns-clause-bases g c =
     let here = same_items g.T.Number.value c.args.array.now c.validity.result.now c.as_slice.result.now c.validity.ensures.value c.as_slice.ensures in
     let filled_at = λ (q : ℕ) (h : q < 1024). ap (λ xs. filled_from (value c.args.last) (chunk k xs) q) here ∙ (ap (λ b. filled_from b (chunk k items) q) c.requires.last ∙ sym (fill_forward-carry items k q h)) in
     let long = c.encode_block.ensures.stored in
-    c.in_ok-push_values.ensures ∙ (ap (λ ws. map value c.args.bases.now.items ++ map (λ w. read_as ptype (pattern w)) ws) c.first_row.ensures.row
+    c.in_ok-push_values.ensures.values ∙ (ap (λ ws. map value c.args.bases.now.items ++ map (λ w. read_as ptype (pattern w)) ws) c.first_row.ensures.row
     ∙ bases_of_chunk pattern ptype g.T.Physical.FastLanes.T g.T.Physical.FastLanes.LANES k (fill_forward Carry items) (pattern_at pattern c.fill_chunk-last.new.block) c.encode_block.new.stored
     g.met.T.Physical.FastLanes.shape g.met.T.PhysicalPType.width_law (let few = few_lanes g.T.Physical.FastLanes.T g.T.Physical.FastLanes.LANES g.met.T.Physical.FastLanes.shape in omega arith)
     (λ q h. c.fill_chunk-last.ensures.block q h ∙ ap (pattern_of ptype) (filled_at q h))
@@ -42,7 +42,7 @@ returns-clause-deltas g c =
     let items = items_of_primitive c.args.array.now in
     let here = same_items g.T.Number.value c.args.array.now c.validity.result.now c.as_slice.result.now c.validity.ensures.value c.as_slice.ensures in
     let filled_at = λ (q : ℕ) (h : q < 1024). ap (λ xs. filled_from (value c.args.last) (chunk k xs) q) here ∙ (ap (λ b. filled_from b (chunk k items) q) c.requires.last ∙ sym (fill_forward-carry items k q h)) in
-    c.in_ok-push_values-2.ensures
+    c.in_ok-push_values-2.ensures.values
     ∙ deltas_of_chunk pattern ptype g.T.Physical.FastLanes.T g.T.Physical.FastLanes.LANES k (fill_forward Carry items) (pattern_at pattern c.fill_chunk-last.new.block) c.encode_block.new.block
     g.met.T.Physical.FastLanes.shape g.met.T.PhysicalPType.width_law c.encode_block.ensures.whole
     (λ q h. c.fill_chunk-last.ensures.block q h ∙ ap (pattern_of ptype) (filled_at q h))

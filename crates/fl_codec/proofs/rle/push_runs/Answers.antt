@@ -20,7 +20,7 @@ returns-clause-values g c =
     let items = items_of_primitive c.args.array.now in
     let here = same_items value c.args.array.now c.validity.result.now c.as_slice.result.now c.validity.ensures.value c.as_slice.ensures in
     let filled_at = λ (q : ℕ) (h : q < 1024). ap (λ xs. filled_from (value c.zero.result) (chunk k xs) q) here ∙ (ap (λ b. filled_from b (chunk k items) q) c.zero.ensures ∙ sym (fill_forward-reset items k q h)) in
-    c.in_ok-push_values.ensures ∙ (ap (λ xs. xs ++ map (λ w. read_as ptype (pattern w)) (take c.rle_encode-count.result c.rle_encode-count.new.values)) c.requires.values
+    c.in_ok-push_values.ensures.values ∙ (ap (λ xs. xs ++ map (λ w. read_as ptype (pattern w)) (take c.rle_encode-count.result c.rle_encode-count.new.values)) c.requires.values
     ∙ (ap (λ ys. values_to items k ++ ys) (values_of_chunk pattern ptype (fill_forward Reset items) k (pattern_at pattern c.fill_chunk.new.block) c.rle_encode-count.new.values c.rle_encode-count.result (let few = c.rle_encode-count.ensures.few in let long = c.told-rle in search rules) c.rle_encode-count.ensures.count
     (λ q h. c.fill_chunk.ensures.block q h ∙ ap (pattern_of ptype) (filled_at q h))
     (λ q h. subst (λ z. IsTrue (fits ptype z)) (filled_at q h) (c.fill_chunk.ensures.fits q h))
