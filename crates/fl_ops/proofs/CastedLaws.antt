@@ -1,30 +1,27 @@
 -- Casts of columns plus references.
-use Rattle.std.proofs.Common.{◌≡◌, ◌∙◌, ℕ, ℤ, pos, negsuc, zero, suc, ◌+◌, ◌<◌, ◌≤◌, ◌/◌, ◌+ℤ◌, Bool, true, false, not, List, [], ◌∷◌, length, map, get_or, Option, Some, None, Result, Ok, Err, refl, ap, sym, arith, IsTrue}
-use Rattle.std.specs.Prelude.{◌&&◌, ◌||◌, if◌then◌else◌, is_none, is_some, option_map, unsigned_abs, unwrap_or}
+use Rattle.std.proofs.Common.{◌≡◌, ◌∙◌, ℕ, ℤ, pos, ◌+◌, ◌≤◌, ◌/◌, Bool, true, false, not, List, length, map, get_or, Option, Some, None, Result, Ok, Err, refl, ap, sym, arith}
+use Rattle.std.specs.Prelude.{◌&&◌, ◌||◌, if◌then◌else◌, is_none, is_some, option_map, unsigned_abs}
 use Rattle.std.specs.List.{list_all, list_any}
 use Rattle.std.proofs.lemmas.List.{length-map, get_or-map}
-use Rattle.std.proofs.lemmas.Bool.Decides.{Decides-int_eq}
-use Rattle.std.proofs.lemmas.Int.{ints}
 use Rattle.fl_types.specs.declared.dtype.DType.{DType}
 use Rattle.fl_types.specs.declared.dtype.DType.TheVariants as dtypes
 use Rattle.fl_types.specs.declared.dtype.Nullability.{Nullability}
 use Rattle.fl_types.specs.declared.dtype.PType.{PType}
 use Rattle.fl_types.specs.declared.error.FastLanesError.{FastLanesError}
 use Rattle.fl_types.specs.declared.error.FastLanesError.TheVariants.{CastNull, CastOutOfRange, NotInteger}
-use Rattle.fl_types.specs.Integers.{fits, same_ptype, wrap}
-use Rattle.fl_types.specs.Types.{can_be_null, has_ptype, integer_type, is_integer, nullability_in, same_type, with_nullability}
+use Rattle.fl_types.specs.Integers.{fits}
+use Rattle.fl_types.specs.Types.{can_be_null, has_ptype, integer_type, is_integer, nullability_in, same_type}
 use Rattle.fl_types.specs.Values.{fits_in}
-use Rattle.fl_column.specs.Columns.{Column, integers_in, option_all, ptype_of_column}
-use Rattle.fl_column.specs.Operations.{cast_column, cast_items}
+use Rattle.fl_column.specs.Columns.{Column, integers_in, option_all}
+use Rattle.fl_column.specs.Operations.{cast_column}
 use Rattle.fl_types.specs.declared.dtype.Nullability.TheVariants.{NonNullable, Nullable}
 use Rattle.fl_types.specs.Bits.{table}
 use Rattle.fl_codec.specs.RunColumns.{chunk_start, run_item}
 use Rattle.fl_bitpacking.proofs.NullLaws.{all_there, nulls_alike}
-use Rattle.fl_column.proofs.ListLaws.{all_from, any_from}
+use Rattle.fl_column.proofs.ListLaws.{any_from}
 use Rattle.fl_codec.specs.FoRColumns.{chunked_for, global_for, plus_reference}
 use Rattle.fl_codec.proofs.FoRSlices.{is_some-plus, length-chunked}
 use Rattle.fl_codec.proofs.FirstRefusals.{same_ptype_is}
-use Rattle.fl_codec.proofs.FoRRoundTrips.{wrap-wrap_left}
 use Rattle.fl_codec.proofs.Tables.{get_or-table, length-table}
 use Rattle.fl_array.specs.Ranges.{items_fit}
 use Rattle.fl_array.proofs.RangeLaws.{all_chunked_sums, all_sums, integers_fit, runs_fit}

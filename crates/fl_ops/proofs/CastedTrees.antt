@@ -1,5 +1,5 @@
 -- Casts of arrays: what they answer, and the arrays that they make.
-use Rattle.std.proofs.Common.{◌≡◌, ◌∙◌, inl, inr, ℕ, ℤ, pos, ◌+◌, ◌≤◌, Bool, true, false, not, List, length, Option, Some, None, Result, Ok, Err, refl, ap, sym, subst, arith}
+use Rattle.std.proofs.Common.{◌≡◌, ◌∙◌, inl, inr, ℕ, ℤ, pos, ◌+◌, Bool, true, false, not, length, Option, Some, None, Result, Ok, Err, refl, ap, sym, subst, arith}
 use Rattle.std.specs.Prelude.{◌&&◌, ◌||◌, ◌⊎◌, if◌then◌else◌, is_none, is_ok, unwrap_or}
 use Rattle.std.specs.List.{list_all, list_any}
 use Rattle.fl_types.specs.declared.dtype.DType.{DType}
@@ -14,12 +14,12 @@ use Rattle.fl_types.specs.declared.validity.Validity.{Validity}
 use Rattle.fl_types.specs.declared.validity.Validity.TheVariants as valid
 use Rattle.fl_types.specs.Bits.{table}
 use Rattle.fl_types.specs.Integers.{fits}
-use Rattle.fl_types.specs.Refusals.{Answers, Refuses}
+use Rattle.fl_types.specs.Refusals.{Refuses}
 use Rattle.fl_types.specs.Validities.{is_valid_at, nullability_of}
 use Rattle.fl_types.specs.Types.{can_be_null, has_ptype, integer_type, is_integer, is_nullable, nullability_in, same_type, with_nullability}
 use Rattle.fl_types.specs.Values.{ScalarParts}
-use Rattle.fl_types.proofs.RefusalLaws.{Refuses_cases, Refuses_map}
-use Rattle.fl_column.specs.Columns.{Column, PrimitiveParts, column_of_primitive, integers_in, numbers_of, option_all, ptype_of_column}
+use Rattle.fl_types.proofs.RefusalLaws.{Refuses_cases}
+use Rattle.fl_column.specs.Columns.{Column, PrimitiveParts, column_of_primitive, integers_in, item_validity, numbers_of, option_all, ptype_of_column}
 use Rattle.fl_column.proofs.ListLaws.{and_first, and_second, any_from}
 use Rattle.fl_codec.specs.Deltas.{delta_integer}
 use Rattle.fl_codec.specs.RunColumns.{run_item}
@@ -41,15 +41,15 @@ use Rattle.fl_array.specs.Trees.{BitPackedBlocked, BitPackedGlobal, Constant, De
 use Rattle.fl_array.specs.Trees as tree
 use Rattle.fl_array.proofs.BitPackedLaws.{bitpacked_dtype}
 use Rattle.fl_array.proofs.FoRSound.{chunked_column, global_column}
-use Rattle.fl_ops.specs.Normalized.{SameShown, normalized, plain_of}
+use Rattle.fl_ops.specs.Normalized.{SameShown, normalized}
 use Rattle.fl_ops.specs.Results.{cast_to, indices_target, parts_cast, plain_cast, values_target}
 use Rattle.fl_ops.proofs.CastedLaws.{cast_is, cast_of_chunked, cast_of_global, cast_of_runs, cast_tests, same_cast_null, same_cast_ok, target_is}
 use Rattle.fl_ops.proofs.SelectedLaws.{for_is, mapped, refused_mapped, same_integers}
 use Rattle.fl_ops.proofs.Shown.{plain_shown}
 
 -- ---- decoded
-pub cast_shown : (target : DType) (c : Column) (p : PrimitiveParts) → cast_column target c ≡ Ok (column_of_primitive p) → SameShown (Primitive p) (plain_cast target c)
-cast_shown target c p h = plain_shown p (record { dtype = target; items = c.items }) (sym (cast_is target c (column_of_primitive p) h))
+pub cast_shown : (target : DType) (c : Column) (a b : PrimitiveParts) → b ≡ record { ptype = a.ptype; slots = a.slots; validity = item_validity (nullability_of a.validity) (column_of_primitive a).items } → column_of_primitive b ≡ column_of_primitive a → cast_column target c ≡ Ok (column_of_primitive a) → SameShown (Primitive b) (plain_cast target c)
+cast_shown target c a b parts same h = plain_shown a b (record { dtype = target; items = c.items }) parts same (sym (cast_is target c (column_of_primitive a) h))
 
 -- ---- bit-packed
 packed_type : (a : BitPackedArrayParts) (target : DType) → has_ptype a.parts.ptype target ≡ true → same_type (column (tree_of_bitpacked a)).dtype target ≡ true
@@ -118,7 +118,7 @@ chunked_cast_refused e a t references offset target same is typed fit h =
 pub chunked_cast_to : (a : FoRArrayParts) (part references : Tree) (offset : ℕ) (target : DType) → ChunkReferences references offset ≡ a.references → same_type (column a.encoded).dtype target ≡ true → SameShown part (cast_to target a.encoded) → SameShown (for_tree part a.references) (cast_to target (tree_of_for a))
 chunked_cast_to a part references offset target same typed h =
     let cast : cast_to target (FoRChunked a.encoded references offset) ≡ FoRChunked (cast_to target a.encoded) references offset = rw typed refl in
-    ap (λ x. normalized (for_tree part x)) (sym same) ∙ ap (λ (x : Tree). FoRChunked x (normalized references) offset) h ∙ ap normalized (sym cast) ∙ ap (λ (x : Tree). normalized (cast_to target x)) (sym (chunked_is a references offset same))
+    ap (λ x. normalized (for_tree part x)) (sym same) ∙ ap (λ (x : Tree). FoRChunked x references offset) h ∙ ap normalized (sym cast) ∙ ap (λ (x : Tree). normalized (cast_to target x)) (sym (chunked_is a references offset same))
 
 -- ---- deltas
 typed_by : (d target : DType) → is_integer d ≡ true → same_type d target ≡ true → has_ptype (unwrap_or (integer_type d) U8) target ≡ true
@@ -225,8 +225,8 @@ pub runs_cast_to : (a : RLEArrayParts) (values indices : Tree) (target : DType) 
     → SameShown values (cast_to (values_target target) a.values) → SameShown indices (cast_to (indices_target target a.indices) a.indices) → SameShown (RLE values indices a.offsets a.window) (cast_to target (tree_of_rle a))
 runs_cast_to a values indices target hv hi sv si =
     let cast : cast_to target (tree_of_rle a) ≡ RLE (cast_to (values_target target) a.values) (cast_to (indices_target target a.indices) a.indices) a.offsets a.window = rw (hv, hi) refl in
-    ap (λ (x : Tree). RLE x (normalized indices) (normalized a.offsets) a.window) sv
-    ∙ ap (λ (x : Tree). RLE (normalized (cast_to (values_target target) a.values)) x (normalized a.offsets) a.window) si
+    ap (λ (x : Tree). RLE x (normalized indices) a.offsets a.window) sv
+    ∙ ap (λ (x : Tree). RLE (normalized (cast_to (values_target target) a.values)) x a.offsets a.window) si
     ∙ ap normalized (sym cast)
 
 refused_is : {A : Type 0} (e : FastLanesError) (m : Result A FastLanesError) → (e ≡ OutOfMemory → ⊥) → Refuses e m → is_ok m ≡ false

@@ -1,6 +1,6 @@
 -- Questions to a column plus a reference that the column answers.
-use Rattle.std.proofs.Common.{◌≡◌, ◌∙◌, ℕ, ℤ, pos, ◌+ℤ◌, Bool, true, false, not, List, [], ◌∷◌, map, Option, Some, None, Result, Ok, Err, refl, ap, sym, subst}
-use Rattle.std.specs.Prelude.{◌&&◌, ◌-ℤ◌, if◌then◌else◌, option_map, unwrap_or}
+use Rattle.std.proofs.Common.{◌≡◌, ◌∙◌, ℤ, pos, ◌+ℤ◌, Bool, true, false, not, List, [], ◌∷◌, map, Option, Some, None, Ok, refl, ap, sym, subst}
+use Rattle.std.specs.Prelude.{◌&&◌, ◌-ℤ◌, option_map, unwrap_or}
 use Rattle.std.specs.List.{list_all}
 use Rattle.std.specs.Ordering.{int_eq}
 use Rattle.std.proofs.lemmas.Bool.Decides.{Decides-int_eq}
@@ -12,10 +12,10 @@ use Rattle.fl_types.specs.declared.dtype.Nullability.{Nullability}
 use Rattle.fl_types.specs.declared.dtype.PType.{PType}
 use Rattle.fl_types.specs.declared.query.CompareOperator.TheVariants.{Eq, NotEq}
 use Rattle.fl_types.specs.Integers.{fits, wrap}
-use Rattle.fl_types.specs.Types.{is_integer, nullability_in}
+use Rattle.fl_types.specs.Types.{is_integer}
 use Rattle.fl_types.specs.Values.{bool_number, fits_in}
-use Rattle.fl_column.specs.Columns.{Column, option_all, ptype_of_column}
-use Rattle.fl_column.specs.Questions.{are_constant, compare_column, holds, is_constant_column, same_item, tested}
+use Rattle.fl_column.specs.Columns.{Column, option_all}
+use Rattle.fl_column.specs.Questions.{compare_column, is_constant_column, same_item}
 use Rattle.fl_column.proofs.ListLaws.{and_first, and_second}
 use Rattle.fl_codec.specs.FoRColumns.{global_for, plus_reference}
 use Rattle.fl_codec.proofs.FoRRoundTrips.{fitting, wrap-wrap_left}

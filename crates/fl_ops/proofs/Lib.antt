@@ -7,9 +7,11 @@ mod SelectedLaws
 mod CastedLaws
 mod CastedTrees
 mod NormalizedLaws
+mod OneResult
 mod ComparedLaws
 mod NegatedLaws
 mod TakenShown
 mod PositionLaws
 mod SortedLaws
 mod ItemLaws
+mod NullableLaws

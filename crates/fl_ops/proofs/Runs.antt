@@ -1,5 +1,5 @@
 -- A run of operations, one step at a time.
-use Rattle.std.proofs.Common.{◌≡◌, ℕ, ◌+◌, ◌<◌, List, [], ◌∷◌, length, drop, get_or, map, refl, ap, sym, subst, ◌∙◌, add-one, drop-cons}
+use Rattle.std.proofs.Common.{◌≡◌, ℕ, ◌+◌, ◌<◌, List, ◌∷◌, length, drop, get_or, map, refl, ap, sym, subst, ◌∙◌, add-one, drop-cons}
 use Rattle.std.specs.Prelude.{Result, Ok, Err}
 use Rattle.fl_column.specs.Columns.{Column}
 use Rattle.fl_types.specs.declared.error.FastLanesError.{FastLanesError}
@@ -8,8 +8,7 @@ use Rattle.fl_types.proofs.RefusalLaws.{Refuses_map}
 use Rattle.fl_ops.specs.declared.operations.Op.{Op}
 use Rattle.fl_array.specs.Trees.{Tree}
 use Rattle.fl_ops.specs.Operations.{Step, and_then, run_columns, step_column, step_of}
-use Rattle.fl_ops.specs.Normalized.{SameShown}
-use Rattle.fl_ops.specs.Results.{IsResult, result_of}
+use Rattle.fl_ops.specs.Results.{IsMade, IsResult}
 
 -- what is left to do from an operation on
 abbrev pub steps_from : List Op → ℕ → List Step
@@ -33,7 +32,7 @@ run_goes_on c d ops i op h at s =
 
 -- ---- arrays
 -- the next operation's array, and then the rest
-pub result_next : (t next last : Tree) (ops : List Op) (i : ℕ) (op : Op) → i < length ops → op ≡ get_or ops i op → SameShown next (result_of (step_of op) t) → IsResult next (steps_from ops (i + 1)) last → IsResult t (steps_from ops i) last
+pub result_next : (t next last : Tree) (ops : List Op) (i : ℕ) (op : Op) → i < length ops → op ≡ get_or ops i op → IsMade (step_of op) t next → IsResult next (steps_from ops (i + 1)) last → IsResult t (steps_from ops i) last
 result_next t next last ops i op h at made rest =
     let steps : steps_from ops i ≡ map step_of (get_or ops i op ∷ drop (i + 1) ops) = rw (add-one, drop-cons ops i op) refl in
     let whole : IsResult t (map step_of (op ∷ drop (i + 1) ops)) last = (next, (made, rest)) in
@@ -43,7 +42,7 @@ result_next t next last ops i op h at made rest =
 abbrev pub LeadsOn : Tree → List Op → ℕ → Tree → List Op → Type 0
 LeadsOn current rest i first ops = (last : Tree) → IsResult current (steps_from rest i) last → IsResult first (map step_of ops) last
 
-pub leads_on : (current next first : Tree) (rest ops : List Op) (i : ℕ) (op : Op) → i < length rest → op ≡ get_or rest i op → SameShown next (result_of (step_of op) current) → LeadsOn current rest i first ops → LeadsOn next rest (i + 1) first ops
+pub leads_on : (current next first : Tree) (rest ops : List Op) (i : ℕ) (op : Op) → i < length rest → op ≡ get_or rest i op → IsMade (step_of op) current next → LeadsOn current rest i first ops → LeadsOn next rest (i + 1) first ops
 leads_on current next first rest ops i op h at made so_far last result = so_far last (result_next current next last rest i op h at made result)
 
 pub ruleset runs = (run_refuses, run_goes_on, leads_on)

@@ -1,6 +1,6 @@
 -- What is picked of a column plus a reference is what is picked of the column, plus the reference.
-use Rattle.std.proofs.Common.{◌≡◌, ◌∙◌, ℕ, ℤ, pos, zero, suc, ◌+◌, Bool, true, false, cond, not, List, [], ◌∷◌, ◌++◌, length, map, get_or, Option, Some, None, Result, Ok, Err, refl, ap, sym, subst}
-use Rattle.std.specs.Prelude.{◌&&◌, ◌==◌, if◌then◌else◌, flat_map, is_none, is_some, unsigned_abs, unwrap_or, nat_lt}
+use Rattle.std.proofs.Common.{◌≡◌, ◌∙◌, ℕ, ℤ, pos, zero, suc, ◌+◌, Bool, true, false, not, List, [], ◌∷◌, ◌++◌, length, map, get_or, Option, Some, None, Result, Ok, Err, refl, ap, sym, subst}
+use Rattle.std.specs.Prelude.{◌&&◌, ◌==◌, if◌then◌else◌, flat_map, is_none, unsigned_abs, unwrap_or}
 use Rattle.std.specs.List.{list_all}
 use Rattle.std.proofs.lemmas.List.{length-map, map-append}
 use Rattle.fl_types.specs.declared.dtype.DType.{DType}
@@ -21,7 +21,8 @@ use Rattle.fl_codec.proofs.Tables.{map-between}
 use Rattle.fl_types.specs.Refusals.{Refuses}
 use Rattle.fl_types.specs.Values.{ScalarParts}
 use Rattle.fl_types.proofs.RefusalLaws.{Refuses_map}
-use Rattle.fl_column.specs.Columns.{PrimitiveParts, column_of_primitive}
+use Rattle.fl_types.specs.Validities.{nullability_of}
+use Rattle.fl_column.specs.Columns.{PrimitiveParts, column_of_primitive, item_validity}
 use Rattle.fl_array.specs.FoRArrays.{FoRArrayParts, GlobalReference, for_tree, tree_of_for}
 use Rattle.fl_array.specs.Trees.{BitPackedBlocked, BitPackedGlobal, Constant, Delta, FoRChunked, FoRGlobal, Primitive, RLE, Tree, column}
 use Rattle.fl_array.specs.Trees as tree
@@ -144,8 +145,8 @@ choice_type (picks.Mask mask) c = refl
 pub selected_type : (s : Selection) (c d : Column) → selected_column s c ≡ Ok d → integer_type d.dtype ≡ integer_type c.dtype
 selected_type s c d h = ap (λ (x : Column). integer_type x.dtype) (sym (selected_is s c d h)) ∙ choice_type s c
 
-pub picked_shown : (s : Selection) (c : Column) (p : PrimitiveParts) → selected_column s c ≡ Ok (column_of_primitive p) → SameShown (Primitive p) (Primitive (plain_of (choice_of s c)))
-picked_shown s c p h = plain_shown p (choice_of s c) (sym (selected_is s c (column_of_primitive p) h))
+pub picked_shown : (s : Selection) (c : Column) (a b : PrimitiveParts) → b ≡ record { ptype = a.ptype; slots = a.slots; validity = item_validity (nullability_of a.validity) (column_of_primitive a).items } → column_of_primitive b ≡ column_of_primitive a → selected_column s c ≡ Ok (column_of_primitive a) → SameShown (Primitive b) (Primitive (plain_of (choice_of s c)))
+picked_shown s c a b parts same h = plain_shown a b (choice_of s c) parts same (sym (selected_is s c (column_of_primitive a) h))
 
 -- ---- over one reference
 pub for_is : (a : FoRArrayParts) (r : ScalarParts) → GlobalReference r ≡ a.references → tree_of_for a ≡ FoRGlobal a.encoded r

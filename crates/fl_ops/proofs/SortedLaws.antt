@@ -1,15 +1,13 @@
 -- Items plus a reference that rise as the items do.
-use Rattle.std.proofs.Common.{◌≡◌, ◌∙◌, ℕ, ℤ, pos, ◌+ℤ◌, Bool, true, false, not, List, [], ◌∷◌, length, map, replicate, nat_lt, Option, Some, None, Result, Ok, IsTrue, int_lt, refl, ap, sym, arith}
-use Rattle.std.specs.Prelude.{◌&&◌, if◌then◌else◌, option_map, is_some, unwrap_or}
+use Rattle.std.proofs.Common.{◌≡◌, ◌∙◌, ℕ, ℤ, pos, ◌+ℤ◌, Bool, true, false, not, List, [], ◌∷◌, map, replicate, Option, Some, None, Ok, int_lt, refl, ap, sym, arith}
+use Rattle.std.specs.Prelude.{◌&&◌, if◌then◌else◌, unwrap_or}
 use Rattle.std.specs.List.{list_all}
 use Rattle.std.proofs.lemmas.Int.{ints}
 use Rattle.fl_types.specs.declared.dtype.DType.{DType}
 use Rattle.fl_types.specs.declared.dtype.DType.TheVariants as dtypes
 use Rattle.fl_types.specs.declared.dtype.PType.{PType}
-use Rattle.fl_types.specs.declared.error.FastLanesError.{FastLanesError}
 use Rattle.fl_types.specs.declared.validity.Validity.{Validity}
 use Rattle.fl_types.specs.declared.validity.Validity.TheVariants as valid
-use Rattle.fl_types.specs.Integers.{fits, wrap}
 use Rattle.fl_types.specs.Validities.{items_of, masked}
 use Rattle.fl_types.specs.Values.{ScalarParts}
 use Rattle.fl_column.specs.Columns.{Column, ConstantParts, PrimitiveParts, column_of_constant, column_of_primitive, option_all, ptype_of_column}
@@ -20,7 +18,7 @@ use Rattle.fl_column.proofs.ListLaws.{and_first, and_second, and_true}
 use Rattle.fl_codec.specs.FoRColumns.{global_for, plus_reference}
 use Rattle.fl_codec.proofs.FoRRoundTrips.{fitting}
 use Rattle.fl_array.specs.FoRArrays.{FoRArrayParts, GlobalReference, tree_of_for}
-use Rattle.fl_array.specs.Trees.{Tree, column}
+use Rattle.fl_array.specs.Trees.{column}
 use Rattle.fl_array.proofs.FoRSound.{global_column}
 use Rattle.fl_ops.specs.Sums.{sum_fits, sums_fit}
 

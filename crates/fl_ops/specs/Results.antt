@@ -72,7 +72,21 @@ result_of (TakeRanges ranges) t = picked (ranges_of ranges) t
 result_of (Filter mask) t = filtered mask t
 result_of (Cast target) t = cast_to target t
 
--- The operations lead from the first array to the last: each makes, of the array before it, the one that it is to make, slots under nulls and the forms of validities aside. No operation makes the same array.
+-- the array is the one that the mask keeps: by its form a copy, else slots under nulls aside
+abbrev pub IsFiltered : Mask → Tree → Tree → Type 0
+IsFiltered (AllTrue len) t next = next ≡ t
+IsFiltered (AllFalse len) t next = SameShown next (filtered (AllFalse len) t)
+IsFiltered (Values bits) t next = SameShown next (filtered (Values bits) t)
+
+-- the array is the one that an operation makes: a slice and a copy exactly, else slots under nulls aside
+abbrev pub IsMade : Step → Tree → Tree → Type 0
+IsMade (Slice start end) t next = next ≡ slice_tree start end t
+IsMade (Filter mask) t next = IsFiltered mask t next
+IsMade (Take indices) t next = SameShown next (result_of (Take indices) t)
+IsMade (TakeRanges ranges) t next = SameShown next (result_of (TakeRanges ranges) t)
+IsMade (Cast target) t next = SameShown next (result_of (Cast target) t)
+
+-- The operations lead from the first array to the last: each makes, of the array before it, the one that it is to make. No operation makes the same array.
 abbrev pub IsResult : Tree → List Step → Tree → Type 0
 IsResult first [] last = last ≡ first
-IsResult first (step ∷ steps) last = (next : Tree) × (SameShown next (result_of step first) × IsResult next steps last)
+IsResult first (step ∷ steps) last = (next : Tree) × (IsMade step first next × IsResult next steps last)

@@ -1,10 +1,9 @@
 -- Operations that pick items of a column.
-use Rattle.std.specs.Prelude.{◌≡◌, ℕ, Bool, true, false, Option, Some, None, Result}
+use Rattle.std.specs.Prelude.{◌≡◌, ℕ, Bool, true, false, Result}
 use Rattle.fl_types.specs.declared.error.FastLanesError.{FastLanesError}
 use Rattle.fl_types.specs.Masks.{mask_len}
 use Rattle.fl_column.specs.Columns.{Column}
 use Rattle.fl_column.specs.Operations.{filter_column, filter_of, ranges_column, ranges_of, take_column, take_of}
-use Rattle.fl_array.specs.FoRArrays.{FoRArrayParts, GlobalReference}
 use Rattle.fl_array.specs.Trees.{FoRGlobal, Tree, column}
 use Rattle.fl_ops.specs.declared.selection.Selection.{Selection}
 use Rattle.fl_ops.specs.declared.selection.Selection.TheVariants.{Mask, Indices, Ranges}

@@ -1,6 +1,7 @@
 //! Operations and questions on arrays.
 
-ghost use Rattle.std.specs.Prelude.{◌*◌, ◌≡◌, ◌≤◌, IfOk, IfSome, IsTrue, Ok, length, ℕ};
+ghost use Rattle.std.specs.Prelude.{◌*◌, ◌≡◌, ◌≤◌, Err, IfOk, IfSome, IsTrue, Ok, length, ℕ};
+ghost use Rattle.fl_types.specs.declared.error.FastLanesError.{FastLanesError};
 ghost use Rattle.fl_types.specs.declared.mask.Mask.TheVariants.{AllTrue};
 ghost use Rattle.fl_types.specs.Masks.{mask_len};
 ghost use Rattle.fl_types.specs.Refusals.{Answers};
@@ -8,14 +9,14 @@ ghost use Rattle.fl_types.specs.Types.{has_ptype, is_integer};
 ghost use Rattle.fl_types.specs.Values.{scalar_parts, integer_of, ptype_of_value};
 ghost use Rattle.fl_column.specs.Columns.{column_of_bools};
 ghost use Rattle.fl_column.specs.Operations.{cast_column, filter_column, ranges_column, ranges_of, take_column, take_of};
-ghost use Rattle.fl_column.specs.Questions.{between_column, compare_column, holds, is_between, is_constant_column, is_sorted_column};
+ghost use Rattle.fl_column.specs.Questions.{holds, is_between, is_constant_column, is_sorted_column};
 ghost use Rattle.fl_array.specs.BitPackedArrays.{bitpacked_in};
 ghost use Rattle.fl_array.specs.Trees.{Tree, column};
 ghost use Rattle.fl_array.specs.UnpackedBlocks.{IsComparisonOf};
 ghost use Rattle.fl_ops.specs.Normalized.{SameShown};
-ghost use Rattle.fl_ops.specs.Results.{cast_to, filtered, picked};
+ghost use Rattle.fl_ops.specs.Results.{IsFiltered, cast_to, picked};
 ghost use Rattle.fl_ops.specs.Takes.{has_block_widths};
-ghost use Rattle.fl_ops.specs.Questions.{integer_in, is_comparable};
+ghost use Rattle.fl_ops.specs.Questions.{between_scalars, compare_scalar, integer_in, is_comparable, nullable_with};
 
 use crate::selection::{Selection, select};
 use crate::takes::take_packed_counted;
@@ -23,7 +24,8 @@ use crate::{casting, equality, plain_ops, sorting};
 use fastlanes::Work;
 use fl_array::ArrayRef;
 use fl_column::{
-    BetweenOptions, BoolArray, CompareOperator, DType, FastLanesError, Mask, PValue, Scalar,
+    BetweenOptions, BoolArray, CompareOperator, DType, FastLanesError, Mask, Nullability, PValue,
+    Scalar, ranges_total,
 };
 use std::alloc::Global;
 
@@ -61,7 +63,7 @@ pub trait ArrayOps {
         ensures words { IsTrue (has_block_widths (tree self.now)) → IfOk result (λ r. r.1.words ≤ 2 * length (column indices.now).items) };
 
     /// The items of the ranges, each a start and a length, one range after another. A range without
-    /// items is skipped, wherever it starts.
+    /// items is skipped, wherever it starts. A refusal takes no memory.
     ///
     /// # Errors
     /// `NotInteger`, then `RangeOutOfBounds` where a range with items reaches beyond the length,
@@ -72,7 +74,8 @@ pub trait ArrayOps {
         ranges: &[(usize, usize)],
     ) -> Result<ArrayRef, FastLanesError>
         ensures column { Answers column result (ranges_column ranges.now (column (tree self.now))) }
-        ensures tree { IfOk result (λ a. SameShown a (picked (ranges_of ranges.now) (tree self.now))) };
+        ensures tree { IfOk result (λ a. SameShown a (picked (ranges_of ranges.now) (tree self.now))) }
+        ensures refused { (e : FastLanesError) → ranges_column ranges.now (column (tree self.now)) ≡ Err e → result ≡ Err e };
 
     /// The items at the mask's true places, in order. The mask has the array's length; one that
     /// keeps all items by its form gives a copy.
@@ -82,7 +85,7 @@ pub trait ArrayOps {
     fn filter(&self, alloc: Global, mask: &Mask) -> Result<ArrayRef, FastLanesError>
         requires { mask_len mask.now ≡ length (column (tree self.now)).items }
         ensures column { Answers column result (filter_column mask.now (column (tree self.now))) }
-        ensures tree { IfOk result (λ a. SameShown a (filtered mask.now (tree self.now))) }
+        ensures tree { IfOk result (λ a. IsFiltered mask.now (tree self.now) a) }
         ensures copy { (len : ℕ) → mask.now ≡ AllTrue len → IsTrue (is_integer (column (tree self.now)).dtype) → Answers (λ a. a) result (Ok (tree self.now)) };
 
     /// The same integers in another type. Where the integer type stays, a bit-packed array of one
@@ -100,7 +103,7 @@ pub trait ArrayOps {
         ensures tree { IfOk result (λ a. SameShown a (cast_to target (tree self.now))) };
 
     /// How each item compares with a constant of the array's type that is not null; a null stays a
-    /// null.
+    /// null. The answer is nullable where the array or the constant is.
     ///
     /// # Errors
     /// `NotInteger`.
@@ -111,10 +114,11 @@ pub trait ArrayOps {
         constant: &Scalar,
     ) -> Result<BoolArray, FastLanesError>
         requires { IsTrue (is_comparable (column (tree self.now)) (scalar_parts constant.now)) }
-        ensures { Answers column_of_bools result (compare_column operator (integer_in (scalar_parts constant.now)) (column (tree self.now))) };
+        ensures { Answers column_of_bools result (compare_scalar operator (scalar_parts constant.now) (column (tree self.now))) };
 
     /// Whether each item lies between two bounds of the array's type that are not null; a null stays
-    /// a null. Nothing lies between bounds of which the lower is above the upper.
+    /// a null. Nothing lies between bounds of which the lower is above the upper. The answer is nullable
+    /// where the array or one of the bounds is.
     ///
     /// # Errors
     /// `NotInteger`.
@@ -127,7 +131,7 @@ pub trait ArrayOps {
     ) -> Result<BoolArray, FastLanesError>
         requires lower { IsTrue (is_comparable (column (tree self.now)) (scalar_parts lower.now)) }
         requires upper { IsTrue (is_comparable (column (tree self.now)) (scalar_parts upper.now)) }
-        ensures { Answers column_of_bools result (between_column (integer_in (scalar_parts lower.now)) (integer_in (scalar_parts upper.now)) options.now (column (tree self.now))) };
+        ensures { Answers column_of_bools result (between_scalars (scalar_parts lower.now) (scalar_parts upper.now) options.now (column (tree self.now))) };
 
     /// The same as `compare`, and what was unpacked for it of the packed bytes of a bit-packed array: of one width each block, or
     /// none where there is no item or the width decides the comparison; of a width for each block those blocks whose own width
@@ -142,7 +146,7 @@ pub trait ArrayOps {
         constant: &Scalar,
     ) -> Result<(BoolArray, Work), FastLanesError>
         requires { IsTrue (is_comparable (column (tree self.now)) (scalar_parts constant.now)) }
-        ensures answer { Answers (λ r. column_of_bools r.0) result (compare_column operator (integer_in (scalar_parts constant.now)) (column (tree self.now))) }
+        ensures answer { Answers (λ r. column_of_bools r.0) result (compare_scalar operator (scalar_parts constant.now) (column (tree self.now))) }
         ensures work { IfOk result (λ r. IfSome (bitpacked_in (tree self.now)) (λ a. IsComparisonOf a (holds operator (integer_in (scalar_parts constant.now))) r.1)) };
 
     /// The same as `between`, and what was unpacked for it, as by `compare_counted`.
@@ -158,7 +162,7 @@ pub trait ArrayOps {
     ) -> Result<(BoolArray, Work), FastLanesError>
         requires lower { IsTrue (is_comparable (column (tree self.now)) (scalar_parts lower.now)) }
         requires upper { IsTrue (is_comparable (column (tree self.now)) (scalar_parts upper.now)) }
-        ensures answer { Answers (λ r. column_of_bools r.0) result (between_column (integer_in (scalar_parts lower.now)) (integer_in (scalar_parts upper.now)) options.now (column (tree self.now))) }
+        ensures answer { Answers (λ r. column_of_bools r.0) result (between_scalars (scalar_parts lower.now) (scalar_parts upper.now) options.now (column (tree self.now))) }
         ensures work { IfOk result (λ r. IfSome (bitpacked_in (tree self.now)) (λ a. IsComparisonOf a (is_between options.now (integer_in (scalar_parts lower.now)) (integer_in (scalar_parts upper.now))) r.1)) };
 
     /// Whether all items are equal; a null equals a null. An empty array is constant.
@@ -190,6 +194,17 @@ fn integer_for(array: &ArrayRef, constant: &Scalar) -> PValue
     }
 }
 
+/// The answers of a comparison with a constant, nullable also where the constant is.
+#[tactic(auto, using(crate::proofs::NullableLaws::as_they_are, crate::proofs::NullableLaws::made_nullable))]
+fn nullable_with(answers: BoolArray, constant: &Scalar) -> BoolArray
+    ensures { column_of_bools result ≡ nullable_with (scalar_parts constant.now) (column_of_bools answers) }
+{
+    match constant.dtype().nullability() {
+        Nullability::NonNullable => answers,
+        Nullability::Nullable => answers.into_nullable(),
+    }
+}
+
 impl ArrayOps for ArrayRef {
     ghost tree = { λ a. a };
 
@@ -213,6 +228,10 @@ impl ArrayOps for ArrayRef {
         alloc: Global,
         ranges: &[(usize, usize)],
     ) -> Result<ArrayRef, FastLanesError> {
+        let DType::Primitive(_, _) = self.dtype() else {
+            return Err(FastLanesError::NotInteger);
+        };
+        ranges_total(ranges, self.len())?;
         select(alloc, self, Selection::Ranges(ranges))
     }
 
@@ -231,6 +250,7 @@ impl ArrayOps for ArrayRef {
         casting::cast(alloc, self, target)
     }
 
+    #[tactic(auto, using(crate::proofs::NullableLaws::comparisons))]
     fn compare(
         &self,
         alloc: Global,
@@ -240,9 +260,11 @@ impl ArrayOps for ArrayRef {
         let DType::Primitive(_, _) = self.dtype() else {
             return Err(FastLanesError::NotInteger);
         };
-        equality::compare(alloc, self, operator, integer_for(self, constant))
+        let answers = equality::compare(alloc, self, operator, integer_for(self, constant))?;
+        Ok(nullable_with(answers, constant))
     }
 
+    #[tactic(auto, using(crate::proofs::NullableLaws::comparisons))]
     fn between(
         &self,
         alloc: Global,
@@ -253,10 +275,12 @@ impl ArrayOps for ArrayRef {
         let DType::Primitive(_, _) = self.dtype() else {
             return Err(FastLanesError::NotInteger);
         };
-        let (lower, upper) = (integer_for(self, lower), integer_for(self, upper));
-        plain_ops::between(alloc, self, lower, upper, *options)
+        let (low, high) = (integer_for(self, lower), integer_for(self, upper));
+        let answers = plain_ops::between(alloc, self, low, high, *options)?;
+        Ok(nullable_with(nullable_with(answers, lower), upper))
     }
 
+    #[tactic(auto, using(crate::proofs::NullableLaws::comparisons))]
     fn compare_counted(
         &self,
         alloc: Global,
@@ -266,16 +290,20 @@ impl ArrayOps for ArrayRef {
         let DType::Primitive(_, _) = self.dtype() else {
             return Err(FastLanesError::NotInteger);
         };
-        let constant = integer_for(self, constant);
+        let integer = integer_for(self, constant);
         match self.as_bitpacked() {
-            Some(packed) => packed.compare_counted(alloc, operator, constant),
+            Some(packed) => {
+                let (answers, work) = packed.compare_counted(alloc, operator, integer)?;
+                Ok((nullable_with(answers, constant), work))
+            }
             None => {
-                let answers = equality::compare(alloc, self, operator, constant)?;
-                Ok((answers, Work::new()))
+                let plain = equality::compare(alloc, self, operator, integer)?;
+                Ok((nullable_with(plain, constant), Work::new()))
             }
         }
     }
 
+    #[tactic(auto, using(crate::proofs::NullableLaws::comparisons))]
     fn between_counted(
         &self,
         alloc: Global,
@@ -286,12 +314,18 @@ impl ArrayOps for ArrayRef {
         let DType::Primitive(_, _) = self.dtype() else {
             return Err(FastLanesError::NotInteger);
         };
-        let (lower, upper) = (integer_for(self, lower), integer_for(self, upper));
+        let (low, high) = (integer_for(self, lower), integer_for(self, upper));
         match self.as_bitpacked() {
-            Some(packed) => packed.between_counted(alloc, lower, upper, *options),
+            Some(packed) => {
+                let (answers, work) = packed.between_counted(alloc, low, high, *options)?;
+                Ok((nullable_with(nullable_with(answers, lower), upper), work))
+            }
             None => {
-                let answers = plain_ops::between(alloc, self, lower, upper, *options)?;
-                Ok((answers, Work::new()))
+                let plain = plain_ops::between(alloc, self, low, high, *options)?;
+                Ok((
+                    nullable_with(nullable_with(plain, lower), upper),
+                    Work::new(),
+                ))
             }
         }
     }

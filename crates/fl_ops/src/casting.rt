@@ -144,7 +144,8 @@ fn cast_decoded(alloc: Global, array: &ArrayRef, target: DType) -> Result<ArrayR
     ensures column { Answers column result (cast_column target (column array.now)) }
     ensures tree { IfOk result (λ a. SameShown a (plain_cast target (column array.now))) }
 {
-    Ok(plain_ops::cast(alloc, array, target)?.into_array())
+    let cast = plain_ops::cast(alloc, array, target)?;
+    Ok(cast.simplify_validity().into_array())
 }
 
 /// Whether an item is null where none may be.

@@ -5,9 +5,8 @@ ghost use Rattle.fl_types.specs.Refusals.{Answers};
 ghost use Rattle.fl_column.specs.Operations.{filter_column, slice_column};
 ghost use Rattle.fl_array.specs.Slices.{slice_tree};
 ghost use Rattle.fl_array.specs.Trees.{column};
-ghost use Rattle.fl_ops.specs.Normalized.{SameShown};
 ghost use Rattle.fl_ops.specs.Operations.{run_columns, step_column, step_of};
-ghost use Rattle.fl_ops.specs.Results.{IsResult, filtered, result_of};
+ghost use Rattle.fl_ops.specs.Results.{IsFiltered, IsMade, IsResult};
 
 use crate::array_ops::ArrayOps;
 use fl_array::ArrayRef;
@@ -48,7 +47,7 @@ fn slice_within(
 /// The items that a mask keeps, where it has the array's length.
 fn filter_within(alloc: Global, array: &ArrayRef, mask: &Mask) -> Result<ArrayRef, FastLanesError>
     ensures column { Answers column result (filter_column mask.now (column array.now)) }
-    ensures tree { IfOk result (λ a. SameShown a (filtered mask.now array.now)) }
+    ensures tree { IfOk result (λ a. IsFiltered mask.now array.now a) }
 {
     if mask.len() != array.len() {
         return Err(FastLanesError::MaskLength);
@@ -59,7 +58,7 @@ fn filter_within(alloc: Global, array: &ArrayRef, mask: &Mask) -> Result<ArrayRe
 /// What an operation makes of an array.
 pub(crate) fn apply(alloc: Global, array: &ArrayRef, op: &Op) -> Result<ArrayRef, FastLanesError>
     ensures column { Answers column result (step_column (column array.now) (step_of op.now)) }
-    ensures tree { IfOk result (λ a. SameShown a (result_of (step_of op.now) array.now)) }
+    ensures tree { IfOk result (λ a. IsMade (step_of op.now) array.now a) }
 {
     match op {
         Op::Slice(range) => slice_within(alloc, array, range),

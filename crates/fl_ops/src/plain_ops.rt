@@ -1,6 +1,7 @@
 //! Operations and questions on arrays, answered by the plain array of the same column.
 
 ghost use Rattle.std.specs.Prelude.{◌≡◌, IsTrue, Ok, length};
+ghost use Rattle.fl_types.specs.declared.mask.Mask.TheVariants.{AllFalse};
 ghost use Rattle.fl_types.specs.Masks.{mask_len};
 ghost use Rattle.fl_types.specs.Refusals.{Answers};
 ghost use Rattle.fl_types.specs.Types.{has_ptype, is_integer};
@@ -18,7 +19,7 @@ use fl_array::ArrayRef;
 use fl_array::bitpacking::BitPackedArray;
 use fl_column::{
     BetweenOptions, BoolArray, CompareOperator, ConstantArray, DType, FastLanesError, Mask, PValue,
-    PrimitiveArray,
+    PrimitiveArray, ranges_total,
 };
 use std::alloc::Global;
 
@@ -81,10 +82,29 @@ pub(crate) fn take_ranges(
     let DType::Primitive(_, _) = array.dtype() else {
         return Err(FastLanesError::NotInteger);
     };
-    if let Some((packed, total)) = ranges_by_runs(array, ranges) {
+    let total = ranges_total(ranges, array.len())?;
+    if let Some(packed) = ranges_by_runs(array, total) {
         return take_ranges_packed(alloc, packed, ranges, total);
     }
     array.to_primitive(alloc)?.take_ranges(alloc, ranges)
+}
+
+/// No item of an array, for a mask that keeps none by its form.
+#[tactic(auto, using(crate::proofs::Filters::none_kept))]
+fn filter_none(
+    alloc: Global,
+    array: &ArrayRef,
+    len: usize,
+) -> Result<PrimitiveArray, FastLanesError>
+    requires { len ≡ length (column array.now).items }
+    ensures { Answers column_of_primitive result (filter_column (AllFalse len) (column array.now)) }
+{
+    match array.dtype() {
+        DType::Primitive(ptype, nullability) => {
+            Ok(PrimitiveArray::empty(alloc, ptype, nullability))
+        }
+        DType::Bool(_) => Err(FastLanesError::NotInteger),
+    }
 }
 
 /// The items at the mask's true places.
@@ -96,6 +116,9 @@ pub(crate) fn filter(
     requires { mask_len mask.now ≡ length (column array.now).items }
     ensures { Answers column_of_primitive result (filter_column mask.now (column array.now)) }
 {
+    if let Mask::AllFalse(len) = mask {
+        return filter_none(alloc, array, *len);
+    }
     if let Some(plain) = array.as_primitive() {
         return plain.filter(alloc, mask);
     }

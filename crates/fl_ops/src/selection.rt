@@ -69,7 +69,8 @@ fn select_plain(
     ensures column { Answers column result (selected_column selection.entry (column array.now)) }
     ensures tree { IfOk result (λ a. SameShown a (Primitive (plain_of (choice_of selection.entry (column array.now))))) }
 {
-    Ok(select_decoded(alloc, array, selection)?.into_array())
+    let selected = select_decoded(alloc, array, selection)?;
+    Ok(selected.simplify_validity().into_array())
 }
 
 /// The reference over the picked items of the encoded array.

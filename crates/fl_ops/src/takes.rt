@@ -2,12 +2,12 @@
 
 pub(crate) mod items;
 
-ghost use Rattle.std.specs.Prelude.{◌≡◌, ◌*◌, ◌+◌, ◌-◌, ◌^◌, ◌++◌, ◌<◌, ◌≤◌, IfOk, IfSome, IsTrue, Ok, OnOk, Some, length, nat_lt};
+ghost use Rattle.std.specs.Prelude.{◌≡◌, ◌*◌, ◌+◌, ◌-◌, ◌^◌, ◌++◌, ◌<◌, ◌≤◌, IfOk, IfSome, IsTrue, Ok, OnOk, length, nat_lt};
 ghost use Rattle.std.specs.List.{list_all, range_with_len};
 ghost use Rattle.fl_types.specs.Masks.{mask_bits, mask_len};
 ghost use Rattle.fl_types.specs.Refusals.{Answers};
 ghost use Rattle.fl_column.specs.Columns.{column_of_primitive};
-ghost use Rattle.fl_column.specs.Operations.{filter_of, range_fits, ranges_of, take_column, take_of, total_of};
+ghost use Rattle.fl_column.specs.Operations.{filter_of, range_fits, ranges_of, take_column, take_of};
 ghost use Rattle.fl_array.specs.BitPackedArrays.{tree_of_bitpacked};
 ghost use Rattle.fl_array.specs.Trees.{column};
 ghost use Rattle.fl_ops.specs.Normalized.{SameShown};
@@ -53,7 +53,7 @@ pub(crate) fn take_packed_counted(
     ensures words { IsTrue (has_block_widths (tree_of_bitpacked array.now)) → IfOk result (λ r. r.1.words ≤ 2 * length (column indices.now).items) }
 {
     let (taken, work) = take_counted(alloc, array, indices)?;
-    Ok((taken.into_array(), work))
+    Ok((taken.simplify_validity().into_array(), work))
 }
 
 /// The items at these positions.
@@ -66,29 +66,6 @@ fn take_positions(
     ensures { Answers column_of_primitive result (Ok (at_positions positions.items (column (tree_of_bitpacked array.now)))) }
 {
     array.take(alloc, &PrimitiveArray::non_nullable(positions))
-}
-
-/// Whether a range lies among this many items. A range without items does wherever it starts.
-fn range_fits(range: (usize, usize), len: usize) -> bool
-    ensures { result ≡ range_fits len range }
-{
-    let (start, count) = range;
-    count == 0 || (start <= len && count <= len - start)
-}
-
-/// How many items the ranges have, where all lie among this many items and a `usize` holds the sum.
-fn total_within(ranges: &[(usize, usize)], len: usize) -> Option<usize>
-    ensures fit { IfSome result (λ total. IsTrue (list_all (range_fits len) ranges.now)) }
-    ensures total { IfSome result (λ total. total_of ranges.now ≡ Some total) }
-{
-    let mut total = 0usize;
-    for range in ranges {
-        if !range_fits(*range, len) {
-            return None;
-        }
-        total = total.checked_add(range.1)?;
-    }
-    Some(total)
 }
 
 /// Adds the positions from `start` to below `start + count`.
@@ -132,21 +109,15 @@ fn true_positions(alloc: Global, mask: &Mask, count: usize) -> Result<Vec<u64>, 
     Ok(positions)
 }
 
-/// The array and how many items the ranges have, where it is bit-packed and they are read run by run: where they
-/// are an eighth of its items at most, or each block has a width of its own. Ranges that are refused are not.
-pub(crate) fn ranges_by_runs<'a>(
-    array: &'a ArrayRef,
-    ranges: &[(usize, usize)],
-) -> Option<(&'a BitPackedArray, usize)>
-    ensures same { IfSome result (λ f. tree_of_bitpacked f.0.now ≡ array.now) }
-    ensures fit { IfSome result (λ f. IsTrue (list_all (range_fits (length (column (tree_of_bitpacked f.0.now)).items)) ranges.now)) }
-    ensures total { IfSome result (λ f. total_of ranges.now ≡ Some f.1) }
+/// The array, where it is bit-packed and ranges of `total` items are read run by run: where these are an eighth of its
+/// items at most, or each block has a width of its own.
+pub(crate) fn ranges_by_runs(array: &ArrayRef, total: usize) -> Option<&BitPackedArray>
+    ensures { IfSome result (λ packed. tree_of_bitpacked packed.now ≡ array.now) }
 {
     let packed = array.as_bitpacked()?;
-    let total = total_within(ranges, packed.len())?;
     match packed.bit_widths() {
         BitWidthsView::Global(_) if total > packed.len() / 8 => None,
-        _ => Some((packed, total)),
+        _ => Some(packed),
     }
 }
 

@@ -13,3 +13,4 @@ pub mod EncodingLemmas
 mod EncodingExamples
 pub mod RoomLemmas
 pub mod RunLemmas
+mod StoredDepth

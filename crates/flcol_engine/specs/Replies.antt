@@ -8,17 +8,12 @@ use Rattle.fl_types.specs.declared.error.FastLanesError.TheVariants.{NotInteger,
 use Rattle.fl_types.specs.Integers.{fits}
 use Rattle.fl_types.specs.Values.{ScalarParts}
 use Rattle.fl_column.specs.Columns.{Column}
-use Rattle.fl_column.specs.Questions.{between_column, compare_column, is_constant_column, is_sorted_column, scalar_of_column}
+use Rattle.fl_column.specs.Questions.{is_constant_column, is_sorted_column, scalar_of_column}
 use Rattle.fl_ops.specs.Operations.{and_then}
-use Rattle.fl_ops.specs.Questions.{integer_in}
+use Rattle.fl_ops.specs.Questions.{between_scalars, compare_scalar, mapped}
 use Rattle.flcol_engine.specs.declared.commands.ColumnQuestion.{ColumnQuestion}
 use Rattle.flcol_engine.specs.declared.commands.ColumnQuestion.TheVariants.{At, Between, Compare, Decode, IsConstant, IsSorted}
 use Rattle.flcol_engine.specs.Printing.{column_text, line, scalar_text, truth_text}
-
--- a result that is changed where it is one
-abbrev pub mapped : {A B : Type 0} → (A → B) → Result A FastLanesError → Result B FastLanesError
-mapped f (Ok x) = Ok (f x)
-mapped f (Err refusal) = Err refusal
 
 -- a constant of a type, or why there is none
 abbrev pub constant_of_type : DType → Option ℤ → Result ScalarParts FastLanesError
@@ -30,7 +25,7 @@ constant_of_type (dtypes.Primitive ptype nullability) (Some z) = if fits ptype z
 abbrev pub reply : ColumnQuestion → Column → Result (List ℕ) FastLanesError
 reply Decode c = Ok (column_text c)
 reply (At i) c = mapped scalar_text (scalar_of_column i c)
-reply (Compare operator constant) c = and_then (constant_of_type c.dtype constant) (λ k. mapped column_text (compare_column operator (integer_in k) c))
-reply (Between options lower upper) c = and_then (constant_of_type c.dtype lower) (λ l. and_then (constant_of_type c.dtype upper) (λ u. mapped column_text (between_column (integer_in l) (integer_in u) options c)))
+reply (Compare operator constant) c = and_then (constant_of_type c.dtype constant) (λ k. mapped column_text (compare_scalar operator k c))
+reply (Between options lower upper) c = and_then (constant_of_type c.dtype lower) (λ l. and_then (constant_of_type c.dtype upper) (λ u. mapped column_text (between_scalars l u options c)))
 reply IsConstant c = mapped (λ truth. line (truth_text truth)) (is_constant_column c)
 reply (IsSorted strict) c = mapped (λ truth. line (truth_text truth)) (is_sorted_column strict c)

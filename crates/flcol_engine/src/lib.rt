@@ -7,6 +7,7 @@ pub mod encoding;
 pub mod ends;
 pub mod engine;
 pub mod fault;
+pub mod laws;
 mod operations;
 pub mod printing;
 pub mod questions;

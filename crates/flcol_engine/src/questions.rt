@@ -8,10 +8,10 @@ ghost use Rattle.fl_types.specs.Values.{integer_of, ptype_of_value, scalar_parts
 ghost use Rattle.fl_column.specs.Columns.{column_of_bools};
 ghost use Rattle.fl_column.specs.Questions.{scalar_of_column};
 ghost use Rattle.fl_array.specs.Trees.{column};
-ghost use Rattle.fl_ops.specs.Questions.{is_comparable};
+ghost use Rattle.fl_ops.specs.Questions.{is_comparable, mapped};
 ghost use Rattle.flcol_engine.specs.declared.commands.ColumnQuestion.TheVariants.{Between, Compare};
 ghost use Rattle.flcol_engine.specs.Printing.{column_text, scalar_text};
-ghost use Rattle.flcol_engine.specs.Replies.{constant_of_type, mapped, reply};
+ghost use Rattle.flcol_engine.specs.Replies.{constant_of_type, reply};
 
 use crate::commands::ColumnQuestion;
 use crate::printing::{print_bools, print_integers, print_scalar, print_truth};

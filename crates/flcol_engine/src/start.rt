@@ -18,8 +18,8 @@ use vortex_fastlanes::FastLanesError;
 const OUT_OF_MEMORY: Fault = Fault::Refused(FastLanesError::OutOfMemory);
 
 /// Says how the program is called, and answers status 2.
+#[tactic(auto, using(crate::proofs::EndLemmas::said_unless))]
 pub fn usage<E: Sink>(errors: &mut E) -> u8
-    requires { E.has_failed errors.old ≡ false }
     ensures status { result ≡ 2 }
     ensures said { AppendsUnless (E.has_failed errors.new) (E.written errors.old) (E.written errors.new) usage_line }
 {
@@ -28,8 +28,8 @@ pub fn usage<E: Sink>(errors: &mut E) -> u8
 }
 
 /// Says why the run is refused, and answers status 1.
+#[tactic(auto, using(crate::proofs::EndLemmas::said_unless))]
 pub fn refuse<E: Sink>(errors: &mut E, fault: Fault) -> u8
-    requires { E.has_failed errors.old ≡ false }
     ensures status { result ≡ 1 }
     ensures said { AppendsUnless (E.has_failed errors.new) (E.written errors.old) (E.written errors.new) (fault_line fault) }
 {
@@ -66,10 +66,9 @@ pub fn start<S: Source, K: Sink, E: Sink>(
     sink: &mut K,
     errors: &mut E,
 ) -> u8
-    // No end has failed before.
+    // Neither the source nor the sink has failed before.
     requires source_unmarked { S.has_failed source.old ≡ false }
     requires sink_unmarked { K.has_failed sink.old ≡ false }
-    requires errors_unmarked { E.has_failed errors.old ≡ false }
 
     // Where the words give no command, nothing is read or written but the usage line; a line of `run` alone may find no
     // memory for its operations.

@@ -267,3 +267,21 @@ fn refuses_unwritten(alloc: Global) -> bool {
 fn refuses_before_it_writes(rt: HostRuntime) {
     assert!(rt; refuses_unwritten(rt.alloc()));
 }
+
+/// Three items that may be null, and are not, under fifteen references 1, sixteen deep: with a bit for each they would be a
+/// node more. A slice keeps their validity, and what is picked or cast to plain has no bits either, but where one of the
+/// items is null.
+const DEEP_WITHOUT_NULLS: &[&str] = &[
+    "run slice:0:3 store then run decode | vortex.primitive i32? 3 - 010000000200000003000000 0 | fastlanes.for*15 i32? 3 1802 - 1 = 16 17 18",
+    "run take:2,0 store then run decode | vortex.primitive i32? 3 - 010000000200000003000000 0 | fastlanes.for*15 i32? 3 1802 - 1 = 18 16",
+    "run take:2,null filter:10 store then run decode | vortex.primitive i32? 3 - 010000000200000003000000 0 | fastlanes.for*15 i32? 3 1802 - 1 = 18",
+    "run cast:i32? store then run decode | vortex.primitive i32? 3 - 010000000200000003000000 0 | fastlanes.for*15 i32? 3 1802 - 1 = 16 17 18",
+    "run take:2,null store | vortex.primitive i32? 3 - 010000000200000003000000 0 | fastlanes.for*15 i32? 3 1802 - 1 = error 42 BadContainer",
+];
+
+#[test]
+fn stores_sixteen_deep_without_nulls(rt: HostRuntime) {
+    for row in DEEP_WITHOUT_NULLS {
+        assert!(rt; holds(rt.alloc(), row), "{row}");
+    }
+}

@@ -24,10 +24,13 @@ pub use crate::for_::{FoR, FoRArray, FoRArrayExt, FoRData, FoRReferences, FoRSlo
 pub use crate::rle::{
     RLE, RLEArray, RLEArrayExt, RLEData, RLESlots, RleProbeState, rle_decompress,
 };
-pub use fastlanes::{FL_CHUNK_SIZE, Work};
+pub use fastlanes::{FL_CHUNK_SIZE, FastLanes, Work};
 pub use fl_column::{
     BetweenOptions, BitList, BoolArray, CompareOperator, ConstantArray, DType, FastLanesError,
     Mask, NativePType, Nullability, PType, PValue, PhysicalPType, PrimitiveArray, Scalar,
     StrictComparison, Validity,
 };
+pub use fl_metadata::PatchesMetadata;
 pub use fl_patches::Patches;
+pub use fl_plugin::{BitPackedPlugin, FoRPlugin};
+pub use fl_serialized::ids::{bitpacked_v1_id, bitpacked_v2_id, for_v1_id, for_v2_id};

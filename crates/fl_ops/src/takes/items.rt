@@ -59,7 +59,7 @@ fn items_typed<T: NativePType>(
 {
     let mut taken = PrimitiveBuilder::with_capacity(alloc, positions.len())?;
     for position in positions {
-        taken.push(item_at_position::<T>(alloc, array, *position)?)?;
+        taken.push(alloc, item_at_position::<T>(alloc, array, *position)?)?;
     }
     Ok(taken.finish(nullability))
 }

@@ -1,4 +1,4 @@
-use Rattle.std.proofs.Common.{◌≡◌, drop, map}
+use Rattle.std.proofs.Common.{◌≡◌, map}
 use Rattle.fl_array.specs.Trees.{column}
 use Rattle.fl_ops.specs.Operations.{run_columns, step_of}
 use Rattle.fl_ops.proofs.Runs.{LeadsOn, steps_from}

@@ -1,4 +1,5 @@
-use Rattle.std.proofs.Common.{rules}
+use Rattle.std.proofs.Common.{ap, rules}
+use Rattle.fl_ops.specs.Questions.{BoolsReply, mapped}
 use Rattle.fl_ops.proofs.Truths.{first_true, second_true}
 use Rattle.fl_ops.proofs.questions.ask.Goals as goal
 
@@ -7,3 +8,6 @@ between-requires-clause-lower c = search (rules, first_true)
 
 pub between-requires-clause-upper : goal.between-requires-clause-upper
 between-requires-clause-upper c = search (rules, second_true)
+
+pub returns-in_ok-between-in-Between-clause-reply : goal.returns-in_ok-between-in-Between-clause-reply
+returns-in_ok-between-in-Between-clause-reply c = rw c.in-Between.is (ap (mapped BoolsReply) c.in_ok-between-in-Between.ensures)

@@ -1,6 +1,5 @@
-use Rattle.std.proofs.Common.{◌∙◌, ◌<◌, ◌^◌, ◌-◌, List, ℕ, Ok, Result, IsTrue, length, nat_lt, ap, arith, subst, sym}
+use Rattle.std.proofs.Common.{◌∙◌, ◌<◌, ◌^◌, ◌-◌, List, ℕ, Ok, IsTrue, length, nat_lt, ap, arith, subst, sym}
 use Rattle.std.specs.List.{list_all}
-use Rattle.fl_types.specs.declared.error.FastLanesError.{FastLanesError}
 use Rattle.fl_types.specs.Refusals.{Answers}
 use Rattle.fl_column.specs.Columns.{Column, column_of_primitive}
 use Rattle.fl_array.specs.BitPackedArrays.{tree_of_bitpacked}
