@@ -10,6 +10,8 @@ mod exact;
 #[cfg(test)]
 mod faults;
 #[cfg(test)]
+mod long;
+#[cfg(test)]
 mod memory;
 #[cfg(test)]
 mod nodes;

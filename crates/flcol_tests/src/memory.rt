@@ -114,24 +114,26 @@ impl Sink for ToMemory {
     }
 }
 
-/// A reader and writer that is interrupted at each other call, and counts the calls of `flush`.
+/// A reader and writer of a byte a call, which may be interrupted at each other one. It counts the calls of `flush`.
 #[derive(Drop)]
-pub struct Interrupted {
+pub struct ByBytes {
     pub bytes: Vec<u8>,
     at: usize,
+    is_interrupted: bool,
     is_due: bool,
     pub flushes: u32,
 }
 
-impl Interrupted {
-    /// These bytes, of which none has been read. The first call is interrupted.
-    pub fn new(bytes: Vec<u8>) -> Interrupted
+impl ByBytes {
+    /// These bytes, of which none has been read. If any call is interrupted, the first one is.
+    pub fn new(bytes: Vec<u8>, is_interrupted: bool) -> ByBytes
         ensures bytes { result.bytes ≡ bytes }
         ensures flushes { result.flushes ≡ 0 }
     {
-        Interrupted {
+        ByBytes {
             bytes,
             at: 0,
+            is_interrupted,
             is_due: true,
             flushes: 0,
         }
@@ -141,11 +143,11 @@ impl Interrupted {
     fn turn(&mut self) -> bool {
         let is_due = self.is_due;
         self.is_due = !is_due;
-        is_due
+        is_due && self.is_interrupted
     }
 }
 
-impl Read for Interrupted {
+impl Read for ByBytes {
     ghost remaining = { λ _. None };
 
     fn read(&mut self, buf: &mut [u8]) -> io::Result<usize> {
@@ -163,7 +165,7 @@ impl Read for Interrupted {
     }
 }
 
-impl Write for Interrupted {
+impl Write for ByBytes {
     ghost contents = { λ _. None };
 
     fn write(&mut self, buf: &[u8]) -> io::Result<usize> {

@@ -2,7 +2,7 @@
 
 ghost use Rattle.std.specs.Prelude.{◌<◌};
 
-use crate::memory::{Broken, FromMemory, Interrupted, ToMemory, Unflushed};
+use crate::memory::{Broken, ByBytes, FromMemory, ToMemory, Unflushed};
 use flcol_engine::ends::{ReadEnd, WriteEnd};
 use flcol_engine::fault::Fault;
 use flcol_engine::start::start;
@@ -603,14 +603,15 @@ fn faults_of_errors_change_no_status(rt: HostRuntime) {
     assert!(rt; keeps_status(rt.alloc(), BITS, b"1", 0));
 }
 
-/// How a run over these ends of std ends, with its line of errors, on the words of a column at width 1.
+/// How a run over these ends of std ends, with its line of errors.
 fn status_over_std<R: Read + Drop, W: Write + Drop>(
     alloc: Global,
+    line: &[&str],
     reader: R,
     writer: W,
     said: &mut Vec<u8>,
 ) -> u8 {
-    match words(alloc, BITS) {
+    match words(alloc, line) {
         Some(words) => start(
             alloc,
             &words,
@@ -631,7 +632,18 @@ fn ends_over_std<R: Read + Drop, W: Write + Drop>(
     line: &[u8],
 ) -> bool {
     let mut said = Vec::new(alloc);
-    status_over_std(alloc, reader, writer, &mut said) == status && said.as_slice() == line
+    status_over_std(alloc, BITS, reader, writer, &mut said) == status && said.as_slice() == line
+}
+
+/// A run of these words over these ends of std ends well.
+pub(crate) fn ends_well_over_std<R: Read + Drop, W: Write + Drop>(
+    alloc: Global,
+    line: &[&str],
+    reader: R,
+    writer: W,
+) -> bool {
+    let mut said = Vec::new(alloc);
+    status_over_std(alloc, line, reader, writer, &mut said) == 0 && said.is_empty()
 }
 
 #[test]
@@ -650,7 +662,7 @@ fn a_full_writer_has_failed(rt: HostRuntime) {
 
 /// Whether a reader of the line `1` and a writer, each interrupted at each other call, are read and written whole, and
 /// the writer is flushed once.
-fn are_outlasted(alloc: Global, mut reader: Interrupted, mut writer: Interrupted) -> bool {
+fn are_outlasted(alloc: Global, mut reader: ByBytes, mut writer: ByBytes) -> bool {
     ends_over_std(alloc, &mut reader, &mut writer, 0, b"")
         && writer.bytes.len() == 128
         && are_zeros_but(&writer.bytes, &[(0, 1)])
@@ -661,8 +673,8 @@ fn outlasts_interruptions(alloc: Global) -> bool {
     match Vec::from_slice(alloc, b"1\n") {
         Ok(text) => are_outlasted(
             alloc,
-            Interrupted::new(text),
-            Interrupted::new(Vec::new(alloc)),
+            ByBytes::new(text, true),
+            ByBytes::new(Vec::new(alloc), true),
         ),
         Err(_) => false,
     }

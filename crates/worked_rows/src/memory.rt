@@ -1,8 +1,5 @@
 //! Calls among refused requests for memory (`docs/MEMORY.md`): what a call answers, and whether what it borrowed is as
 //! before.
-//!
-//! The kit's runner refuses the Nth request of a whole run. A row that makes requests of its own before the call, or
-//! behind it, moves the refused one to where it is wanted, and tells how many requests came before it.
 
 mod array_calls;
 mod bit_calls;
@@ -18,57 +15,19 @@ mod reader_calls;
 
 use self::inputs::{Inputs, Owned};
 use self::outcome::Came;
-use crate::columns::count;
+use crate::arrays::KINDS;
 use crate::text::Text;
 use fl_column::PrimitiveArray;
 use std::alloc::Global;
 use vortex_fastlanes::FastLanesError;
 
-/// How many requests a row makes of its own, before the call and behind it.
-#[derive(Clone, Copy)]
-struct Requests {
-    before: usize,
-    behind: usize,
-}
+/// The bytes of a request that stands before each call and behind it, and nowhere else. An allocator that refuses the
+/// call's requests knows by it where these begin and end.
+const MARK: usize = 77_777;
 
-/// The requests that a word asks for: `memory`, `memory:before:90` or `memory:behind:90`.
-fn requests_of(word: &str) -> Option<Requests> {
-    let (name, rest) = word.split_once(':').unwrap_or((word, ""));
-    if name != "memory" {
-        return None;
-    }
-    let (side, number) = rest.split_once(':').unwrap_or((rest, ""));
-    let (before, behind) = if side == "before" {
-        (count(number), 0)
-    } else {
-        (0, count(number))
-    };
-    Some(Requests { before, behind })
-}
-
-/// Makes requests, each for a byte that is given back at once, until one is refused. Says how many were granted.
-fn request(alloc: Global, wanted: usize) -> usize {
-    for granted in 0..wanted {
-        if Box::new(alloc, 0u8).is_err() {
-            return granted;
-        }
-    }
-    wanted
-}
-
-/// Makes the requests behind a call, and one before them: where the call made one less than was thought, this one is
-/// refused and not one of the answer's text.
-fn behind(alloc: Global, requests: Requests) -> usize {
-    let _ = request(alloc, 1);
-    request(alloc, requests.behind)
-}
-
-/// Adds how many requests were granted, where one was refused.
-fn granted(side: &str, granted: usize, wanted: usize, answer: &mut Text) {
-    if granted < wanted {
-        answer.word(side);
-        answer.count(granted);
-    }
+/// Makes the request that tells where a call begins or ends, and gives its memory back.
+fn mark(alloc: Global) {
+    let _ = Vec::<u8>::with_capacity(alloc, MARK);
 }
 
 /// Makes a call by its name.
@@ -90,7 +49,6 @@ fn are_same(old: &Result<Vec<u8>, FastLanesError>, new: &Result<Vec<u8>, FastLan
 /// Answers what a call gives, and whether its inputs are what they were.
 fn answer_call(
     alloc: Global,
-    requests: Requests,
     words: (&str, &[&str]),
     inputs: &Inputs,
     owned: Owned,
@@ -99,23 +57,20 @@ fn answer_call(
     let (mut old, mut new) = (Text::new(alloc), Text::new(alloc));
     inputs.describe(&mut old);
     let old_bytes = inputs.stored(alloc);
-    let before = request(alloc, requests.before);
+    mark(alloc);
     let came = call(alloc, words.0, words.1, inputs, owned);
-    let behind = behind(alloc, requests);
+    mark(alloc);
     outcome::show(alloc, &came, answer);
     inputs.describe(&mut new);
     let new_bytes = inputs.stored(alloc);
     if old.as_str() != new.as_str() || !are_same(&old_bytes, &new_bytes) {
         answer.word("but changed");
     }
-    granted("before", before, requests.before, answer);
-    granted("behind", behind, requests.behind, answer);
 }
 
 /// Answers what a call gives whose inputs are made of columns. Where these find no memory it isn't made.
 fn ask_call(
     alloc: Global,
-    requests: Requests,
     kind: &str,
     words: (&str, &[&str]),
     columns: &[PrimitiveArray],
@@ -124,11 +79,79 @@ fn ask_call(
     let made = Inputs::make(alloc, kind, words, columns);
     let owned = Owned::make(alloc, kind, words, columns);
     match (made, owned) {
-        (Ok(inputs), Ok(owned)) => answer_call(alloc, requests, words, &inputs, owned, answer),
+        (Ok(inputs), Ok(owned)) => answer_call(alloc, words, &inputs, owned, answer),
         (Err(refusal), _) | (_, Err(refusal)) => {
             answer.word("set-up");
             answer.refusal(refusal);
         }
+    }
+}
+
+/// Answers what a call gives on an array of a kind.
+fn ask_kind(
+    alloc: Global,
+    kind: &str,
+    words: (&str, &[&str]),
+    columns: &[PrimitiveArray],
+    answer: &mut Text,
+) {
+    match words.0 {
+        "flcol" => engine_calls::ask(alloc, kind, words.1, columns, answer),
+        "words" => engine_calls::ask_words(alloc, words.1, answer),
+        _ => ask_call(alloc, kind, words, columns, answer),
+    }
+}
+
+/// The names that the kind of an array begins with.
+const KIND_NAMES: &[&str] = &[
+    "plain",
+    "constant",
+    "bitpacked",
+    "blocked",
+    "for",
+    "forc",
+    "delta",
+    "rle",
+];
+
+/// An answer without the kind that stands before an array's column.
+fn without_kind(answer: &str) -> &str {
+    let (kind, rest) = answer.split_once(' ').unwrap_or(("", answer));
+    let name = kind.split_once('(').unwrap_or((kind, "")).0;
+    if KIND_NAMES.contains(&name) {
+        rest
+    } else {
+        answer
+    }
+}
+
+/// Adds what a call answers on an array of a kind, where it is not what was answered before.
+fn ask_again(
+    alloc: Global,
+    kind: &str,
+    words: (&str, &[&str]),
+    columns: &[PrimitiveArray],
+    before: &str,
+    answer: &mut Text,
+) {
+    let mut asked = Text::new(alloc);
+    ask_kind(alloc, kind, words, columns, &mut asked);
+    let after = without_kind(asked.as_str());
+    if after != before {
+        answer.word("but");
+        answer.word(kind);
+        answer.word(after);
+    }
+}
+
+/// Answers what a call gives on an array of each kind: once, and again where a kind answers something else.
+fn ask_each(alloc: Global, words: (&str, &[&str]), columns: &[PrimitiveArray], answer: &mut Text) {
+    let mut first = Text::new(alloc);
+    ask_kind(alloc, "plain", words, columns, &mut first);
+    let before = without_kind(first.as_str());
+    answer.word(before);
+    for kind in KINDS {
+        ask_again(alloc, kind, words, columns, before, answer);
     }
 }
 
@@ -138,16 +161,12 @@ pub(crate) fn ask(
     columns: &[PrimitiveArray],
     answer: &mut Text,
 ) -> bool {
-    let [memory, kind, name, words @ ..] = question else {
+    let ["memory", kind, name, words @ ..] = question else {
         return false;
     };
-    let Some(requests) = requests_of(memory) else {
-        return false;
-    };
-    match *name {
-        "flcol" => engine_calls::ask(alloc, requests, kind, words, columns, answer),
-        "words" => engine_calls::ask_words(alloc, requests, words, answer),
-        _ => ask_call(alloc, requests, kind, (*name, words), columns, answer),
+    match *kind {
+        "each" => ask_each(alloc, (*name, words), columns, answer),
+        _ => ask_kind(alloc, kind, (*name, words), columns, answer),
     }
     true
 }

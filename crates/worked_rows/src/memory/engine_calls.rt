@@ -2,7 +2,7 @@
 
 ghost use Rattle.std.specs.Prelude.{◌≡◌, Some, false};
 
-use super::{Requests, behind, granted, request};
+use super::mark;
 use crate::arrays::building;
 use crate::packing;
 use crate::text::Text;
@@ -179,7 +179,7 @@ fn refused(fault: Fault, written: &[u8], answer: &mut Text) {
 }
 
 /// Answers what the engine writes.
-fn answer_run(alloc: Global, requests: Requests, made: Run, answer: &mut Text) {
+fn answer_run(alloc: Global, made: Run, answer: &mut Text) {
     let Run {
         command,
         input,
@@ -188,36 +188,32 @@ fn answer_run(alloc: Global, requests: Requests, made: Run, answer: &mut Text) {
     if output.failed {
         return;
     }
-    let before = request(alloc, requests.before);
     let mut source = Input { bytes: &input };
+    mark(alloc);
     let came = call(alloc, &command, &mut source, &mut output);
-    let behind = behind(alloc, requests);
+    mark(alloc);
     match came {
         Ok(()) => packing::show(answer, &output.bytes),
         Err(fault) => refused(fault, &output.bytes, answer),
     }
-    granted("before", before, requests.before, answer);
-    granted("behind", behind, requests.behind, answer);
 }
 
 /// Answers whether words are a command.
-fn answer_words(alloc: Global, requests: Requests, words: &[String], answer: &mut Text) {
-    let before = request(alloc, requests.before);
+fn answer_words(alloc: Global, words: &[String], answer: &mut Text) {
+    mark(alloc);
     let came = words::command(alloc, words);
-    let behind = behind(alloc, requests);
+    mark(alloc);
     match came {
         Ok(Some(_)) => answer.word("command"),
         Ok(None) => answer.word("usage"),
         Err(refusal) => answer.refusal(refusal),
     }
-    granted("before", before, requests.before, answer);
-    granted("behind", behind, requests.behind, answer);
 }
 
 /// Answers whether a line of words is a command.
-pub(super) fn ask_words(alloc: Global, requests: Requests, line: &[&str], answer: &mut Text) {
+pub(super) fn ask_words(alloc: Global, line: &[&str], answer: &mut Text) {
     match words_of(alloc, line) {
-        Ok(words) => answer_words(alloc, requests, &words, answer),
+        Ok(words) => answer_words(alloc, &words, answer),
         Err(refusal) => {
             answer.word("set-up");
             answer.refusal(refusal);
@@ -229,7 +225,6 @@ pub(super) fn ask_words(alloc: Global, requests: Requests, line: &[&str], answer
 /// kind.
 pub(super) fn ask(
     alloc: Global,
-    requests: Requests,
     kind: &str,
     line: &[&str],
     columns: &[PrimitiveArray],
@@ -239,7 +234,7 @@ pub(super) fn ask(
         return;
     };
     match set_up(alloc, kind, line, column) {
-        Ok(made) => answer_run(alloc, requests, made, answer),
+        Ok(made) => answer_run(alloc, made, answer),
         Err(refusal) => {
             answer.word("set-up");
             answer.refusal(refusal);
