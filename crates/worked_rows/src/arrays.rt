@@ -111,7 +111,7 @@ fn ask_kind(
 
 /// The kinds that `each` stands for, beside the plain one. A column without a valid item has none that subtracts a
 /// least item.
-pub(crate) const KINDS: &[&str] = &[
+const KINDS: &[&str] = &[
     "bitpacked:0",
     "bitpacked:3",
     "blocked:0,5,2",

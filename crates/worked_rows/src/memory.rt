@@ -15,7 +15,6 @@ mod reader_calls;
 
 use self::inputs::{Inputs, Owned};
 use self::outcome::Came;
-use crate::arrays::KINDS;
 use crate::text::Text;
 use fl_column::PrimitiveArray;
 use std::alloc::Global;
@@ -143,6 +142,17 @@ fn ask_again(
         answer.word(after);
     }
 }
+
+/// The kinds that `each` stands for, beside the plain one: each encoding, and the one that is decoded in one pass over two.
+const KINDS: &[&str] = &[
+    "bitpacked:3",
+    "blocked:3",
+    "for",
+    "for+bitpacked:3",
+    "forc",
+    "delta",
+    "rle",
+];
 
 /// Answers what a call gives on an array of each kind: once, and again where a kind answers something else.
 fn ask_each(alloc: Global, words: (&str, &[&str]), columns: &[PrimitiveArray], answer: &mut Text) {
