@@ -200,6 +200,10 @@ const SOUND: &[&str] = &[
     // What would be longer than any array; a range beyond the length comes first.
     "run ranges:0+18446744073709551615,0+1 decode | vortex.constant u8 18446744073709551615 2005 - 0 = error 8 LengthOverflow",
     "run ranges:0+18446744073709551615,1+18446744073709551615 decode | vortex.constant u8 18446744073709551615 2005 - 0 = error 31 RangeOutOfBounds",
+    // Refused without being decoded.
+    "run ranges:18446744073709550590+3 decode | fastlanes.bitpacked u32 18446744073709550592 - 00*0 0 = error 31 RangeOutOfBounds",
+    "run ranges:0+9223372036854775808,0+9223372036854775808 decode | fastlanes.bitpacked u32 18446744073709550592 - 00*0 0 = error 8 LengthOverflow",
+    "run ranges:0+9223372036854775808,0+9223372036854775808 decode | fastlanes.bitpacked u32 18446744073709550592 - 00*0 0 | fastlanes.for u32 18446744073709550592 2005 - 1 = error 8 LengthOverflow",
 ];
 
 #[test]
