@@ -1,9 +1,11 @@
 //! Arrays of every kind: how they are made, what operations make of them, and what they answer, call by
 //! call and in lists.
 
+mod beside;
 pub(crate) mod building;
 mod constructors;
 mod counted;
+mod data;
 mod encoders;
 pub(crate) mod making;
 pub(crate) mod operations;
@@ -11,6 +13,7 @@ pub(crate) mod parts;
 pub(crate) mod questions;
 mod taking;
 
+use crate::columns::count;
 use crate::text::Text;
 use fl_types::FastLanesError;
 use std::alloc::Global;
@@ -34,7 +37,8 @@ fn answer_made(
     }
 }
 
-/// Answers a question behind operations that are called one by one and, where that answers something else, as a list.
+/// Answers a question behind operations, if there are any, that are called one by one and, where that answers something
+/// else, as a list.
 fn answer_behind(
     alloc: Global,
     array: &ArrayRef,
@@ -45,10 +49,12 @@ fn answer_behind(
 ) {
     let called = operations::call_all(alloc, array, ops);
     answer_made(alloc, question, &called, columns, answer);
-    let mut listed = Text::new(alloc);
-    let applied = apply_all(alloc, array, ops);
-    answer_made(alloc, question, &applied, columns, &mut listed);
-    answer.unless_same(&mut listed);
+    if ops.len() > 0 {
+        let mut listed = Text::new(alloc);
+        let applied = apply_all(alloc, array, ops);
+        answer_made(alloc, question, &applied, columns, &mut listed);
+        answer.unless_same(&mut listed);
+    }
 }
 
 /// Answers words about an array: a question, behind operations and `then` where there are any. The operations take
@@ -169,6 +175,7 @@ pub(crate) fn ask(
     match question {
         ["array", "each", words @ ..] => ask_each(alloc, words, columns, answer),
         ["array", kind, words @ ..] => ask_kind(alloc, kind, words, columns, answer),
+        ["rle_data", offset] => data::of_runs(count(offset), answer),
         _ => return constructors::ask(alloc, question, columns, answer),
     }
     true

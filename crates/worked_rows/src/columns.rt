@@ -30,6 +30,14 @@ impl Items {
         self.valid.push(valid)
     }
 
+    /// Puts an integer, or a null over one, in place of an item, where there is one at this place.
+    fn put(&mut self, place: usize, integer: i128, valid: bool) {
+        if place < self.integers.len() && place < self.valid.len() {
+            self.integers[place] = integer;
+            self.valid.set(place, valid);
+        }
+    }
+
     /// Adds this many items, which begin here.
     fn rise(&mut self, first: i128, count: usize, by: Rise) -> Result<(), FastLanesError> {
         let mut integer = first;
@@ -79,6 +87,20 @@ fn add_range(items: &mut Items, first: &str, rest: &str) -> Result<(), FastLanes
     items.rise(first, steps(first, number(end), step), by)
 }
 
+/// Replaces items: `@1/9=7/2` puts 7, 9, 11 and so on in place of each ninth item from item 1 on, `@1/9=null` nulls.
+fn replace(items: &mut Items, places: &str, given: &str) {
+    let (start, step) = places.split_once('/').unwrap_or((places, "1"));
+    let (first, rise) = given.split_once('/').unwrap_or((given, "0"));
+    let (start, step, rise) = (count(start), count(step), number(rise));
+    let mut integer = number(first);
+    for place in start..items.integers.len() {
+        if (place - start).checked_rem(step) == Some(0) {
+            items.put(place, integer, given != "null");
+            integer = integer.saturating_add(rise);
+        }
+    }
+}
+
 /// Adds an item: an integer, `null`, or a null over an integer in brackets.
 fn add_item(items: &mut Items, item: &str) -> Result<(), FastLanesError> {
     let bare = item.trim_matches(|c| c == '(' || c == ')');
@@ -96,14 +118,26 @@ fn add_group(items: &mut Items, group: &str, times: usize) -> Result<(), FastLan
     Ok(())
 }
 
-/// Adds what a word names.
-fn add_word(items: &mut Items, word: &str) -> Result<(), FastLanesError> {
+/// Adds the items that a word names.
+fn add_items(items: &mut Items, word: &str) -> Result<(), FastLanesError> {
     match word.split_once("..") {
         Some((first, rest)) => add_range(items, first, rest),
         None => match word.split_once('*') {
             Some((group, times)) => add_group(items, group, count(times)),
             None => add_item(items, word),
         },
+    }
+}
+
+/// Adds the items that a word names, or replaces some of those before it.
+fn add_word(items: &mut Items, word: &str) -> Result<(), FastLanesError> {
+    match word.strip_prefix("@") {
+        Some(rest) => {
+            let (places, given) = rest.split_once('=').unwrap_or((rest, ""));
+            replace(items, places, given);
+            Ok(())
+        }
+        None => add_items(items, word),
     }
 }
 

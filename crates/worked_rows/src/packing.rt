@@ -217,7 +217,7 @@ fn ask_bytes(alloc: Global, question: &[&str], bytes: &[u8], answer: &mut Text) 
             let numbers = [count(width), count(offset), count(len)];
             unpack_of(alloc, bytes, name, numbers, answer);
         }
-        _ => return readers::ask(question, bytes, answer),
+        _ => return readers::ask(alloc, question, bytes, answer),
     }
     true
 }

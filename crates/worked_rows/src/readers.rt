@@ -1,17 +1,19 @@
 //! Readers of packed columns, block by block.
 
-ghost use Rattle.std.specs.Prelude.{◌≡◌, length};
+ghost use Rattle.std.specs.Prelude.{◌≡◌, ◌≤◌, IfSome, IsTrue, length};
 ghost use Rattle.fl_types.specs.Integers.{bits_of_type};
 
 use crate::columns::{count, type_of};
 use crate::shown;
 use crate::text::Text;
+use bytes::Bytes;
 use fl_types::*;
+use std::alloc::Global;
 use std::cell::Cell;
 use vortex_fastlanes::unpack_iter::{
-    BitPacked, BitPackingStrategy, UnpackStrategy, UnpackedChunks, UnpackedItems,
+    BitPacked, BitPackingStrategy, BitUnpackedChunks, UnpackStrategy, UnpackedChunks, UnpackedItems,
 };
-use vortex_fastlanes::{FL_CHUNK_SIZE, Work};
+use vortex_fastlanes::{BitPackedData, FL_CHUNK_SIZE, Work};
 
 /// Adds all items that a reader writes, for which there is room, and how many blocks it unpacked.
 fn write<T: BitPacked>(
@@ -48,18 +50,15 @@ fn read<T: BitPacked>(bytes: &[u8], width: usize, offset: usize, len: usize, ans
 }
 
 /// Adds the items that a reader lends, or `none`.
-fn lent(items: &UnpackedItems<'_, u8>, answer: &mut Text) {
+fn lent<T: BitPacked>(items: &UnpackedItems<'_, T>, answer: &mut Text) {
     match items.items() {
         Some(items) => shown::integers(answer, items),
         None => answer.word("none"),
     }
 }
 
-/// A reader of bytes as `u8`.
-type Chunks<'a> = UnpackedChunks<'a, u8, BitPackingStrategy>;
-
 /// Adds the items of the first block, of the last one, and of whole blocks, at most five.
-fn parts(chunks: &mut Chunks<'_>, answer: &mut Text) {
+fn parts<T: BitPacked>(chunks: &mut BitUnpackedChunks<'_, T>, answer: &mut Text) {
     answer.word("first");
     lent(&chunks.initial(), answer);
     answer.word("last");
@@ -74,18 +73,52 @@ fn parts(chunks: &mut Chunks<'_>, answer: &mut Text) {
 }
 
 /// Adds the parts that a reader lends, and those that it lends at a second call.
-fn lend(bytes: &[u8], width: usize, offset: usize, len: usize, answer: &mut Text) {
-    if width > 8 {
-        return;
+pub(crate) fn lend_twice<T: BitPacked>(chunks: &mut BitUnpackedChunks<'_, T>, answer: &mut Text) {
+    parts(chunks, answer);
+    answer.word("again");
+    parts(chunks, answer);
+}
+
+/// Whether the width of the blocks, if they have one, is at most a type's bits.
+pub(crate) fn fits<T: BitPacked>(data: &BitPackedData) -> bool
+    ensures { IsTrue result → IfSome data.now.bit_width (λ width. width ≤ bits_of_type T.PTYPE) }
+{
+    match data.bit_width() {
+        Some(width) => usize::from(width) <= T::PTYPE.bit_width(),
+        None => true,
     }
-    let mut scratch = [0u8; FL_CHUNK_SIZE];
-    let strategy = BitPackingStrategy;
-    match UnpackedChunks::try_new_with_strategy(strategy, bytes, width, offset, len, &mut scratch) {
-        Ok(mut chunks) => {
-            parts(&mut chunks, answer);
-            answer.word("again");
-            parts(&mut chunks, answer);
+}
+
+/// Adds the parts that a reader of this many items lends.
+pub(crate) fn lend<T: BitPacked>(data: &BitPackedData, len: usize, answer: &mut Text) {
+    T::prove_fits_in_memory();
+    if fits::<T>(data) {
+        let mut scratch = [T::zero(); FL_CHUNK_SIZE];
+        match BitUnpackedChunks::try_new(data, len, &mut scratch) {
+            Ok(mut chunks) => lend_twice(&mut chunks, answer),
+            Err(refusal) => answer.refusal(refusal),
         }
+    }
+}
+
+/// The data of packed bytes.
+fn data_of(
+    alloc: Global,
+    bytes: &[u8],
+    width: usize,
+    offset: usize,
+) -> Result<BitPackedData, FastLanesError> {
+    let bytes = Bytes::from_vec(Vec::from_slice(alloc, bytes)?)?;
+    let width = u8::try_from(width).unwrap_or(u8::MAX);
+    let offset = u16::try_from(offset).unwrap_or(u16::MAX);
+    BitPackedData::try_new(bytes, None, width, offset)
+}
+
+/// Adds the parts that a reader of bytes lends, by the name of the items' type.
+fn lend_of(alloc: Global, bytes: &[u8], name: &str, numbers: [usize; 3], answer: &mut Text) {
+    let [width, offset, len] = numbers;
+    match data_of(alloc, bytes, width, offset) {
+        Ok(data) => match_each_integer_ptype!(type_of(name), lend(&data, len, answer)),
         Err(refusal) => answer.refusal(refusal),
     }
 }
@@ -153,29 +186,29 @@ fn read_of(bytes: &[u8], name: &str, numbers: [usize; 3], answer: &mut Text) {
     match_each_integer_ptype!(type_of(name), read(bytes, width, offset, len, answer));
 }
 
-/// Asks a question of a reader with this width, offset and length.
-fn ask_reader(asked: &str, bytes: &[u8], numbers: [usize; 3], answer: &mut Text) -> bool {
-    let [width, offset, len] = numbers;
-    match asked {
-        "lend" => lend(bytes, width, offset, len, answer),
-        "strategy" => calls(bytes, width, offset, len, &Cell::new(0), answer),
-        _ => return false,
-    }
-    true
-}
-
 /// Asks a question of bytes.
-pub(crate) fn ask(question: &[&str], bytes: &[u8], answer: &mut Text) -> bool {
+pub(crate) fn ask(alloc: Global, question: &[&str], bytes: &[u8], answer: &mut Text) -> bool {
     match question {
         ["read", name, width, offset, len] => {
             let numbers = [count(width), count(offset), count(len)];
             read_of(bytes, name, numbers, answer);
-            true
         }
-        [asked, width, offset, len] => {
+        ["lend", name, width, offset, len] => {
             let numbers = [count(width), count(offset), count(len)];
-            ask_reader(asked, bytes, numbers, answer)
+            lend_of(alloc, bytes, name, numbers, answer);
         }
-        _ => false,
+        ["strategy", width, offset, len] => {
+            let called = Cell::new(0);
+            calls(
+                bytes,
+                count(width),
+                count(offset),
+                count(len),
+                &called,
+                answer,
+            );
+        }
+        _ => return false,
     }
+    true
 }

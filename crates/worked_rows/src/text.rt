@@ -2,7 +2,7 @@
 
 use fl_types::FastLanesError;
 use std::alloc::Global;
-use std::fmt::Debug;
+use std::fmt::{Debug, Display};
 
 /// Items that are equal, or rise by one, or a single one.
 #[derive(Clone, Copy)]
@@ -170,6 +170,12 @@ impl Text {
     pub(crate) fn debug<T: Debug>(&mut self, value: &T) {
         self.end();
         let _ = write!(self.text, "{value:?} ");
+    }
+
+    /// Adds a value as it is printed.
+    pub(crate) fn printed<T: Display>(&mut self, value: &T) {
+        self.end();
+        let _ = write!(self.text, "{value} ");
     }
 
     /// Adds another text, where it is not the same.

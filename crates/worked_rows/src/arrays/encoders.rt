@@ -8,7 +8,7 @@ use vortex_fastlanes::bitpack_compress::{
     bitpack_blocked_to_best_bit_widths, bitpack_encode, bitpack_encode_blocked,
     bitpack_to_best_bit_width,
 };
-use vortex_fastlanes::{Delta, FoR, PrimitiveArray, RLE};
+use vortex_fastlanes::{BitPackedData, Delta, FoR, FoRData, PrimitiveArray, RLE, RLEData};
 
 /// A column that is packed at a width, or at that of least cost where none is given.
 fn bitpacked(alloc: Global, column: &PrimitiveArray, width: &str) -> Built {
@@ -36,6 +36,20 @@ fn blocked(alloc: Global, column: &PrimitiveArray, widths: &str) -> Built {
     Ok(array.into_array())
 }
 
+/// A column as the data of an encoding make an array of it: the encoding's name, and behind a colon the width.
+fn encode_by_data(alloc: Global, encoder: &str, column: &PrimitiveArray) -> Built {
+    let (name, width) = encoder.split_once(':').unwrap_or((encoder, ""));
+    match name {
+        "bitpacked" => {
+            let array = column.try_clone(alloc)?.into_array();
+            Ok(BitPackedData::encode(alloc, &array, width_of(width))?.into_array())
+        }
+        "for" => Ok(FoRData::encode(alloc, column)?.into_array()),
+        "rle" => Ok(RLEData::encode(alloc, column)?.into_array()),
+        _ => Ok(column.try_clone(alloc)?.into_array()),
+    }
+}
+
 /// A column as an encoder makes an array of it: its name, and behind a colon the widths.
 pub(super) fn encode(alloc: Global, encoder: &str, column: &PrimitiveArray) -> Built {
     let (name, widths) = encoder.split_once(':').unwrap_or((encoder, ""));
@@ -46,6 +60,7 @@ pub(super) fn encode(alloc: Global, encoder: &str, column: &PrimitiveArray) -> B
         "forc" => Ok(FoR::encode_chunked(alloc, column)?.into_array()),
         "delta" => Ok(Delta::try_from_primitive_array(alloc, column)?.into_array()),
         "rle" => Ok(RLE::encode(alloc, column)?.into_array()),
+        "data" => encode_by_data(alloc, widths, column),
         _ => Ok(column.try_clone(alloc)?.into_array()),
     }
 }

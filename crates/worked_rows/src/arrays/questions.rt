@@ -5,7 +5,7 @@ ghost use Rattle.fl_types.specs.Values.{scalar_parts};
 ghost use Rattle.fl_array.specs.Trees.{column};
 ghost use Rattle.fl_ops.specs.Questions.{is_comparable, may_ask};
 
-use super::{Built, counted, parts, taking};
+use super::{Built, beside, counted, data, parts, taking};
 use crate::columns::count;
 use crate::names::{asked, named};
 use crate::parts::is_same;
@@ -20,13 +20,17 @@ use vortex_fastlanes::{
     StrictComparison, Validity, Work,
 };
 
-/// An integer of an array's type.
+/// An integer of an array's type, whose mark `?` makes its type nullable.
 pub(crate) fn constant(array: &ArrayRef, integer: &str) -> Scalar
     ensures { IsTrue (is_comparable (column array.now) (scalar_parts result)) }
 {
+    let (integer, nullability) = match integer.strip_suffix("?") {
+        Some(bare) => (bare, Nullability::Nullable),
+        None => (integer, Nullability::NonNullable),
+    };
     match array.dtype().ptype() {
-        Some(ptype) => Scalar::primitive(types::value_of(ptype, integer), Nullability::NonNullable),
-        None => Scalar::bool(true, Nullability::NonNullable),
+        Some(ptype) => Scalar::primitive(types::value_of(ptype, integer), nullability),
+        None => Scalar::bool(true, nullability),
     }
 }
 
@@ -388,10 +392,15 @@ fn is_item(alloc: Global, array: &ArrayRef, column: &PrimitiveArray, i: usize) -
     }
 }
 
-/// The first item of an array that, read alone, is not that of a column. Of a long array about each 64th part is read.
+/// How far apart the items lie that are read alone: all are up to 1024 items, of a longer array some 64.
+fn stride(len: usize) -> usize {
+    if len <= 1024 { 1 } else { len / 64 + 1 }
+}
+
+/// The first item of an array that, read alone, is not that of a column.
 fn first_other(alloc: Global, array: &ArrayRef, column: &PrimitiveArray) -> Option<usize> {
-    let stride = column.len() / 64 + 1;
-    for k in 0..65usize {
+    let stride = stride(column.len());
+    for k in 0..1024usize {
         let i = k.saturating_mul(stride);
         if !is_item(alloc, array, column, i) {
             return Some(i);
@@ -410,7 +419,7 @@ fn reads_back(alloc: Global, array: &ArrayRef, column: &PrimitiveArray, answer: 
 }
 
 /// Adds `back` where an array decodes to a column and has its items, else what it decodes to.
-fn back(alloc: Global, array: &ArrayRef, column: &PrimitiveArray, answer: &mut Text) {
+pub(super) fn back(alloc: Global, array: &ArrayRef, column: &PrimitiveArray, answer: &mut Text) {
     match array.to_primitive(alloc) {
         Ok(decoded) => {
             if is_same(&decoded, column) {
@@ -499,6 +508,19 @@ fn answer_asked(
     }
 }
 
+/// Answers a question beside a plain column, or of what an array keeps.
+fn answer_other(
+    alloc: Global,
+    array: &ArrayRef,
+    words: &[&str],
+    columns: &[PrimitiveArray],
+    answer: &mut Text,
+) {
+    if !beside::ask(alloc, array, words, columns, answer) {
+        data::ask(alloc, array, words, columns, answer);
+    }
+}
+
 /// Answers what words ask of an array, or of one inside it.
 pub(super) fn answer(
     alloc: Global,
@@ -513,6 +535,6 @@ pub(super) fn answer(
     };
     match asked(QUESTIONS, words) {
         Some((asked, words)) => answer_asked(alloc, array, asked, words, columns, answer),
-        None => answer.word("no such question"),
+        None => answer_other(alloc, array, words, columns, answer),
     }
 }

@@ -1,0 +1,214 @@
+//! What arrays keep beside the arrays inside them: as it is printed, and of bit-packed ones its words, its integer
+//! type, readers of its blocks and items as they are stored.
+
+ghost use Rattle.std.specs.Prelude.{◌≡◌, IfOk};
+ghost use Rattle.fl_array.specs.BitPackedFields.{ptype_in};
+
+use crate::columns::{count, dtype_of};
+use crate::packing::width_of;
+use crate::text::Text;
+use crate::{readers, shown};
+use fl_types::match_each_integer_ptype;
+use std::alloc::Global;
+use vortex_fastlanes::array::ArrayRef;
+use vortex_fastlanes::bitpack_compress::bitpack_primitive;
+use vortex_fastlanes::bitpack_decompress::unpack_single;
+use vortex_fastlanes::unpack_iter::BitPacked;
+use vortex_fastlanes::{
+    BitPackedArray, BitPackedArrayExt, BitPackedData, DType, DeltaArrayExt, FL_CHUNK_SIZE,
+    FastLanesError, FoRArrayExt, Nullability, PhysicalPType, PrimitiveArray, RLEArrayExt, RLEData,
+};
+
+/// Adds what an array keeps, as it is printed.
+fn printed(array: &ArrayRef, answer: &mut Text) {
+    if let Some(array) = array.as_bitpacked() {
+        match BitPackedArrayExt::data(array) {
+            Ok(data) => answer.printed(&data),
+            Err(refusal) => answer.refusal(refusal),
+        }
+    } else if let Some(array) = array.as_for() {
+        answer.printed(&FoRArrayExt::data(array));
+    } else if let Some(array) = array.as_delta() {
+        answer.printed(&DeltaArrayExt::data(array));
+    } else if let Some(array) = array.as_rle() {
+        answer.printed(&RLEArrayExt::data(array));
+    } else {
+        answer.word("no data");
+    }
+}
+
+/// Adds the data of run-length encoded arrays of an offset: as it is made, and as it is made without a test.
+pub(super) fn of_runs(offset: usize, answer: &mut Text) {
+    match RLEData::try_new(offset) {
+        Ok(data) => answer.printed(&data),
+        Err(refusal) => answer.refusal(refusal),
+    }
+    if offset < FL_CHUNK_SIZE {
+        answer.printed(&RLEData::new_unchecked(offset));
+    }
+}
+
+/// Adds the integer type of a column of this type.
+fn ptype(data: &BitPackedData, dtype: DType, answer: &mut Text) {
+    match data.ptype(&dtype) {
+        Ok(ptype) => shown::dtype(answer, DType::Primitive(ptype, Nullability::NonNullable)),
+        Err(refusal) => answer.refusal(refusal),
+    }
+}
+
+/// Adds what a reader by the array lends.
+fn lend_by_array<T: BitPacked>(array: &BitPackedArray, answer: &mut Text)
+    requires { array.now.parts.ptype ≡ T.PTYPE }
+{
+    T::prove_fits_in_memory();
+    let mut scratch = [T::zero(); FL_CHUNK_SIZE];
+    match BitPackedArrayExt::unpacked_chunks::<T>(array, &mut scratch) {
+        Ok(mut chunks) => readers::lend_twice(&mut chunks, answer),
+        Err(refusal) => answer.refusal(refusal),
+    }
+}
+
+/// The type of a column that a reader of this type reads, or that of booleans.
+fn read_as<T: BitPacked>(is_bool: bool) -> DType
+    ensures { IfOk (ptype_in result) (λ ptype. ptype ≡ T.PTYPE) }
+{
+    if is_bool {
+        DType::Bool(Nullability::NonNullable)
+    } else {
+        DType::Primitive(T::PTYPE, Nullability::NonNullable)
+    }
+}
+
+/// Adds what a reader by the data of a column of this type lends.
+fn lend_by_data<T: BitPacked>(data: &BitPackedData, len: usize, dtype: DType, answer: &mut Text)
+    requires { IfOk (ptype_in dtype) (λ ptype. ptype ≡ T.PTYPE) }
+{
+    T::prove_fits_in_memory();
+    if readers::fits::<T>(data) {
+        let mut scratch = [T::zero(); FL_CHUNK_SIZE];
+        match data.unpacked_chunks::<T>(&dtype, len, &mut scratch) {
+            Ok(mut chunks) => readers::lend_twice(&mut chunks, answer),
+            Err(refusal) => answer.refusal(refusal),
+        }
+    }
+}
+
+/// Adds what a reader of the array's blocks lends: by its data, by these with a column's type, or by the array.
+fn lend<T: BitPacked>(array: &BitPackedArray, data: &BitPackedData, by: &str, answer: &mut Text)
+    requires { array.now.parts.ptype ≡ T.PTYPE }
+{
+    match by {
+        "array" => lend_by_array::<T>(array, answer),
+        "data" => lend_by_data::<T>(data, array.len(), read_as::<T>(false), answer),
+        "booleans" => lend_by_data::<T>(data, array.len(), read_as::<T>(true), answer),
+        _ => readers::lend::<T>(data, array.len(), answer),
+    }
+}
+
+/// The words of each block of integers, packed alone.
+fn packed_alone<T: PhysicalPType>(
+    alloc: Global,
+    items: &[T],
+    widths: &[&str],
+) -> Result<Vec<T>, FastLanesError> {
+    let (mut words, mut rest) = (Vec::new(alloc), items);
+    for width in widths {
+        let (block, behind) = rest.split_at(rest.len().min(FL_CHUNK_SIZE));
+        let width = width_of(width);
+        if usize::from(width) > T::PTYPE.bit_width() {
+            return Err(FastLanesError::WidthTooLarge);
+        }
+        for word in bitpack_primitive(alloc, block, width)?.iter() {
+            words.push(*word)?;
+        }
+        rest = behind;
+    }
+    Ok(words)
+}
+
+/// Adds whether the packed words are those of each block of a column, packed alone, and how many there are.
+fn alone<T: PhysicalPType>(
+    alloc: Global,
+    array: &BitPackedArray,
+    column: &PrimitiveArray,
+    widths: &[&str],
+) -> Result<(bool, usize), FastLanesError>
+    requires { column.now.ptype ≡ T.PTYPE }
+{
+    let words = BitPackedArrayExt::packed_slice::<T>(array, alloc)?;
+    let wanted = packed_alone(alloc, column.as_slice::<T>(), widths)?;
+    Ok((words.as_slice() == wanted.as_slice(), words.len()))
+}
+
+/// Adds the answer of `alone`.
+fn show_alone(made: Result<(bool, usize), FastLanesError>, answer: &mut Text) {
+    match made {
+        Ok((is_same, len)) => {
+            answer.word(if is_same { "same" } else { "other" });
+            answer.count(len);
+            answer.word("words");
+        }
+        Err(refusal) => answer.refusal(refusal),
+    }
+}
+
+/// Adds an item as it is stored.
+fn single(array: &BitPackedArray, i: usize, answer: &mut Text) {
+    if i < array.len() {
+        match unpack_single(array, i) {
+            Ok(item) => shown::scalar(answer, item),
+            Err(refusal) => answer.refusal(refusal),
+        }
+    }
+}
+
+/// Answers a question of the data of a bit-packed array.
+fn ask_data(array: &BitPackedArray, data: &BitPackedData, words: &[&str], answer: &mut Text) {
+    match words {
+        ["ptype", name] => ptype(data, dtype_of(name), answer),
+        ["lent", by] => {
+            let ptype = array.packed_data().ptype();
+            match_each_integer_ptype!(ptype, lend(array, data, by, answer));
+        }
+        _ => answer.word("no such question"),
+    }
+}
+
+/// Answers a question of a bit-packed array.
+fn ask_packed(
+    alloc: Global,
+    array: &BitPackedArray,
+    words: &[&str],
+    columns: &[PrimitiveArray],
+    answer: &mut Text,
+) {
+    match (words, columns) {
+        (["single", i], _) => single(array, count(i), answer),
+        (["alone", widths @ ..], [.., column]) => {
+            let made = match_each_integer_ptype!(
+                column.ptype(),
+                alone(alloc, array, column, widths)
+            );
+            show_alone(made, answer);
+        }
+        _ => match BitPackedArrayExt::data(array) {
+            Ok(data) => ask_data(array, &data, words, answer),
+            Err(refusal) => answer.refusal(refusal),
+        },
+    }
+}
+
+/// Answers `data` of any array, `single 0`, `ptype u8`, `lent by data` and `alone 3 0` of a bit-packed one.
+pub(super) fn ask(
+    alloc: Global,
+    array: &ArrayRef,
+    words: &[&str],
+    columns: &[PrimitiveArray],
+    answer: &mut Text,
+) {
+    match (words, array.as_bitpacked()) {
+        (["data"], _) => printed(array, answer),
+        (_, Some(packed)) => ask_packed(alloc, packed, words, columns, answer),
+        _ => answer.word("no such question"),
+    }
+}
