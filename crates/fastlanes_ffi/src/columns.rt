@@ -7,7 +7,7 @@ ghost use Rattle.fl_bitpacking.specs.Columns.{block_count};
 ghost use Rattle.fl_bitpacking.specs.Parts.{Fit, parts_of};
 
 use bytes::Bytes;
-use fastlanes::FL_CHUNK_SIZE;
+use fastlanes::{FL_CHUNK_SIZE, Work};
 use fl_bitpacking::decoding::{PackedColumn, unpack_global};
 use fl_bitpacking::packing::{bitpack_into, bitpack_unchecked};
 use fl_bitpacking::unpack_iter::{BitPacked, BitPackingStrategy, UnpackedChunks};
@@ -96,7 +96,7 @@ fn unpack_again<T: BitPacked>(
 {
     let mut count = 0;
     for _ in 0..rounds {
-        let array = unpack_global(alloc, column, width)?;
+        let array = unpack_global(alloc, column, width, &mut Work::new())?;
         let unpacked = array.as_slice::<T>();
         count = unpacked.len().min(items.len());
         items[..count].copy_from_slice(&unpacked[..count]);

@@ -29,6 +29,7 @@ use crate::for_::{FoRArray, FoRReferences};
 use crate::rle::RLEArray;
 use crate::validities::{bool_validity, constant_validity, primitive_validity};
 use crate::well_formed::{prove_bools, prove_constant, prove_primitive};
+use fastlanes::Work;
 use fl_column::{
     BoolArray, ConstantArray, DType, FastLanesError, PrimitiveArray, Scalar, Validity,
 };
@@ -367,25 +368,28 @@ impl ArrayRef {
     pub fn to_primitive(&self, alloc: Global) -> Result<PrimitiveArray, FastLanesError>
         ensures { Answers column_of_primitive result (integer_column (column self.now)) }
     {
+        let mut work = Work::new();
         match &self.node {
             Node::Primitive(array) => array.try_clone(alloc),
             Node::Constant(array) => array.decode(alloc),
             Node::Bool(_) => Err(FastLanesError::NotInteger),
             Node::BitPacked(array) => match array.bit_widths() {
-                BitWidthsView::Global(width) => array.decode_global(alloc, width),
+                BitWidthsView::Global(width) => array.decode_global(alloc, width, &mut work),
                 BitWidthsView::Blocked(boundaries) => match boundaries.as_constant() {
-                    Some(constant) => array.decode_without_bytes(alloc, boundaries, constant),
+                    Some(constant) => {
+                        array.decode_without_bytes(alloc, boundaries, constant, &mut work)
+                    }
                     None => {
                         array.prove_boundaries_are_integers(boundaries);
                         let plain = boundaries.to_primitive(alloc)?;
-                        array.decode_blocked(alloc, boundaries, &plain)
+                        array.decode_blocked(alloc, boundaries, &plain, &mut work)
                     }
                 },
             },
             Node::FoR(array) => {
                 array.prove_integers();
                 array.prove_smaller();
-                array.to_primitive(alloc)
+                array.to_primitive(alloc, &mut work)
             }
             Node::Delta(array) => {
                 array.prove_integers();
@@ -525,7 +529,7 @@ impl ArrayRef {
             Node::Bool(array) => Ok(array.scalar_at(i)),
             Node::BitPacked(array) => {
                 array.prove_smaller();
-                array.scalar_at(alloc, i)
+                array.scalar_at(alloc, i, &mut Work::new())
             }
             Node::FoR(array) => {
                 array.prove_smaller();

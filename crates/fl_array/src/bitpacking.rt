@@ -11,7 +11,7 @@ mod data;
 mod taking;
 mod unfor;
 
-ghost use Rattle.std.specs.Prelude.{◌≡◌, ◌+◌, ◌-◌, ◌*◌, ◌/◌, ◌^◌, ◌<◌, ◌≤◌, IfErr, IfOk, IsTrue, None, Ok, length, IfSome};
+ghost use Rattle.std.specs.Prelude.{◌≡◌, ◌+◌, ◌-◌, ◌*◌, ◌/◌, ◌^◌, ◌<◌, ◌≤◌, IfErr, IfOk, IsTrue, None, Ok, OnOk, length, IfSome};
 ghost use Rattle.fl_types.specs.declared.error.FastLanesError.TheVariants.{OutOfMemory};
 ghost use Rattle.fl_types.specs.Refusals.{Answers};
 ghost use Rattle.fl_types.specs.Values.{scalar_parts};
@@ -24,6 +24,7 @@ ghost use Rattle.fl_bitpacking.specs.Refusals.{accepted, blocked_refusal, global
 ghost use Rattle.fl_bitpacking.specs.SingleItems.{stored_scalar};
 ghost use Rattle.fl_bitpacking.specs.SlicedParts.{end_block, first_block, sliced_boundaries};
 ghost use Rattle.fl_array.specs.Trees.{column, height};
+ghost use Rattle.fl_bitpacking.specs.Columns.{block_count};
 ghost use Rattle.fl_array.specs.BitPackedArrays.{BlockBoundaries, GlobalWidth, new_bitpacked, refusal_before_boundaries, refusal_of_bitpacked, size_of_widths, tree_of_bitpacked, blocks_of_widths, is_global};
 ghost use Rattle.fl_array.specs.Kinds.{has_delta, kind};
 ghost use Rattle.fl_array.specs.Reads.{IsValidityOf, integer_column, primitive_in};
@@ -479,12 +480,16 @@ impl BitPackedArray {
         &self,
         alloc: Global,
         width: u8,
+        work: &mut Work,
     ) -> Result<PrimitiveArray, FastLanesError>
         requires { GlobalWidth width ≡ self.now.widths }
-        ensures { Answers column_of_primitive result (integer_column (column (tree_of_bitpacked self.now))) }
+        ensures column { Answers column_of_primitive result (integer_column (column (tree_of_bitpacked self.now))) }
+        ensures blocks { OnOk result (work.new.blocks ≤ work.old.blocks + block_count self.now.parts) }
+        ensures words { work.new.words ≡ work.old.words }
     {
         self.prove_well_formed();
-        self.packed_data().decode_global(alloc, usize::from(width))
+        self.packed_data()
+            .decode_global(alloc, usize::from(width), work)
     }
 
     /// The column in a primitive array, where the blocks lie between these boundaries, which `plain` has decoded.
@@ -493,27 +498,30 @@ impl BitPackedArray {
         alloc: Global,
         boundaries: &ArrayRef,
         plain: &PrimitiveArray,
+        work: &mut Work,
     ) -> Result<PrimitiveArray, FastLanesError>
         requires same { BlockBoundaries boundaries.now ≡ self.now.widths }
         requires plain { column_of_primitive plain.now ≡ column boundaries.now }
-        ensures { Answers column_of_primitive result (integer_column (column (tree_of_bitpacked self.now))) }
+        ensures column { Answers column_of_primitive result (integer_column (column (tree_of_bitpacked self.now))) }
+        ensures blocks { OnOk result (work.new.blocks ≤ work.old.blocks + block_count self.now.parts) }
+        ensures words { work.new.words ≡ work.old.words }
     {
         self.prove_well_formed();
         let _len = plain.len();
-        self.packed_data().decode_blocked(alloc, plain)
+        self.packed_data().decode_blocked(alloc, plain, work)
     }
 
     /// An item, where all blocks have this width.
-    pub(crate) fn item_global(&self, width: u8, i: usize) -> Scalar
+    pub(crate) fn item_global(&self, width: u8, i: usize, work: &mut Work) -> Scalar
         requires same { GlobalWidth width ≡ self.now.widths }
         requires range { i < length (column (tree_of_bitpacked self.now)).items }
-        ensures { scalar_parts result ≡ scalar_in (column (tree_of_bitpacked self.now)) i }
+        ensures item { scalar_parts result ≡ scalar_in (column (tree_of_bitpacked self.now)) i }
+        ensures blocks { work.new.blocks ≡ work.old.blocks }
+        ensures words { work.new.words ≤ work.old.words + 2 }
     {
         self.prove_well_formed();
         let _len = self.len();
-        let mut work = Work::new();
-        self.packed_data()
-            .item_global(usize::from(width), i, &mut work)
+        self.packed_data().item_global(usize::from(width), i, work)
     }
 
     /// The block of an item, where the blocks lie between these boundaries.
@@ -537,36 +545,38 @@ impl BitPackedArray {
         start: Scalar,
         end: Scalar,
         i: usize,
+        work: &mut Work,
     ) -> Scalar
         requires same { BlockBoundaries boundaries.now ≡ self.now.widths }
         requires first { scalar_parts first ≡ scalar_in (column boundaries.now) 0 }
         requires start { scalar_parts start ≡ scalar_in (column boundaries.now) ((self.now.parts.offset + i) / 1024) }
         requires end { scalar_parts end ≡ scalar_in (column boundaries.now) ((self.now.parts.offset + i) / 1024 + 1) }
         requires range { i < length (column (tree_of_bitpacked self.now)).items }
-        ensures { scalar_parts result ≡ scalar_in (column (tree_of_bitpacked self.now)) i }
+        ensures item { scalar_parts result ≡ scalar_in (column (tree_of_bitpacked self.now)) i }
+        ensures blocks { work.new.blocks ≡ work.old.blocks }
+        ensures words { work.new.words ≤ work.old.words + 2 }
     {
         self.prove_well_formed();
         let _len = self.len();
-        let mut work = Work::new();
         let (first, start, end) = (
             number_of_scalar(first),
             number_of_scalar(start),
             number_of_scalar(end),
         );
-        self.packed_data()
-            .item_blocked(first, start, end, i, &mut work)
+        self.packed_data().item_blocked(first, start, end, i, work)
     }
 
     /// An item as its bits are stored, where all blocks have this width.
-    pub(crate) fn stored_global(&self, width: u8, i: usize) -> Scalar
+    pub(crate) fn stored_global(&self, width: u8, i: usize, work: &mut Work) -> Scalar
         requires same { GlobalWidth width ≡ self.now.widths }
         requires range { i < self.now.parts.len }
-        ensures { scalar_parts result ≡ stored_scalar self.now.parts (blocks_of_widths self.now.widths) i }
+        ensures item { scalar_parts result ≡ stored_scalar self.now.parts (blocks_of_widths self.now.widths) i }
+        ensures blocks { work.new.blocks ≡ work.old.blocks }
+        ensures words { work.new.words ≤ work.old.words + 2 }
     {
         self.prove_well_formed();
-        let mut work = Work::new();
         self.packed_data()
-            .stored_global(usize::from(width), i, &mut work)
+            .stored_global(usize::from(width), i, work)
     }
 
     /// An item as its bits are stored, by the first boundary and the two of its block.
@@ -577,23 +587,25 @@ impl BitPackedArray {
         start: Scalar,
         end: Scalar,
         i: usize,
+        work: &mut Work,
     ) -> Scalar
         requires same { BlockBoundaries boundaries.now ≡ self.now.widths }
         requires first { scalar_parts first ≡ scalar_in (column boundaries.now) 0 }
         requires start { scalar_parts start ≡ scalar_in (column boundaries.now) ((self.now.parts.offset + i) / 1024) }
         requires end { scalar_parts end ≡ scalar_in (column boundaries.now) ((self.now.parts.offset + i) / 1024 + 1) }
         requires range { i < self.now.parts.len }
-        ensures { scalar_parts result ≡ stored_scalar self.now.parts (blocks_of_widths self.now.widths) i }
+        ensures item { scalar_parts result ≡ stored_scalar self.now.parts (blocks_of_widths self.now.widths) i }
+        ensures blocks { work.new.blocks ≡ work.old.blocks }
+        ensures words { work.new.words ≤ work.old.words + 2 }
     {
         self.prove_well_formed();
-        let mut work = Work::new();
         let (first, start, end) = (
             number_of_scalar(first),
             number_of_scalar(start),
             number_of_scalar(end),
         );
         self.packed_data()
-            .stored_blocked(first, start, end, i, &mut work)
+            .stored_blocked(first, start, end, i, work)
     }
 
     /// A copy, where all blocks have this width.
@@ -673,21 +685,28 @@ impl BitPackedArray {
         })
     }
 
-    /// The item at an index, with the column's type.
+    /// The item at an index, with the column's type. No block is unpacked, and at most two words are read.
     #[cycle(reading)]
-    pub(crate) fn scalar_at(&self, alloc: Global, i: usize) -> Result<Scalar, FastLanesError>
+    pub(crate) fn scalar_at(
+        &self,
+        alloc: Global,
+        i: usize,
+        work: &mut Work,
+    ) -> Result<Scalar, FastLanesError>
         requires { i < length (column (tree_of_bitpacked self.now)).items }
         ensures item { Answers scalar_parts result (Ok (scalar_in (column (tree_of_bitpacked self.now)) i)) }
+        ensures blocks { work.new.blocks ≡ work.old.blocks }
+        ensures words { work.new.words ≤ work.old.words + 2 }
         ensures memory { IfErr result (λ e. IsTrue (has_delta (kind (tree_of_bitpacked self.now)))) }
     {
         match self.bit_widths() {
-            BitWidthsView::Global(width) => Ok(self.item_global(width, i)),
+            BitWidthsView::Global(width) => Ok(self.item_global(width, i, work)),
             BitWidthsView::Blocked(boundaries) => {
                 let j = self.block_of(boundaries, i);
                 let first = boundaries.scalar_at(alloc, 0)?;
                 let start = boundaries.scalar_at(alloc, j)?;
                 let end = boundaries.scalar_at(alloc, j + 1)?;
-                Ok(self.item_blocked(boundaries, first, start, end, i))
+                Ok(self.item_blocked(boundaries, first, start, end, i, work))
             }
         }
     }

@@ -203,6 +203,7 @@ fn unpack_typed<T: BitPacked + WrappingAdd>(
     requires readable { AreReadable (bits_of_type column.now.ptype) (blocks_to_read column.now widths) }
     ensures column { Answers column_of_primitive result (Ok (column_of_packed (parts_of column.now) (blocks_of widths.entry))) }
     ensures blocks { OnOk result (work.new.blocks ≤ work.old.blocks + blocks_in (blocks_to_read column.now widths.entry)) }
+    ensures words { work.new.words ≡ work.old.words }
 {
     let blocks = PackedBlocks {
         widths,
@@ -227,31 +228,34 @@ fn unpack_column(
     requires readable { AreReadable (bits_of_type column.now.ptype) (blocks_to_read column.now widths) }
     ensures column { Answers column_of_primitive result (Ok (column_of_packed (parts_of column.now) (blocks_of widths.entry))) }
     ensures blocks { OnOk result (work.new.blocks ≤ work.old.blocks + blocks_in (blocks_to_read column.now widths.entry)) }
+    ensures words { work.new.words ≡ work.old.words }
 {
     match_each_integer_ptype!(column.ptype, unpack_typed(alloc, column, widths, work))
 }
 
 /// The column of these parts, all of whose blocks have one width: an item is null where the validity
-/// has none, else its patch, else what its bits say, read as the type.
+/// has none, else its patch, else what its bits say, read as the type. Each block is unpacked once at most.
 ///
 /// The width is at most the type's bits, and the blocks lie in the bytes.
 pub fn unpack_global(
     alloc: Global,
     column: &PackedColumn,
     width: usize,
+    work: &mut Work,
 ) -> Result<PrimitiveArray, FastLanesError>
     requires fit { Fit (parts_of column.now) }
     requires width { width ≤ bits_of_type column.now.ptype }
     requires room { 128 * width * block_count (parts_of column.now) ≤ length column.now.packed.now }
-    ensures { Answers column_of_primitive result (Ok (column_of_packed (parts_of column.now) (global_blocks width))) }
+    ensures column { Answers column_of_primitive result (Ok (column_of_packed (parts_of column.now) (global_blocks width))) }
+    ensures blocks { OnOk result (work.new.blocks ≤ work.old.blocks + block_count (parts_of column.now)) }
+    ensures words { work.new.words ≡ work.old.words }
 {
-    let mut work = Work::new();
-    unpack_column(alloc, column, Widths::Global(width), &mut work)
+    unpack_column(alloc, column, Widths::Global(width), work)
 }
 
 /// The column of these parts, whose block `j` lies between the boundaries `j` and `j + 1`, in bytes
 /// counted from the first boundary: an item is null where the validity has none, else its patch, else
-/// what its bits say, read as the type.
+/// what its bits say, read as the type. Each block is unpacked once at most.
 ///
 /// There is one boundary more than there are blocks, and each two neighbours are those of a block in
 /// the bytes, of at most the type's bits.
@@ -259,12 +263,14 @@ pub fn unpack_blocked(
     alloc: Global,
     column: &PackedColumn,
     boundaries: &PrimitiveArray,
+    work: &mut Work,
 ) -> Result<PrimitiveArray, FastLanesError>
     requires fit { Fit (parts_of column.now) }
     requires count { length boundaries.now.slots ≡ block_count (parts_of column.now) + 1 }
     requires blocks { IsTrue (are_blocks (bits_of_type column.now.ptype) (length column.now.packed.now) (numbers boundaries.now)) }
-    ensures { Answers column_of_primitive result (Ok (column_of_packed (parts_of column.now) (boundary_blocks (numbers boundaries.now)))) }
+    ensures column { Answers column_of_primitive result (Ok (column_of_packed (parts_of column.now) (boundary_blocks (numbers boundaries.now)))) }
+    ensures blocks { OnOk result (work.new.blocks ≤ work.old.blocks + block_count (parts_of column.now)) }
+    ensures words { work.new.words ≡ work.old.words }
 {
-    let mut work = Work::new();
-    unpack_column(alloc, column, Widths::Boundaries(boundaries), &mut work)
+    unpack_column(alloc, column, Widths::Boundaries(boundaries), work)
 }

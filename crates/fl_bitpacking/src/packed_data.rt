@@ -240,32 +240,38 @@ impl PackedData {
         }
     }
 
-    /// The column of the items, whose blocks all have one width.
+    /// The column of the items, whose blocks all have one width. Each block is unpacked once at most.
     pub fn decode_global(
         &self,
         alloc: Global,
         width: usize,
+        work: &mut Work,
     ) -> Result<PrimitiveArray, FastLanesError>
         requires width { width ≤ bits_of_type self.now.ptype }
         requires room { 128 * width * block_count self.now ≤ length self.now.packed }
-        ensures { Answers column_of_primitive result (Ok (column_of_packed self.now (global_blocks width))) }
+        ensures column { Answers column_of_primitive result (Ok (column_of_packed self.now (global_blocks width))) }
+        ensures blocks { OnOk result (work.new.blocks ≤ work.old.blocks + block_count self.now) }
+        ensures words { work.new.words ≡ work.old.words }
     {
         self.prove_well_formed();
-        unpack_global(alloc, &self.column(), width)
+        unpack_global(alloc, &self.column(), width, work)
     }
 
-    /// The column of the items, whose blocks lie between the boundaries.
+    /// The column of the items, whose blocks lie between the boundaries. Each block is unpacked once at most.
     pub fn decode_blocked(
         &self,
         alloc: Global,
         boundaries: &PrimitiveArray,
+        work: &mut Work,
     ) -> Result<PrimitiveArray, FastLanesError>
         requires count { length boundaries.now.slots ≡ block_count self.now + 1 }
         requires blocks { IsTrue (are_blocks (bits_of_type self.now.ptype) (length self.now.packed) (numbers boundaries.now)) }
-        ensures { Answers column_of_primitive result (Ok (column_of_packed self.now (boundary_blocks (numbers boundaries.now)))) }
+        ensures column { Answers column_of_primitive result (Ok (column_of_packed self.now (boundary_blocks (numbers boundaries.now)))) }
+        ensures blocks { OnOk result (work.new.blocks ≤ work.old.blocks + block_count self.now) }
+        ensures words { work.new.words ≡ work.old.words }
     {
         self.prove_well_formed();
-        unpack_blocked(alloc, &self.column(), boundaries)
+        unpack_blocked(alloc, &self.column(), boundaries, work)
     }
 
     /// The column of the items, whose blocks lie between boundaries that are all equal: no block has a byte.
@@ -273,10 +279,13 @@ impl PackedData {
         &self,
         alloc: Global,
         boundaries: &ConstantArray,
+        work: &mut Work,
     ) -> Result<PrimitiveArray, FastLanesError>
-        ensures { Answers column_of_primitive result (Ok (column_of_packed self.now (boundary_blocks (numbers_of (column_of_constant boundaries.now))))) }
+        ensures column { Answers column_of_primitive result (Ok (column_of_packed self.now (boundary_blocks (numbers_of (column_of_constant boundaries.now))))) }
+        ensures blocks { OnOk result (work.new.blocks ≤ work.old.blocks + block_count self.now) }
+        ensures words { work.new.words ≡ work.old.words }
     {
-        self.decode_global(alloc, 0)
+        self.decode_global(alloc, 0, work)
     }
 
     /// The column of the items plus the references, whose blocks all have one width. Each block is unpacked once.

@@ -9,6 +9,7 @@ ghost use Rattle.fl_bitpacking.specs.Blocks.{are_blocks};
 use crate::packing::{show, width_of};
 use crate::shown;
 use crate::text::Text;
+use fastlanes::Work;
 use fl_bit_widths::gather_blocked_patches;
 use fl_bitpacking::decoding::{PackedColumn, unpack_blocked};
 use fl_bitpacking::packing::bitpack_blocked_unchecked;
@@ -42,7 +43,8 @@ fn unpack<'a>(
         offset: 0,
         len: array.len(),
     };
-    shown::made(answer, unpack_blocked(alloc, &column, boundaries));
+    let made = unpack_blocked(alloc, &column, boundaries, &mut Work::new());
+    shown::made(answer, made);
 }
 
 /// Adds blocks: their bytes, their boundaries, and the column that comes back.

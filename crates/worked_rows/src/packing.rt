@@ -45,7 +45,7 @@ fn unpack(
             return Err(FastLanesError::PatchLength);
         }
     }
-    unpack_global(alloc, column, width)
+    unpack_global(alloc, column, width, &mut Work::new())
 }
 
 /// Adds the column of these parts, without patches.

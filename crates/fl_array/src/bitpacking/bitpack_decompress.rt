@@ -10,6 +10,7 @@ ghost use Rattle.fl_array.specs.BitPackedArrays.{blocks_of_widths, if_global, is
 ghost use Rattle.fl_array.specs.Trees.{column};
 
 use crate::bitpacking::{BitPackedArray, BitWidthsView};
+use fastlanes::Work;
 use fl_column::{FastLanesError, NativePType, PrimitiveArray, Scalar};
 use std::alloc::Global;
 
@@ -23,7 +24,7 @@ pub fn unpack_array(alloc: Global, array: &BitPackedArray) -> Result<PrimitiveAr
     match array.bit_widths() {
         BitWidthsView::Global(width) => {
             array.prove_integers();
-            array.decode_global(alloc, width)
+            array.decode_global(alloc, width, &mut Work::new())
         }
         BitWidthsView::Blocked(_) => Err(FastLanesError::NotGlobal),
     }
@@ -54,7 +55,7 @@ pub fn unpack_single(array: &BitPackedArray, i: usize) -> Result<Scalar, FastLan
     ensures no_memory { IfErr result (λ e. e ≡ NotGlobal) }
 {
     match array.bit_widths() {
-        BitWidthsView::Global(width) => Ok(array.stored_global(width, i)),
+        BitWidthsView::Global(width) => Ok(array.stored_global(width, i, &mut Work::new())),
         BitWidthsView::Blocked(_) => Err(FastLanesError::NotGlobal),
     }
 }
@@ -71,12 +72,13 @@ pub fn unpack_array_blocked(
         BitWidthsView::Global(_) => unreachable!(),
         BitWidthsView::Blocked(boundaries) => {
             array.prove_integers();
+            let mut work = Work::new();
             if let Some(constant) = boundaries.as_constant() {
-                return array.decode_without_bytes(alloc, boundaries, constant);
+                return array.decode_without_bytes(alloc, boundaries, constant, &mut work);
             }
             array.prove_boundaries_are_integers(boundaries);
             let plain = boundaries.to_primitive(alloc)?;
-            array.decode_blocked(alloc, boundaries, &plain)
+            array.decode_blocked(alloc, boundaries, &plain, &mut work)
         }
     }
 }
@@ -100,7 +102,8 @@ pub fn unpack_single_blocked(
             let first = boundaries.scalar_at(alloc, 0)?;
             let start = boundaries.scalar_at(alloc, j)?;
             let end = boundaries.scalar_at(alloc, j + 1)?;
-            Ok(array.stored_blocked(boundaries, first, start, end, i))
+            let mut work = Work::new();
+            Ok(array.stored_blocked(boundaries, first, start, end, i, &mut work))
         }
     }
 }

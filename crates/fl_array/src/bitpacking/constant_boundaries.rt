@@ -4,6 +4,7 @@ ghost use Rattle.std.specs.Prelude.{◌≡◌, ◌+◌, ◌*◌, ◌≤◌, OnOk
 ghost use Rattle.fl_types.specs.Refusals.{Answers};
 ghost use Rattle.fl_column.specs.Columns.{column_of_constant, column_of_primitive};
 ghost use Rattle.fl_column.specs.Operations.{take_column};
+ghost use Rattle.fl_bitpacking.specs.Columns.{block_count};
 ghost use Rattle.fl_array.specs.BitPackedArrays.{BlockBoundaries, tree_of_bitpacked};
 ghost use Rattle.fl_array.specs.Reads.{integer_column};
 ghost use Rattle.fl_array.specs.Trees.{column};
@@ -21,12 +22,16 @@ impl BitPackedArray {
         alloc: Global,
         boundaries: &ArrayRef,
         constant: &ConstantArray,
+        work: &mut Work,
     ) -> Result<PrimitiveArray, FastLanesError>
         requires same { BlockBoundaries boundaries.now ≡ self.now.widths }
         requires constant { column boundaries.now ≡ column_of_constant constant.now }
-        ensures { Answers column_of_primitive result (integer_column (column (tree_of_bitpacked self.now))) }
+        ensures column { Answers column_of_primitive result (integer_column (column (tree_of_bitpacked self.now))) }
+        ensures blocks { OnOk result (work.new.blocks ≤ work.old.blocks + block_count self.now.parts) }
+        ensures words { work.new.words ≡ work.old.words }
     {
-        self.packed_data().decode_without_bytes(alloc, constant)
+        self.packed_data()
+            .decode_without_bytes(alloc, constant, work)
     }
 
     /// The items that indices name, where the blocks lie between boundaries that are a constant array.

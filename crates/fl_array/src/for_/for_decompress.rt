@@ -32,7 +32,7 @@ use std::alloc::Global;
 pub fn decompress(alloc: Global, array: &FoRArray) -> Result<PrimitiveArray, FastLanesError>
     ensures { Answers column_of_primitive result (Ok (column (tree_of_for array.now))) }
 {
-    array.to_primitive(alloc)
+    array.to_primitive(alloc, &mut Work::new())
 }
 
 impl FoRArray {
@@ -83,17 +83,20 @@ impl FoRArray {
 
     /// The column in a primitive array.
     #[cycle(decoding)]
-    pub(crate) fn to_primitive(&self, alloc: Global) -> Result<PrimitiveArray, FastLanesError>
+    pub(crate) fn to_primitive(
+        &self,
+        alloc: Global,
+        work: &mut Work,
+    ) -> Result<PrimitiveArray, FastLanesError>
         ensures { Answers column_of_primitive result (Ok (column (tree_of_for self.now))) }
     {
         self.prove_integers();
-        let mut work = Work::new();
         match self.references() {
             FoRReferences::Global(reference) => match self.encoded().as_bitpacked() {
                 Some(packed) => {
                     packed.prove_smaller();
                     let reference = self.reference_of_packed(packed, reference);
-                    packed.unfor(alloc, References::Global(reference), &mut work)
+                    packed.unfor(alloc, References::Global(reference), work)
                 }
                 None => {
                     let plain = self.encoded().to_primitive(alloc)?;
@@ -107,7 +110,7 @@ impl FoRArray {
                     Some(packed) => {
                         packed.prove_smaller();
                         self.prove_references_of_blocks(packed, references, &plain_references);
-                        packed.unfor(alloc, References::PerBlock(&plain_references), &mut work)
+                        packed.unfor(alloc, References::PerBlock(&plain_references), work)
                     }
                     None => {
                         let plain = self.encoded().to_primitive(alloc)?;

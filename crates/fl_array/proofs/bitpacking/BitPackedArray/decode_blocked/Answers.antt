@@ -11,8 +11,8 @@ decode_blocked-requires-clause-blocks c =
     let a = c.args.self.now in
     rw c.packed_data.ensures (blocks_read a c.args.boundaries.now c.args.plain.now c.prove_well_formed.ensures c.requires.same c.requires.plain)
 
-pub returns : goal.returns
-returns c =
+pub returns-clause-column : goal.returns-clause-column
+returns-clause-column c =
     let a = c.args.self.now in
     let by : Result Column FastLanesError → Type 0 = λ m. Answers column_of_primitive c.decode_blocked.result m in
-    subst by (column_read a c.args.boundaries.now c.args.plain.now c.prove_well_formed.ensures c.requires.same c.requires.plain) (rw c.packed_data.ensures at c.decode_blocked.ensures)
+    subst by (column_read a c.args.boundaries.now c.args.plain.now c.prove_well_formed.ensures c.requires.same c.requires.plain) (rw c.packed_data.ensures at c.decode_blocked.ensures.column)

@@ -33,8 +33,8 @@ item_blocked-requires-clause-width c =
     let range = c.requires.range in
     rw c.packed_data.ensures (block_read c.args.self.now c.args.boundaries.now c.args.i _ _ _ _ _ _ c.prove_well_formed.ensures c.requires.same (omega arith) c.requires.first c.requires.start c.requires.end c.number_of_scalar-first.ensures c.number_of_scalar-start.ensures c.number_of_scalar-end.ensures).narrow
 
-pub returns : goal.returns
-returns c =
+pub returns-clause-item : goal.returns-clause-item
+returns-clause-item c =
     let len = c.len-len.ensures.len in
     let items = c.len-len.ensures.items in
     let range = c.requires.range in

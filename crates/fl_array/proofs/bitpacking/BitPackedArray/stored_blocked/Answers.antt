@@ -21,8 +21,8 @@ pub stored_blocked-requires-clause-width : goal.stored_blocked-requires-clause-w
 stored_blocked-requires-clause-width c =
     rw c.packed_data.ensures (block_read c.args.self.now c.args.boundaries.now c.args.i _ _ _ _ _ _ c.prove_well_formed.ensures c.requires.same c.requires.range c.requires.first c.requires.start c.requires.end c.number_of_scalar-first.ensures c.number_of_scalar-start.ensures c.number_of_scalar-end.ensures).narrow
 
-pub returns : goal.returns
-returns c =
+pub returns-clause-item : goal.returns-clause-item
+returns-clause-item c =
     let read = block_read c.args.self.now c.args.boundaries.now c.args.i _ _ _ _ _ _ c.prove_well_formed.ensures c.requires.same c.requires.range c.requires.first c.requires.start c.requires.end c.number_of_scalar-first.ensures c.number_of_scalar-start.ensures c.number_of_scalar-end.ensures in
     let item = rw c.packed_data.ensures at c.stored_blocked.ensures.item in
     item (column c.args.boundaries.now) read.has ∙ ap (λ (w : BitWidthsParts). stored_scalar c.args.self.now.parts (blocks_of_widths w) c.args.i) c.requires.same
