@@ -2,11 +2,15 @@
 
 The sources are in the formatter's layout and the prover has read them, so a light reader serves.
 """
+import functools
 import pathlib
 import re
+from typing import NamedTuple
 
 ROOT = pathlib.Path(__file__).resolve().parent.parent
-LIBRARY = re.compile(r"(?m)^(fastlanes|vortex_fastlanes|fl_\w+)(?: \w+)*:")
+CHANGED = {}  # texts that are looked at in place of what a file has, or as a file of their own, by path
+LISTED = re.compile(r"(?m)^(\w+)[^:#\n]*:(.*)$")
+LIBRARY = re.compile(r"fastlanes|vortex_fastlanes|fl_\w+")
 BLANKED = re.compile(r"//[^\n]*|/\*.*?\*/|\"(?:\\.|[^\"\\])*\"|b?'(?:\\.|[^'\\\n])'", re.S)
 TEST = re.compile(r"#\[(?:test|cfg\(test\))\]\s*(?:pub )?(?:fn|mod)\b[^{;]*")
 FUNCTION = re.compile(r"\bfn\s+(\w+)")
@@ -15,16 +19,33 @@ CLAUSE = re.compile(r"\b(?:requires|ensures|ghost)\b[^{}]*$")
 RETURNED = re.compile(r"\s*->\s*(.*?)\s*(?:\b(?:requires|ensures|ghost|where)\b|$)", re.S)
 USE = re.compile(r"(?m)^\s*(?:pub(?:\([a-z]+\))? )?use ([^;]+);")
 CALL = re.compile(r"(\bself\.|(?<!\.)\.|\b(?:\w+(?:::<[^()]*?>)?::)+|\b)(\w+)(?:::<[^()]*?>)?\(")
+HANDED = re.compile(r"(?<=[(,\s])((?:\w+(?:::<[^()]*?>)?::)*)(\w+)(?=\s*[,)])")
+QUALIFIED = re.compile(r"(?<!::)<((?:[^<>(){};]|<[^<>(){};]*>)*)>::")  # a path that begins with a type in brackets
+MACRO = re.compile(r"\bmacro_rules!\s*(\w+)\s*(?=[{(\[])")
+CLOSURE = re.compile(r"(?:[(,={]|\bmove|\breturn)\s*(\|[^|\n]*\|)(?!\|)")
 LOOP = re.compile(r"\b(?:for|while|loop)\b[^;{}]*$")
 CLOSING = {"(": ")", "[": "]", "{": "}", "<": ">"}
+BRACKETS = {it: re.compile(rf"\{it}|(?<![-=])\{CLOSING[it]}" if it == "<" else rf"\{it}|\{CLOSING[it]}") for it in CLOSING}
+
+
+class Call(NamedTuple):
+    """A call: 'self.', '.', a path that ends in '::', or nothing; the name; what a method is called on; how many
+    arguments there are, with what it is called on; and what stands before it."""
+
+    before: str
+    name: str
+    receiver: str
+    arguments: int
+    behind: str
 
 
 class Function:
     """A function that is no test. Its body is empty where a trait only declares it."""
 
-    def __init__(self, file, owner, name, generics, parameters, returned, body, is_public):
-        self.file, self.owner, self.name, self.generics = file, owner, name, generics
+    def __init__(self, file, owner, trait, name, generics, parameters, returned, body, is_public):
+        self.file, self.owner, self.trait, self.name, self.generics = file, owner, trait, name, generics
         self.parameters, self.returned, self.body, self.is_public = parameters, returned, body, is_public
+        self.looked = {}  # what was asked of it before
 
     @property
     def named(self):
@@ -36,37 +57,81 @@ class Function:
 
     def takes(self, type_):
         """The names of the parameters of such a type."""
-        return [name for name, said in self.parameters if re.search(type_, said)]
+        if type_ not in self.looked:
+            self.looked[type_] = [name for name, said in self.parameters if re.search(type_, said)]
+        return self.looked[type_]
 
+    def has(self, pattern):
+        """Whether the body has such a text."""
+        if pattern not in self.looked:
+            self.looked[pattern] = pattern.search(self.body) is not None
+        return self.looked[pattern]
+
+    def with_body(self, body):
+        """The same function with another body."""
+        return Function(
+            self.file, self.owner, self.trait, self.name, self.generics, self.parameters, self.returned, body, self.is_public
+        )
+
+    @functools.cached_property
     def calls(self):
-        """The calls in the body: 'self.', '.', a path that ends in '::', or nothing, and the name."""
-        return CALL.findall(self.body)
+        """The calls in the body."""
+        return calls_in(self.body)
+
+    @functools.cached_property
+    def handed(self):
+        """What stands alone as an argument and may be a function: its path and its name."""
+        bound = {name for name, _ in self.parameters} | {*re.findall(r"\w+", " ".join(re.findall(r"\blet\b([^=;]*)=", self.body)))}
+        return [(path, name) for path, name in HANDED.findall(self.body) if path or name not in bound]
 
 
 class File:
     """A source file: its text without comments and tests, its imports and its functions."""
 
-    def __init__(self, crate, path):
+    def __init__(self, crate, path, text):
         self.crate = crate
         self.module = "::".join(path.relative_to(ROOT / "crates" / crate / "src").with_suffix("").parts)
-        self.text = without_tests(blanked(path.read_text(encoding="utf-8")))
+        self.text = with_plain_paths(without_tests(blanked(text)))
         self.imports = dict(it for use in USE.findall(self.text) if "Rattle." not in use for it in imported(use))
         self.functions = [*functions_of(self)]
+        self.macros = {it.group(1): self.text[it.end() : end_of(self.text, it.end())] for it in MACRO.finditer(self.text)}
+
+
+@functools.cache
+def file_of(crate, path, text):
+    return File(crate, path, text)
 
 
 def files_of(crate):
-    return [File(crate, it) for it in sorted((ROOT / "crates" / crate / "src").rglob("*.rt"))]
+    """The source files of a crate, with the changed ones as they are changed."""
+    folder = ROOT / "crates" / crate / "src"
+    paths = {*folder.rglob("*.rt"), *(it for it in CHANGED if folder in it.parents)}
+    return [file_of(crate, it, CHANGED.get(it) or it.read_text(encoding="utf-8")) for it in sorted(paths)]
+
+
+def crates():
+    """The crates of the repository, each with all those that it stands on, and itself."""
+    below = {name: on.split() for name, on in LISTED.findall((ROOT / "crates.txt").read_text(encoding="utf-8"))}
+    found = {}
+    while len(found) < len(below):
+        ready = [it for it in below if it not in found and all(on in found for on in below[it] if on in below)]
+        found |= {it: {it}.union(*(found[on] for on in below[it] if on in below)) for it in ready}
+    return found
 
 
 def library():
     """The files of the library's crates."""
-    crates = LIBRARY.findall((ROOT / "crates.txt").read_text(encoding="utf-8"))
-    return [file for crate in crates for file in files_of(crate)]
+    return [file for crate in crates() if LIBRARY.fullmatch(crate) for file in files_of(crate)]
 
 
 def blanked(text):
     """The text with blanks for comments and for literals of text."""
     return BLANKED.sub(lambda it: re.sub(r"[^\n]", " ", it.group()), text)
+
+
+def with_plain_paths(text):
+    """The text with `Trait::name` for `<Type as Trait>::name`, and `Type::name` for `<Type>::name`."""
+    return QUALIFIED.sub(lambda it: re.sub(r"<.*", "", it.group(1).rpartition(" as ")[2].strip()) + "::", text)
 
 
 def without_tests(text):
@@ -80,12 +145,44 @@ def without_tests(text):
 def end_of(text, start):
     """Where the bracket that opens at start has closed. An arrow closes nothing."""
     opening, depth = text[start], 0
-    for at in range(start, len(text)):
-        is_arrow = text[at] == ">" and text[at - 1] in "-="
-        depth += (text[at] == opening) - (text[at] == CLOSING[opening] and not is_arrow)
+    for sign in BRACKETS[opening].finditer(text, start):
+        depth += 1 if sign.group() == opening else -1
         if depth == 0:
-            return at + 1
+            return sign.end()
     raise SyntaxError(f"this never closes: {text[start : start + 60]!r}")
+
+
+def beginning_of(text, end):
+    """Where the bracket opens that closes at end."""
+    closing, depth = text[end], 0
+    for at in range(end, -1, -1):
+        depth += (text[at] == closing) - (CLOSING.get(text[at]) == closing)
+        if depth == 0:
+            return at
+    raise SyntaxError(f"this never opens: {text[max(0, end - 60) : end + 1]!r}")
+
+
+def calls_in(body):
+    """The calls in a text."""
+    found = []
+    for call in CALL.finditer(body):
+        before, name = call.groups()
+        is_method = before in (".", "self.")
+        start = receiver_start(body, call.end(1) - 1) if is_method else call.start()
+        receiver = re.sub(r"\s+", "", body[start : call.end(1) - 1]) if is_method else ""
+        arguments = len(parts_of(body[call.end() : end_of(body, call.end() - 1) - 1])) + is_method
+        found.append(Call(before, name, receiver, arguments, body[:start].rstrip()[-12:]))
+    return found
+
+
+def receiver_start(body, dot):
+    """Where that begins which stands before a method's dot: names, fields, paths and calls."""
+    at = len(body[:dot].rstrip())
+    while at and re.match(r"[\w.:?)\]]", body[at - 1]):
+        at = beginning_of(body, at - 1) if body[at - 1] in ")]" else at - 1
+        if body[at] == ".":
+            at = len(body[:at].rstrip())
+    return at
 
 
 def parts_of(text):
@@ -113,24 +210,17 @@ def imported(path, before=""):
 
 
 def owners_of(text):
-    """Where each impl and trait begins and ends, and the name of the type or trait."""
+    """Where each impl and trait begins and ends, the name of the type or trait, and the trait that it is an impl of."""
     for head in OWNER.finditer(text):
         said = head.group(1).strip()
         said = said[end_of(said, 0) :] if said.startswith("<") else said
-        said = said.partition(" where ")[0].rpartition(" for ")[2]
-        name = re.match(r"\s*&?(?:'\w+ )?(?:\w+::)*(\w+)", said).group(1)
-        yield head.end() - 1, end_of(text, head.end() - 1), name
-
-
-def traits_of(text):
-    """Where each impl of a trait begins and ends: its functions are as public as the trait."""
-    for head in OWNER.finditer(text):
-        if " for " in head.group(1):
-            yield head.end() - 1, end_of(text, head.end() - 1)
+        trait, _, type_ = said.partition(" where ")[0].rpartition(" for ")
+        name = re.match(r"\s*&?(?:'\w+ )?(?:\w+::)*(\w+)", type_).group(1)
+        yield head.end() - 1, end_of(text, head.end() - 1), name, re.sub(r"<.*", "", trait.strip()).rpartition("::")[2]
 
 
 def functions_of(file):
-    text, owners, traits = file.text, [*owners_of(file.text)], [*traits_of(file.text)]
+    text, owners = file.text, [*owners_of(file.text)]
     for found in FUNCTION.finditer(text):
         at = found.end()
         if text[at] == "<":
@@ -138,10 +228,10 @@ def functions_of(file):
         generics, end = text[found.end() : at], end_of(text, at)
         parameters = [parameter(it) for it in parts_of(text[at + 1 : end - 1])]
         returned, body = rest_of(text, end)
-        owner = next((name for start, stop, name in owners if start < found.start() < stop), "")
+        owner, trait = next(((name, of) for start, stop, name, of in owners if start < found.start() < stop), ("", ""))
         line = text[text.rfind("\n", 0, found.start()) + 1 : found.start()]
-        is_public = line.lstrip().startswith("pub ") or any(start < found.start() < stop for start, stop in traits)
-        yield Function(file, owner, found.group(1), generics, parameters, returned, body, is_public)
+        is_public = line.lstrip().startswith("pub ") or trait != ""
+        yield Function(file, owner, trait, found.group(1), generics, parameters, returned, body, is_public)
 
 
 def parameter(said):
@@ -174,3 +264,31 @@ def loops_of(body):
     """Where each loop of a body begins and ends."""
     braces = [it.start() for it in re.finditer(r"\{", body)]
     return [(it, end_of(body, it)) for it in braces if LOOP.search(body[:it])]
+
+
+def closures_of(body):
+    """Where each closure of a body begins and ends: up to the bracket that closes round it, or a comma or semicolon."""
+    return [(it.start(1), end_of_expression(body, it.end(1))) for it in CLOSURE.finditer(body)]
+
+
+def end_of_expression(body, start):
+    """Where the expression ends that begins at start: a block at its brace, else at a comma, semicolon or bracket."""
+    depth = 0
+    if body[start : start + 1] == "{":
+        return end_of(body, start)
+    for at in range(start, len(body)):
+        if depth == 0 and body[at] in ",;)]}":
+            return at
+        depth += (body[at] in "([{") - (body[at] in ")]}")
+    return len(body)
+
+
+def arms_of(body, brace):
+    """The arms of the match whose brace opens there: each pattern, and where what it answers begins and ends."""
+    arms, at, end = [], brace + 1, end_of(body, brace) - 1
+    while body[at:end].strip(" \n,"):
+        arrow = body.index("=>", at)
+        start = arrow + 2 + len(body[arrow + 2 :]) - len(body[arrow + 2 :].lstrip())
+        arms.append((body[at:arrow].strip(" \n,"), start, end_of_expression(body, start)))
+        at = arms[-1][2]
+    return arms
