@@ -31,7 +31,8 @@ use Rattle.fl_nodes.specs.declared.messages.Message.{Message}
 use Rattle.fl_nodes.specs.declared.messages.Message.TheVariants as says
 use Rattle.fl_nodes.specs.declared.shapes.Shape.{Shape}
 use Rattle.fl_nodes.specs.Shapes.{encoded_shape, numbers}
-use Rattle.fl_plugin.specs.Reading.{child_of, reading}
+use Rattle.fl_plugin.specs.Reading.{reading}
+use Rattle.fl_plugin.proofs.ReadLaws.{child_of}
 use Rattle.fl_plugin.specs.RoundTrip.{read_back, read_validity}
 use Rattle.fl_plugin.specs.Writing.{head_written, item_count, validity_nodes, written}
 use Rattle.fl_plugin.proofs.ColumnsAgain.{column_back, read_covers}

@@ -11,3 +11,6 @@ pub mod ChildrenAgain
 pub mod PackedAgain
 pub mod BackLaws
 pub mod ShapesRead
+pub mod NodesStand
+pub mod OneColumn
+pub mod Meanings

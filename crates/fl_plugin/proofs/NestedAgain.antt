@@ -26,11 +26,11 @@ use Rattle.fl_nodes.specs.declared.messages.Message.TheVariants as says
 use Rattle.fl_nodes.specs.declared.shapes.Shape.{Shape}
 use Rattle.fl_nodes.specs.Checks.{checked, message_of, node_refusal}
 use Rattle.fl_nodes.specs.Shapes.{child_shapes, same_dtype}
-use Rattle.fl_plugin.specs.Reading.{Child, child_of, fitting, for_over, made, read_children, reading, scalar_over}
+use Rattle.fl_plugin.specs.Reading.{Child, fitting, for_over, made, read_children, reading, scalar_over}
 use Rattle.fl_plugin.specs.RoundTrip.{read_back, read_reference}
 use Rattle.fl_plugin.specs.Writing.{head_written, item_count, node_over, scalar_text, written}
 use Rattle.fl_plugin.proofs.ColumnsAgain.{column_back}
-use Rattle.fl_plugin.proofs.ReadLaws.{after_check}
+use Rattle.fl_plugin.proofs.ReadLaws.{after_check, child_of}
 
 -- ---- tests that pass
 pub same_dtype_itself : (d : DType) → same_dtype d d ≡ true

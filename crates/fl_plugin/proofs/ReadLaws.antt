@@ -14,9 +14,13 @@ use Rattle.fl_nodes.specs.declared.messages.Message.{Message}
 use Rattle.fl_nodes.specs.declared.shapes.Shape.{Shape}
 use Rattle.fl_nodes.specs.Checks.{checked}
 use Rattle.fl_nodes.specs.Shapes.{child_shapes, same_dtype}
-use Rattle.fl_plugin.specs.Reading.{Child, child_of, fitting, found_children, made, read_children, read_node, reading}
+use Rattle.fl_plugin.specs.Reading.{Child, fitting, found_children, made, read_children, read_node, reading}
 
 -- ---- nodes as their parts
+-- a node as a child
+abbrev pub child_of : Node → Child
+child_of node = record { dtype = (head_of node).dtype; len = (head_of node).len; tree = reading node }
+
 found_is : (nodes : Nodes) → found_children nodes ≡ map child_of (listed nodes)
 found_is NoMore = refl
 found_is (And node nodes) = ap (λ cs. child_of node ∷ cs) (found_is nodes)

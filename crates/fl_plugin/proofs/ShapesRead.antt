@@ -49,24 +49,24 @@ use Rattle.fl_plugin.specs.Reading.{Child, bitpacked_over, blocked_over, delta_o
 use Rattle.fl_plugin.proofs.NestedAgain.{code_once, holds, none_otherwise}
 
 -- ---- steps that do not refuse
-record Step {A B : Type 0} (r : Result A FastLanesError) (f : A → Result B FastLanesError) (y : B) : Type 0 where
-  value : A
-  made : r ≡ Ok value
-  rest : f value ≡ Ok y
+pub record Step {A B : Type 0} (r : Result A FastLanesError) (f : A → Result B FastLanesError) (y : B) : Type 0 where
+  pub value : A
+  pub made : r ≡ Ok value
+  pub rest : f value ≡ Ok y
 
-step : {A B : Type 0} (r : Result A FastLanesError) (f : A → Result B FastLanesError) (y : B) → (r >>= f) ≡ Ok y → Step r f y
+pub step : {A B : Type 0} (r : Result A FastLanesError) (f : A → Result B FastLanesError) (y : B) → (r >>= f) ≡ Ok y → Step r f y
 step (Ok x) f y h = record { value = x; made = refl; rest = h }
 step (Err e) f y h = absurd cc
 
-same_ok : {A : Type 0} (x y : A) → (let r : Result A FastLanesError = Ok x in r) ≡ Ok y → x ≡ y
+pub same_ok : {A : Type 0} (x y : A) → (let r : Result A FastLanesError = Ok x in r) ≡ Ok y → x ≡ y
 same_ok x y h = cc
 
-accepted_is : {A : Type 0} (x y : A) (o : Option FastLanesError) → accepted x o ≡ Ok y → (o ≡ None) × (x ≡ y)
+pub accepted_is : {A : Type 0} (x y : A) (o : Option FastLanesError) → accepted x o ≡ Ok y → (o ≡ None) × (x ≡ y)
 accepted_is x y None h = (refl, same_ok x y h)
 accepted_is x y (Some e) h = absurd cc
 
 -- a test that lets a value through
-let_through : {A : Type 0} (b : Bool) (x y : A) (e : FastLanesError) → (if b then Ok x else Err e) ≡ Ok y → (b ≡ true) × (x ≡ y)
+pub let_through : {A : Type 0} (b : Bool) (x y : A) (e : FastLanesError) → (if b then Ok x else Err e) ≡ Ok y → (b ≡ true) × (x ≡ y)
 let_through true x y e h = (refl, same_ok x y h)
 let_through false x y e h = absurd cc
 
@@ -115,20 +115,20 @@ of_type : (d : DType) (kind : NodeKind) (head : Head) (m : Message) → head.dty
 of_type (dtypes.Primitive p n) kind head m typed h = of_integers kind p n head m typed h
 of_type (dtypes.Bool n) kind head m typed h = of_booleans kind n head m h
 
-message_says : (head : Head) (m : Message) → message_of head ≡ Ok m → Says m head.dtype
+pub message_says : (head : Head) (m : Message) → message_of head ≡ Ok m → Says m head.dtype
 message_says head m h = let s = step (ok_or (kind_of_id head.id) UnknownId) _ m h in of_type head.dtype s.value head m refl s.rest
 
 -- ---- children that have their shapes
 -- what is read of a child has the type and the length that its node says
-abbrev Found : Child → Type 0
+abbrev pub Found : Child → Type 0
 Found child = (t : Tree) → child.tree ≡ Ok t → IsOfShape t child.dtype child.len
 
-abbrev AllFound : List Child → Type 0
+abbrev pub AllFound : List Child → Type 0
 AllFound [] = Unit {0}
 AllFound (child ∷ children) = Found child × AllFound children
 
 -- arrays have these shapes, one by one
-abbrev HaveShapes : List Shape → List Tree → Type 0
+abbrev pub HaveShapes : List Shape → List Tree → Type 0
 HaveShapes [] [] = Unit {0}
 HaveShapes [] (tree ∷ trees) = ⊥
 HaveShapes (shape ∷ shapes) [] = ⊥
@@ -160,7 +160,7 @@ fitting_shape shape child t found h = cases (same_dtype shape.dtype child.dtype 
         let is = found t h in
         record { typed = is.typed ∙ sym (same_dtype_is shape.dtype child.dtype (and_first _ _ e)); long = is.long ∙ sym (eqb-true _ _ (and_second (same_dtype shape.dtype child.dtype) _ e)) }
 
-children_have : (shapes : List Shape) (children : List Child) (trees : List Tree) → AllFound children → read_children shapes children ≡ Ok trees → HaveShapes shapes trees
+pub children_have : (shapes : List Shape) (children : List Child) (trees : List Tree) → AllFound children → read_children shapes children ≡ Ok trees → HaveShapes shapes trees
 children_have [] children trees found h = subst (HaveShapes []) (same_ok [] trees h) tt
 children_have (shape ∷ shapes) [] trees found h = absurd cc
 children_have (shape ∷ shapes) (child ∷ children) trees found h =
@@ -168,7 +168,7 @@ children_have (shape ∷ shapes) (child ∷ children) trees found h =
     let rest = step (read_children shapes children) _ trees first.rest in
     subst (HaveShapes (shape ∷ shapes)) (same_ok _ trees rest.rest) (fitting_shape shape child first.value found.0 first.made, children_have shapes children rest.value found.1 rest.made)
 
-as_many : (shapes : List Shape) (trees : List Tree) → HaveShapes shapes trees → length trees ≡ length shapes
+pub as_many : (shapes : List Shape) (trees : List Tree) → HaveShapes shapes trees → length trees ≡ length shapes
 as_many [] [] h = refl
 as_many [] (tree ∷ trees) h = absurd h
 as_many (shape ∷ shapes) [] h = absurd h
@@ -189,11 +189,11 @@ found_nulls : (o : Option Tree) → nullability_of (unwrap_or (option_map validi
 found_nulls None = refl
 found_nulls (Some t) = refl
 
-passes : (b : Bool) (e : FastLanesError) → (if b then None else Some e) ≡ None → b ≡ true
+pub passes : (b : Bool) (e : FastLanesError) → (if b then None else Some e) ≡ None → b ≡ true
 passes true e h = refl
 passes false e h = absurd cc
 
-or_second : (a b : Bool) → a ≡ false → (a || b) ≡ true → b ≡ true
+pub or_second : (a b : Bool) → a ≡ false → (a || b) ≡ true → b ≡ true
 or_second true b e h = absurd cc
 or_second false b e h = h
 

@@ -16,7 +16,8 @@ use Rattle.fl_nodes.specs.declared.messages.Message.{Message}
 use Rattle.fl_nodes.specs.declared.shapes.Shape.{Shape}
 use Rattle.fl_nodes.specs.Checks.{count_refusal}
 use Rattle.fl_nodes.specs.Shapes.{back_shapes, child_count, child_shapes, front_shapes, takes_validity, validity_shape}
-use Rattle.fl_plugin.specs.Reading.{child_of, fitting, read_children, reading, validity_over}
+use Rattle.fl_plugin.proofs.ReadLaws.{child_of}
+use Rattle.fl_plugin.specs.Reading.{fitting, read_children, reading, validity_over}
 use Rattle.fl_plugin.specs.RoundTrip.{read_validity}
 use Rattle.fl_plugin.specs.Writing.{bits_node, validity_nodes}
 use Rattle.fl_plugin.proofs.LeavesAgain.{bits_again, bits_sized}

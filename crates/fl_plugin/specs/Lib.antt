@@ -7,3 +7,4 @@ pub mod ReadShapes
 pub mod Firsts
 pub mod Plugins
 pub mod RoundTrip
+pub mod NodeColumns

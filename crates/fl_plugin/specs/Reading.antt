@@ -1,5 +1,5 @@
 -- The array that a node is read as, or the first refusal.
-use Rattle.std.specs.Prelude.{◌≡◌, ◌-◌, ◌==◌, ◌&&◌, ℕ, ℤ, List, [], ◌∷◌, length, slice_get, Option, Some, None, option_map, unwrap_or, Result, Ok, Err, IsOkAnd, if◌then◌else◌}
+use Rattle.std.specs.Prelude.{◌-◌, ◌==◌, ◌&&◌, ℕ, ℤ, List, [], ◌∷◌, length, slice_get, Option, Some, None, option_map, unwrap_or, Result, Ok, Err, if◌then◌else◌}
 use Rattle.fl_types.specs.declared.dtype.DType.{DType}
 use Rattle.fl_types.specs.declared.dtype.DType.TheVariants as dtypes
 use Rattle.fl_types.specs.declared.dtype.Nullability.{Nullability}
@@ -12,12 +12,12 @@ use Rattle.fl_types.specs.declared.validity.Validity.TheVariants as valid
 use Rattle.fl_types.specs.Types.{nullability_in}
 use Rattle.fl_types.specs.Validities.{full_validity}
 use Rattle.fl_types.specs.Values.{ScalarParts}
-use Rattle.fl_column.specs.Columns.{Column, PrimitiveParts, new_bools, new_constant, new_primitive}
+use Rattle.fl_column.specs.Columns.{PrimitiveParts, new_bools, new_constant, new_primitive}
 use Rattle.fl_patches.specs.PatchMaps.{PatchesParts, new_patches}
 use Rattle.fl_bitpacking.specs.Columns.{BitPackedParts}
 use Rattle.fl_metadata.specs.Schemas.{◌>>=◌}
 use Rattle.fl_metadata.specs.declared.patches.PatchesMetadata.{PatchesMetadata}
-use Rattle.fl_array.specs.Trees.{Tree, column}
+use Rattle.fl_array.specs.Trees.{Tree}
 use Rattle.fl_array.specs.Trees as tree
 use Rattle.fl_array.specs.BitPackedArrays.{BitWidthsParts, BlockBoundaries, GlobalWidth, new_bitpacked, tree_of_bitpacked}
 use Rattle.fl_array.specs.DeltaArrays.{new_delta, tree_of_delta}
@@ -168,11 +168,3 @@ abbrev mutual
   pub found_children : Nodes → List Child
   found_children NoMore = []
   found_children (And node nodes) = record { dtype = (head_of node).dtype; len = (head_of node).len; tree = reading node } ∷ found_children nodes
-
--- a node as a child
-abbrev pub child_of : Node → Child
-child_of node = record { dtype = (head_of node).dtype; len = (head_of node).len; tree = reading node }
-
--- a node stands for a column: it is read as an array of this column
-abbrev pub Stands : Node → Column → Type 0
-Stands node c = IsOkAnd (reading node) (λ t. column t ≡ c)

@@ -5,7 +5,7 @@ ghost use Rattle.std.specs.Option.{option_copied};
 ghost use Rattle.std.specs.List.{list_all};
 ghost use Rattle.fl_types.specs.Integers.{fits};
 ghost use Rattle.fl_types.specs.Refusals.{Answers};
-ghost use Rattle.fl_column.specs.Columns.{option_all};
+ghost use Rattle.fl_column.specs.Columns.{Column, option_all};
 ghost use Rattle.fl_types.specs.Values.{scalar_parts};
 ghost use Rattle.fl_metadata.specs.Fits.{PatchesFit};
 ghost use Rattle.fl_array.specs.Trees.{Tree, column};
@@ -15,6 +15,8 @@ ghost use Rattle.fl_array.specs.DeltaArrays.{tree_of_delta};
 ghost use Rattle.fl_array.specs.FoRArrays.{ChunkReferences, GlobalReference, offset_of_references, tree_of_for};
 ghost use Rattle.fl_array.specs.Kinds.{kind};
 ghost use Rattle.fl_array.specs.RLEArrays.{tree_of_rle};
+ghost use Rattle.fl_serialized.specs.Nodes.{Node};
+ghost use Rattle.fl_plugin.specs.NodeColumns.{StandsFor};
 ghost use Rattle.fl_plugin.specs.RoundTrip.{ArePatchesOfTypes, HasFittingInteger, IsReadBack, read_back};
 ghost use Rattle.fl_plugin.specs.Writing.{patches_message};
 
@@ -39,12 +41,24 @@ pub fn same_column_and_kind()
     ensures kind { (t : Tree) → kind (read_back t) ≡ kind t }
 {}
 
+/// What is read where an array was written has its kind.
+#[tactic(auto, using(crate::proofs::ColumnsAgain::kind_back))]
+fn same_kind()
+    ensures { (t : Tree) → kind (read_back t) ≡ kind t }
+{}
+
 /// The items of an array can be counted.
 fn prove_few(array: &ArrayRef)
     ensures { length (column array.now).items < 2 ^ 64 }
 {
     let _len = array.len();
 }
+
+/// A node stands for at most one column.
+#[tactic(auto, using(crate::proofs::OneColumn::one_column))]
+pub fn node_has_one_column()
+    ensures { (node : Node) → (c d : Column) → StandsFor node c → StandsFor node d → c ≡ d }
+{}
 
 /// The integer of a scalar is one of its type.
 fn prove_scalar_fits(scalar: Scalar)
@@ -239,17 +253,20 @@ pub fn prove_read_back(array: &ArrayRef)
 }
 
 /// The array that is read where this one is written: the same column, kinds and parts, the form of validities
-/// aside, and whether references and patches may be null.
+/// aside, and whether references and patches may be null. The node that is written stands for the array's column,
+/// the array that is read is of the column for which that node stands, and this is one.
 ///
 /// # Errors
 /// None but `OutOfMemory`.
+#[tactic(auto, using(crate::proofs::Meanings::answer_column))]
 pub fn round_trip(alloc: Global, array: &ArrayRef) -> Result<ArrayRef, FastLanesError>
     ensures read { Answers (λ a. a) result (Ok (read_back array.now)) }
     ensures column { Answers column result (Ok (column array.now)) }
     ensures kind { IfOk result (λ a. kind a ≡ kind array.now) }
 {
     prove_read_back(array);
-    same_column_and_kind();
+    same_kind();
+    node_has_one_column();
     let node = serialize(alloc, array)?;
     deserialize(alloc, &node)
 }

@@ -1,9 +1,11 @@
 //! Kinds by themselves: each is written and read under its own ids alone.
 
-ghost use Rattle.std.specs.Prelude.{◌≡◌, [], ◌∷◌, ℕ, Bool, List, map};
+ghost use Rattle.std.specs.Prelude.{◌≡◌, [], ◌∷◌, ℕ, Bool, IfOk, List, map};
 ghost use Rattle.fl_types.specs.Refusals.{Answers};
+ghost use Rattle.fl_array.specs.Trees.{column};
 ghost use Rattle.fl_serialized.specs.Nodes.{bitpacked_v1_id, bitpacked_v2_id, delta_id, for_v1_id, for_v2_id, rle_id};
 ghost use Rattle.fl_nodes.specs.declared.kinds.NodeKind.{NodeKind};
+ghost use Rattle.fl_plugin.specs.NodeColumns.{StandsFor};
 ghost use Rattle.fl_plugin.specs.Plugins.{is_bitpacked, is_delta, is_for, is_rle, reading_under, written_under};
 
 use crate::reading::deserialize;
@@ -43,7 +45,8 @@ impl BitPackedPlugin {
     /// # Errors
     /// `UnknownId` where the array is of another kind.
     pub fn serialize(alloc: Global, array: &ArrayRef) -> Result<SerializedArray, FastLanesError>
-        ensures { Answers (λ node. node) result (written_under is_bitpacked array.now) }
+        ensures node { Answers (λ node. node) result (written_under is_bitpacked array.now) }
+        ensures column { IfOk result (λ node. StandsFor node (column array.now)) }
     {
         match node_kind(array) {
             NodeKind::BitPacked | NodeKind::BitPackedBlocked => serialize(alloc, array),
@@ -56,7 +59,8 @@ impl BitPackedPlugin {
     /// # Errors
     /// `UnknownId` where the node's id is of another kind, else those of `deserialize`.
     pub fn deserialize(alloc: Global, node: &SerializedArray) -> Result<ArrayRef, FastLanesError>
-        ensures { Answers (λ a. a) result (reading_under is_bitpacked node.now) }
+        ensures array { Answers (λ a. a) result (reading_under is_bitpacked node.now) }
+        ensures column { IfOk result (λ a. StandsFor node.now (column a)) }
     {
         match NodeKind::of_id(node.id()) {
             Some(NodeKind::BitPacked | NodeKind::BitPackedBlocked) => deserialize(alloc, node),
@@ -89,7 +93,8 @@ impl FoRPlugin {
     /// # Errors
     /// `UnknownId` where the array is of another kind.
     pub fn serialize(alloc: Global, array: &ArrayRef) -> Result<SerializedArray, FastLanesError>
-        ensures { Answers (λ node. node) result (written_under is_for array.now) }
+        ensures node { Answers (λ node. node) result (written_under is_for array.now) }
+        ensures column { IfOk result (λ node. StandsFor node (column array.now)) }
     {
         match node_kind(array) {
             NodeKind::FoR | NodeKind::FoRChunked => serialize(alloc, array),
@@ -102,7 +107,8 @@ impl FoRPlugin {
     /// # Errors
     /// `UnknownId` where the node's id is of another kind, else those of `deserialize`.
     pub fn deserialize(alloc: Global, node: &SerializedArray) -> Result<ArrayRef, FastLanesError>
-        ensures { Answers (λ a. a) result (reading_under is_for node.now) }
+        ensures array { Answers (λ a. a) result (reading_under is_for node.now) }
+        ensures column { IfOk result (λ a. StandsFor node.now (column a)) }
     {
         match NodeKind::of_id(node.id()) {
             Some(NodeKind::FoR | NodeKind::FoRChunked) => deserialize(alloc, node),
@@ -128,14 +134,16 @@ pub trait ArrayForm {
     /// # Errors
     /// `UnknownId` where the array is of another kind.
     fn serialize(alloc: Global, array: &ArrayRef) -> Result<SerializedArray, FastLanesError>
-        ensures { Answers (λ node. node) result (written_under takes array.now) };
+        ensures node { Answers (λ node. node) result (written_under takes array.now) }
+        ensures column { IfOk result (λ node. StandsFor node (column array.now)) };
 
     /// The array that a node of the encoding is read as.
     ///
     /// # Errors
     /// `UnknownId` where the node's id is of another kind, else those of the function `deserialize`.
     fn deserialize(alloc: Global, node: &SerializedArray) -> Result<ArrayRef, FastLanesError>
-        ensures { Answers (λ a. a) result (reading_under takes node.now) };
+        ensures array { Answers (λ a. a) result (reading_under takes node.now) }
+        ensures column { IfOk result (λ a. StandsFor node.now (column a)) };
 }
 
 impl ArrayForm for Delta {

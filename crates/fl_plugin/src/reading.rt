@@ -6,9 +6,11 @@ ghost use Rattle.fl_types.specs.Integers.{FitsIn};
 ghost use Rattle.fl_types.specs.Refusals.{Answers};
 ghost use Rattle.fl_types.specs.Values.{scalar_parts};
 ghost use Rattle.fl_array.specs.BitPackedArrays.{BlockBoundaries, GlobalWidth};
+ghost use Rattle.fl_array.specs.Trees.{column};
 ghost use Rattle.fl_serialized.specs.Nodes.{head_of};
 ghost use Rattle.fl_nodes.specs.Leaves.{bits_size, slots_size};
 ghost use Rattle.fl_plugin.specs.Firsts.{IsFirstTwo};
+ghost use Rattle.fl_plugin.specs.NodeColumns.{StandsFor};
 ghost use Rattle.fl_plugin.specs.ReadShapes.{IsOfShape};
 ghost use Rattle.fl_nodes.specs.Checks.{IsChecked, own_bytes};
 ghost use Rattle.fl_plugin.specs.Reading.{bitpacked_over, delta_over, for_chunked_over, for_over, made, reading, rle_over, scalar_over, validity_at, validity_of, validity_over};
@@ -393,18 +395,20 @@ fn read(alloc: Global, node: &SerializedArray) -> Result<ArrayRef, FastLanesErro
     make(alloc, node, &message, children.len(), trees)
 }
 
-/// The array that a node is read as, of the node's type and length, with patches and validities held plain and packed
-/// bytes shared with the node. No memory is asked for by a length that the node's bytes don't bear out, but for
-/// items that the array's own kind has to look at: patches, boundaries, run offsets and run indices.
+/// The array that a node is read as, of the node's type and length and of the column for which the node stands, with
+/// patches and validities held plain and packed bytes shared with the node. No memory is asked for by a length that
+/// the node's bytes don't bear out, but for items that the array's own kind has to look at: patches, boundaries, run
+/// offsets and run indices.
 ///
 /// # Errors
 /// The first that holds: those of `check`; then for each child in order `ChildMismatch`, where its type or its
 /// length isn't the one that is asked of it, else its own; then `PatchType`, `PatchLength` and `PatchContent`;
 /// then those of the kind's constructor.
-#[tactic(auto, using(crate::proofs::ShapesRead::answer_shape))]
+#[tactic(auto, using(crate::proofs::ShapesRead::answer_shape, crate::proofs::NodesStand::answer_stands))]
 pub fn deserialize(alloc: Global, node: &SerializedArray) -> Result<ArrayRef, FastLanesError>
     ensures array { Answers (λ a. a) result (reading node.now) }
     ensures shape { IfOk result (λ a. IsOfShape a (head_of node.now).dtype (head_of node.now).len) }
+    ensures column { IfOk result (λ a. StandsFor node.now (column a)) }
 {
     read(alloc, node)
 }

@@ -1,6 +1,6 @@
 //! The node that an array is written as.
 
-ghost use Rattle.std.specs.Prelude.{◌≡◌, ◌<◌, ◌++◌, ◌∷◌, [], IsTrue, None, Ok, length, unwrap_or};
+ghost use Rattle.std.specs.Prelude.{◌≡◌, ◌<◌, ◌++◌, ◌∷◌, [], IfOk, IsTrue, None, Ok, length, unwrap_or};
 ghost use Rattle.fl_types.specs.Refusals.{Answers};
 ghost use Rattle.fl_types.specs.Types.{integer_type, is_integer};
 ghost use Rattle.fl_types.specs.Values.{scalar_parts};
@@ -12,8 +12,10 @@ ghost use Rattle.fl_array.specs.BitPackedArrays.{tree_of_bitpacked};
 ghost use Rattle.fl_array.specs.FoRArrays.{tree_of_for};
 ghost use Rattle.fl_array.specs.DeltaArrays.{tree_of_delta};
 ghost use Rattle.fl_array.specs.RLEArrays.{tree_of_rle};
+ghost use Rattle.fl_plugin.specs.NodeColumns.{StandsFor};
 ghost use Rattle.fl_plugin.specs.Writing.{buffers_of, head_written, metadata_of, node_kind, node_over, packed_nodes, scalar_text, validity_nodes, written};
 
+use crate::laws::prove_read_back;
 use crate::nodes::{one_node, packed_nodes, patches_message, validity_nodes};
 use crate::views::{ArrayView, view};
 use bytes::Bytes;
@@ -358,12 +360,8 @@ fn over_three(
     node_over(alloc, array, children)
 }
 
-/// The node of an array: its id, its type and its length, its own parts as buffers, the messages of its kind in
-/// their canonical encoding, and the nodes of the arrays in it. Packed bytes are shared with the array.
-///
-/// # Errors
-/// None but `OutOfMemory`.
-pub fn serialize(alloc: Global, array: &ArrayRef) -> Result<SerializedArray, FastLanesError>
+/// The node of an array.
+fn write(alloc: Global, array: &ArrayRef) -> Result<SerializedArray, FastLanesError>
     ensures { Answers (λ node. node) result (Ok (written array.now)) }
 {
     match view(array) {
@@ -373,30 +371,45 @@ pub fn serialize(alloc: Global, array: &ArrayRef) -> Result<SerializedArray, Fas
         ArrayView::BitPacked(a) => match a.bit_widths() {
             BitWidthsView::Global(_) => over_packed(alloc, array, a.packed_data()),
             BitWidthsView::Blocked(boundaries) => {
-                let boundaries = serialize(alloc, boundaries)?;
+                let boundaries = write(alloc, boundaries)?;
                 over_boundaries(alloc, array, a.packed_data(), boundaries)
             }
         },
         ArrayView::FoR(a) => {
-            let encoded = serialize(alloc, a.encoded())?;
+            let encoded = write(alloc, a.encoded())?;
             match a.references() {
                 FoRReferences::Global(_) => over_one(alloc, array, encoded),
                 FoRReferences::Blocked(references) => {
-                    let references = serialize(alloc, references)?;
+                    let references = write(alloc, references)?;
                     over_two(alloc, array, encoded, references)
                 }
             }
         }
         ArrayView::Delta(a) => {
-            let bases = serialize(alloc, a.bases())?;
-            let deltas = serialize(alloc, a.deltas())?;
+            let bases = write(alloc, a.bases())?;
+            let deltas = write(alloc, a.deltas())?;
             over_deltas(alloc, array, a, bases, deltas)
         }
         ArrayView::RLE(a) => {
-            let values = serialize(alloc, a.values())?;
-            let indices = serialize(alloc, a.indices())?;
-            let offsets = serialize(alloc, a.offsets())?;
+            let values = write(alloc, a.values())?;
+            let indices = write(alloc, a.indices())?;
+            let offsets = write(alloc, a.offsets())?;
             over_three(alloc, array, values, indices, offsets)
         }
     }
+}
+
+/// The node of an array: its id, its type and its length, its own parts as buffers, the messages of its kind in
+/// their canonical encoding, and the nodes of the arrays in it. It stands for the array's column. Packed bytes are
+/// shared with the array.
+///
+/// # Errors
+/// None but `OutOfMemory`.
+#[tactic(auto, using(crate::proofs::Meanings::answer_written))]
+pub fn serialize(alloc: Global, array: &ArrayRef) -> Result<SerializedArray, FastLanesError>
+    ensures node { Answers (λ node. node) result (Ok (written array.now)) }
+    ensures column { IfOk result (λ node. StandsFor node (column array.now)) }
+{
+    prove_read_back(array);
+    write(alloc, array)
 }

@@ -5,3 +5,4 @@ mod PlainExamples
 mod WidthExamples
 mod RefusedNodes
 mod WrittenNodes
+mod StandingNodes

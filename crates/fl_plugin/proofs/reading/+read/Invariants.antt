@@ -1,6 +1,6 @@
 use Rattle.std.proofs.Common.{◌≡◌, map}
-use Rattle.fl_plugin.specs.Reading.{child_of, read_children}
-use Rattle.fl_plugin.proofs.ReadLaws.{remaining}
+use Rattle.fl_plugin.specs.Reading.{read_children}
+use Rattle.fl_plugin.proofs.ReadLaws.{child_of, remaining}
 use Rattle.fl_plugin.proofs.reading.+read.Given as goal
 
 -- what is read of the children, by those that are still to be read
