@@ -47,7 +47,6 @@ use fl_bitpacking::refusals::{
     block_offsets_refusal, blocked_refusal, constant_boundaries_refusal, global_refusal,
     positions_refusal,
 };
-pub use fl_bitpacking::unpack_iter::BitUnpackedChunks;
 use fl_column::{DType, FastLanesError, PType, PrimitiveArray, Scalar, Validity, chunk_count};
 use fl_patches::Patches;
 use std::alloc::Global;

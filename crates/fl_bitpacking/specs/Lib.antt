@@ -1,6 +1,9 @@
 pub mod Blocks
 pub mod BlockSums
 pub mod BlockLends
+pub mod ChunksLending
+pub mod RoomLends
+pub mod UnpackedBlocks
 pub mod Columns
 pub mod Lending
 pub mod Lent

@@ -72,9 +72,9 @@ after_initial r = if has_initial r then unpacked_one r else r
 abbrev pub after_trailer : Reader → Reader
 after_trailer r = if has_trailer r then unpacked_one r else r
 
--- the blocks that neither the first nor the last one lends by itself
+-- the blocks that neither the first nor the last one lends by itself, beside what was unpacked so far
 abbrev pub whole_blocks : Reader → WholeBlocks
-whole_blocks r = record { packed = r.packed; bit_width = r.bit_width; next = if has_initial r then 1 else 0; end = blocks_read r - (if has_trailer r then 1 else 0); work = record { blocks = 0; words = 0 } }
+whole_blocks r = record { packed = r.packed; bit_width = r.bit_width; next = if has_initial r then 1 else 0; end = blocks_read r - (if has_trailer r then 1 else 0); work = r.work }
 
 -- the items that the first block, the whole blocks and the last block lend, one after the other
 abbrev pub items_in_parts : PType → Reader → List ℤ

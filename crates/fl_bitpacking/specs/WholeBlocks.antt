@@ -13,11 +13,6 @@ pub record WholeBlocks : Type 0 where
   pub end : ℕ
   pub work : Counts
 
--- blocks of a type of this many bits lie in the bytes
-pub record AreInside (bits : ℕ) (packed : List ℕ) (bit_width end : ℕ) : Type 0 where
-  pub narrow : bit_width ≤ bits
-  pub within : 128 * bit_width * end ≤ length packed
-
 -- this many items of blocks of one width, from a position on
 abbrev pub block_items_at : PType → ℕ → List ℕ → ℕ → ℕ → List ℤ
 block_items_at ptype bit_width packed from count = table (λ k. item_of_blocks ptype (global_blocks bit_width) packed (from + k)) count

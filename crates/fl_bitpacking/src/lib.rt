@@ -4,12 +4,14 @@
 
 mod bit_packed;
 mod bit_unpack_iterator;
+mod bit_unpacked_chunks;
 mod block_decoding;
 mod blocks;
 mod boundaries;
 mod boundary_checks;
 pub mod casting;
 mod comparing;
+mod cut_blocks;
 pub mod decoding;
 pub mod encoding;
 pub mod for_decoding;
@@ -23,6 +25,7 @@ mod range_test;
 pub mod refusals;
 pub mod taking;
 pub mod unpack_iter;
+mod unpacked_block;
 mod unpacked_items;
 pub mod width_refusals;
 pub mod word_packing;

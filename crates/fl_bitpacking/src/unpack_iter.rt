@@ -1,20 +1,19 @@
 //! Reading packed columns block by block.
 
-ghost use Rattle.std.specs.Prelude.{◌≡◌, ◌+◌, ◌-◌, ◌*◌, ◌<◌, ◌≤◌, ◌^◌, ℕ, List, Option, SomeIff, length, min, if◌then◌else◌};
+ghost use Rattle.std.specs.Prelude.{◌≡◌, ◌+◌, ◌*◌, ◌<◌, ◌≤◌, ℕ, List, Option, length, min};
 ghost use Rattle.fl_types.specs.Integers.{bits_of_type};
-ghost use Rattle.fl_column.specs.Chunks.{chunk_count};
 ghost use Rattle.fl_bitpacking.specs.Blocks.{block_item, value_at};
-ghost use Rattle.fl_bitpacking.specs.Readers.{lends_first, lends_last};
 
 pub use crate::bit_packed::{BitCount, BitPacked};
 pub use crate::bit_unpack_iterator::BitUnpackIterator;
+pub use crate::bit_unpacked_chunks::BitUnpackedChunks;
 use crate::block_decoding::AsStored;
-use crate::blocks::{PackedBlocks, global_block};
+use crate::blocks::PackedBlocks;
+use crate::cut_blocks::{lends_first, lends_last, unpack_at, whole_blocks};
 use crate::unpacked_items::Span;
 pub use crate::unpacked_items::UnpackedItems;
 use fastlanes::{FL_CHUNK_SIZE, Work};
 use fl_bit_widths::Widths;
-use fl_column::chunk_count;
 use fl_types::{FastLanesError, NativePType};
 use std::marker::Model;
 
@@ -78,20 +77,17 @@ pub trait PackedSource {
         ensures { result ≡ first self.now };
 }
 
-/// A reader that unpacks by the kernels of the layout.
-pub type BitUnpackedChunks<'a, T> = UnpackedChunks<'a, T, BitPackingStrategy>;
-
 /// A packed column that is read block by block: the items of a first block that is cut, or alone, the
 /// items of a last one that is cut, and all of them at once. It keeps no state but its `Work`.
 #[derive(Drop)]
 pub struct UnpackedChunks<'a, T: BitCount, S> {
-    strategy: S,
-    packed: &'a [u8],
-    bit_width: usize,
-    offset: usize,
-    len: usize,
-    scratch: &'a mut [T; FL_CHUNK_SIZE],
-    work: Work,
+    pub(crate) strategy: S,
+    pub(crate) packed: &'a [u8],
+    pub(crate) bit_width: usize,
+    pub(crate) offset: usize,
+    pub(crate) len: usize,
+    pub(crate) scratch: &'a mut [T; FL_CHUNK_SIZE],
+    pub(crate) work: Work,
 }
 
 impl<'a, T: BitCount, S> Model for UnpackedChunks<'a, T, S> {
@@ -123,9 +119,15 @@ impl<'a, T: BitPacked, S: UnpackStrategy<T> + Drop> UnpackedChunks<'a, T, S> {
         ensures items { integers_lent T.value result ≡ Some (block_items_at T.PTYPE self.old.bit_width self.old.packed (1024 * j + span.from) (span.to - span.from)) }
     {
         T::prove_fits_in_memory();
-        let block = global_block(self.packed, self.bit_width, j);
-        self.strategy
-            .unpack_chunk(self.bit_width, block, self.scratch, &mut self.work);
+        let (packed, bit_width) = (self.packed, self.bit_width);
+        unpack_at(
+            &self.strategy,
+            packed,
+            bit_width,
+            j,
+            self.scratch,
+            &mut self.work,
+        );
         UnpackedItems {
             block: &mut *self.scratch,
             span: Some(span),
@@ -149,10 +151,10 @@ impl<'a, T: BitPacked, S: UnpackStrategy<T> + Drop> UnpackedChunks<'a, T, S> {
         ensures* after { sem 𝓛 (lends_items T.row S.row T.BitCount self.entry (after_initial self.old) result) }
         ensures items { integers_lent T.value result ≡ initial_items T.PTYPE self.old }
     {
-        let end = self.offset + self.len;
-        if self.offset == 0 && chunk_count(end) != 1 {
+        if !lends_first(self.offset, self.len) {
             return self.lend_none();
         }
+        let end = self.offset + self.len;
         let span = Span::new(self.offset, end.min(FL_CHUNK_SIZE));
         self.lend_block(0, span)
     }
@@ -163,12 +165,11 @@ impl<'a, T: BitPacked, S: UnpackStrategy<T> + Drop> UnpackedChunks<'a, T, S> {
         ensures* after { sem 𝓛 (lends_items T.row S.row T.BitCount self.entry (after_trailer self.old) result) }
         ensures items { integers_lent T.value result ≡ trailer_items T.PTYPE self.old }
     {
-        let end = self.offset + self.len;
-        let cut = end % FL_CHUNK_SIZE;
-        if cut == 0 || end < FL_CHUNK_SIZE {
+        if !lends_last(self.offset, self.len) {
             return self.lend_none();
         }
-        let span = Span::new(0, cut);
+        let end = self.offset + self.len;
+        let span = Span::new(0, end % FL_CHUNK_SIZE);
         self.lend_block(end / FL_CHUNK_SIZE, span)
     }
 
@@ -238,83 +239,4 @@ impl<'a, T: BitPacked, S: UnpackStrategy<T> + Drop> UnpackedChunks<'a, T, S> {
         };
         blocks.decode_into(&decoder, output, self.scratch, &mut self.work);
     }
-}
-
-impl<'a, T: BitPacked> UnpackedChunks<'a, T, BitPackingStrategy> {
-    ghost use Rattle.std.specs.Prelude.{◌≡◌, ◌≤◌, IfSome};
-    ghost use Rattle.fl_types.specs.Integers.{bits_of_type};
-    ghost use Rattle.fl_bitpacking.specs.Readers.{whole_blocks};
-    ghost use Rattle.fl_bitpacking.specs.Sources.{reader_at};
-
-    /// A reader of this many items of packed blocks that have one width, which is at most the type's bits. The
-    /// scratch block is scratch space.
-    ///
-    /// # Errors
-    /// `NotGlobal` where each block has a width of its own. Then `OffsetTooLarge` where the offset is 1024 or
-    /// more, `LengthOverflow` where offset and length together, rounded up to whole blocks, are above
-    /// `usize::MAX`, and `PackedLength` where the bytes are not those of the blocks.
-    pub fn try_new<D: PackedSource>(
-        data: &'a D,
-        len: usize,
-        scratch: &'a mut [T; FL_CHUNK_SIZE],
-    ) -> Result<Self, FastLanesError>
-        requires { IfSome (D.width data.now) (λ width. width ≤ bits_of_type T.PTYPE) }
-        ensures { result ≡ reader_at (D.bytes data.now) (D.width data.now) (D.first data.now) len }
-    {
-        match data.global_width() {
-            Some(width) => UnpackedChunks::try_new_with_strategy(
-                BitPackingStrategy,
-                data.packed_bytes(),
-                usize::from(width),
-                data.first_position(),
-                len,
-                scratch,
-            ),
-            None => Err(FastLanesError::NotGlobal),
-        }
-    }
-
-    /// The blocks that neither `initial` nor `trailer` lends, with a `Work` of their own. They are the
-    /// same at every call.
-    pub fn full_chunks(&self) -> BitUnpackIterator<'_, T>
-        ensures { result ≡ whole_blocks self.now }
-    {
-        let (starts_cut, end) = whole_part(self.offset, self.len);
-        BitUnpackIterator::new(
-            self.packed,
-            [T::zero(); FL_CHUNK_SIZE],
-            self.bit_width,
-            FL_CHUNK_SIZE * self.bit_width / T::TYPE_BITS,
-            end,
-            starts_cut,
-            Work::new(),
-        )
-    }
-}
-
-/// Which blocks neither the first nor the last one lends by itself: whether they begin at the second
-/// one, and where they end.
-fn whole_part(offset: usize, len: usize) -> (bool, usize)
-    requires { offset + len < 2 ^ 64 }
-    ensures first { result.0 ≡ lends_first offset len }
-    ensures end { result.1 ≡ chunk_count (offset + len) - (if lends_last offset len then 1 else 0) }
-{
-    let end = offset + len;
-    let blocks = chunk_count(end);
-    let starts_cut = offset != 0 || blocks == 1;
-    let ends_cut = end % FL_CHUNK_SIZE != 0 && blocks > 1;
-    (starts_cut, blocks - usize::from(ends_cut))
-}
-
-/// How many whole blocks hold this many items from the offset on, unless their positions are more than
-/// `usize::MAX`.
-fn whole_blocks(offset: usize, len: usize) -> Option<usize>
-    ensures { SomeIff result (1024 * chunk_count (offset + len) < 2 ^ 64) (chunk_count (offset + len)) }
-{
-    let end = offset.checked_add(len)?;
-    let blocks = chunk_count(end);
-    if blocks > usize::MAX / FL_CHUNK_SIZE {
-        return None;
-    }
-    Some(blocks)
 }

@@ -1,7 +1,6 @@
 //! Reading packed columns block by block.
 
-pub use fl_array::bitpacking::BitUnpackedChunks;
 pub use fl_bitpacking::unpack_iter::{
-    BitCount, BitPacked, BitPackingStrategy, BitUnpackIterator, UnpackStrategy, UnpackedChunks,
-    UnpackedItems,
+    BitCount, BitPacked, BitPackingStrategy, BitUnpackIterator, BitUnpackedChunks, PackedSource,
+    UnpackStrategy, UnpackedChunks, UnpackedItems,
 };

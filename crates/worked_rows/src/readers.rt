@@ -1,6 +1,6 @@
 //! Readers of packed columns, block by block.
 
-ghost use Rattle.std.specs.Prelude.{◌≡◌, ◌≤◌, IfSome, IsTrue, length};
+ghost use Rattle.std.specs.Prelude.{◌≡◌, ◌≤◌, IfSome, IsTrue, Some, length};
 ghost use Rattle.fl_types.specs.Integers.{bits_of_type};
 
 use crate::columns::{count, type_of};
@@ -11,7 +11,8 @@ use fl_types::*;
 use std::alloc::Global;
 use std::cell::Cell;
 use vortex_fastlanes::unpack_iter::{
-    BitPacked, BitPackingStrategy, BitUnpackedChunks, UnpackStrategy, UnpackedChunks, UnpackedItems,
+    BitPacked, BitPackingStrategy, BitUnpackedChunks, PackedSource, UnpackStrategy, UnpackedChunks,
+    UnpackedItems,
 };
 use vortex_fastlanes::{BitPackedData, FL_CHUNK_SIZE, Work};
 
@@ -57,19 +58,24 @@ fn lent<T: BitPacked>(items: &UnpackedItems<'_, T>, answer: &mut Text) {
     }
 }
 
-/// Adds the items of the first block, of the last one, and of whole blocks, at most five.
-fn parts<T: BitPacked>(chunks: &mut BitUnpackedChunks<'_, T>, answer: &mut Text) {
-    answer.word("first");
-    lent(&chunks.initial(), answer);
-    answer.word("last");
-    lent(&chunks.trailer(), answer);
-    answer.word("whole");
+/// Adds the items of whole blocks, at most five.
+fn whole<T: BitPacked>(chunks: &mut BitUnpackedChunks<'_, T>, answer: &mut Text) {
     let mut blocks = chunks.full_chunks();
     for _ in 0..5usize {
         if let Some(items) = blocks.next() {
             shown::integers(answer, items);
         }
     }
+}
+
+/// Adds the items of the first block, of the last one, and of whole blocks.
+fn parts<T: BitPacked>(chunks: &mut BitUnpackedChunks<'_, T>, answer: &mut Text) {
+    answer.word("first");
+    lent(&chunks.initial(), answer);
+    answer.word("last");
+    lent(&chunks.trailer(), answer);
+    answer.word("whole");
+    whole(chunks, answer);
 }
 
 /// Adds the parts that a reader lends, and those that it lends at a second call.
@@ -121,6 +127,91 @@ fn lend_of(alloc: Global, bytes: &[u8], name: &str, numbers: [usize; 3], answer:
         Ok(data) => match_each_integer_ptype!(type_of(name), lend(&data, len, answer)),
         Err(refusal) => answer.refusal(refusal),
     }
+}
+
+/// Bytes of blocks of one width, from a position on.
+#[derive(Clone, Copy)]
+struct Blocks<'a> {
+    bytes: &'a [u8],
+    width: u8,
+    first: usize,
+}
+
+impl<'a> PackedSource for Blocks<'a> {
+    ghost bytes = { λ b. b.bytes.now };
+
+    ghost width = { λ b. Some b.width };
+
+    ghost first = { λ b. b.first };
+
+    fn packed_bytes(&self) -> &[u8] {
+        self.bytes
+    }
+
+    fn global_width(&self) -> Option<u8> {
+        Some(self.width)
+    }
+
+    fn first_position(&self) -> usize {
+        self.first
+    }
+}
+
+/// Has a reader lend its parts, and answers how many blocks it has unpacked.
+fn lend_parts(chunks: &mut BitUnpackedChunks<'_, u8>) -> u64 {
+    let _ = chunks.initial();
+    let _ = chunks.trailer();
+    let mut blocks = chunks.full_chunks();
+    for _ in 0..5usize {
+        let _ = blocks.next();
+    }
+    chunks.work().blocks()
+}
+
+/// Adds how many blocks a reader has unpacked when it has lent its parts, and when it has lent them again.
+fn counted(bytes: &[u8], width: usize, first: usize, len: usize, answer: &mut Text) {
+    if width > 8 {
+        return;
+    }
+    let mut scratch = [0u8; FL_CHUNK_SIZE];
+    let width = width as u8;
+    let blocks = Blocks {
+        bytes,
+        width,
+        first,
+    };
+    match BitUnpackedChunks::try_new(&blocks, len, &mut scratch) {
+        Ok(mut chunks) => {
+            answer.item(Some(lend_parts(&mut chunks) as i128));
+            answer.item(Some(lend_parts(&mut chunks) as i128));
+        }
+        Err(refusal) => answer.refusal(refusal),
+    }
+}
+
+/// Adds what a reader answers whose scratch block is all sevens, and what its scratch block then has; for
+/// either reader.
+fn scratch(bytes: &[u8], width: usize, first: usize, len: usize, answer: &mut Text) {
+    if width > 8 {
+        return;
+    }
+    let (mut scratch, by) = ([7u8; FL_CHUNK_SIZE], BitPackingStrategy);
+    match UnpackedChunks::try_new_with_strategy(by, bytes, width, first, len, &mut scratch) {
+        Ok(_) => answer.word("made"),
+        Err(refusal) => answer.refusal(refusal),
+    }
+    shown::integers(answer, &scratch);
+    let width = width as u8;
+    let blocks = Blocks {
+        bytes,
+        width,
+        first,
+    };
+    match BitUnpackedChunks::try_new(&blocks, len, &mut scratch) {
+        Ok(_) => answer.word("made"),
+        Err(refusal) => answer.refusal(refusal),
+    }
+    shown::integers(answer, &scratch);
 }
 
 /// Unpacks by the layout, and counts its calls.
@@ -186,29 +277,35 @@ fn read_of(bytes: &[u8], name: &str, numbers: [usize; 3], answer: &mut Text) {
     match_each_integer_ptype!(type_of(name), read(bytes, width, offset, len, answer));
 }
 
+/// Asks a question of a reader of bytes with this width, offset and length.
+fn ask_reader(asked: &str, bytes: &[u8], numbers: [usize; 3], answer: &mut Text) -> bool {
+    let [width, offset, len] = numbers;
+    match asked {
+        "counted" => counted(bytes, width, offset, len, answer),
+        "scratch" => scratch(bytes, width, offset, len, answer),
+        "strategy" => calls(bytes, width, offset, len, &Cell::new(0), answer),
+        _ => return false,
+    }
+    true
+}
+
 /// Asks a question of bytes.
 pub(crate) fn ask(alloc: Global, question: &[&str], bytes: &[u8], answer: &mut Text) -> bool {
     match question {
         ["read", name, width, offset, len] => {
             let numbers = [count(width), count(offset), count(len)];
             read_of(bytes, name, numbers, answer);
+            true
         }
         ["lend", name, width, offset, len] => {
             let numbers = [count(width), count(offset), count(len)];
             lend_of(alloc, bytes, name, numbers, answer);
+            true
         }
-        ["strategy", width, offset, len] => {
-            let called = Cell::new(0);
-            calls(
-                bytes,
-                count(width),
-                count(offset),
-                count(len),
-                &called,
-                answer,
-            );
+        [asked, width, offset, len] => {
+            let numbers = [count(width), count(offset), count(len)];
+            ask_reader(asked, bytes, numbers, answer)
         }
-        _ => return false,
+        _ => false,
     }
-    true
 }

@@ -5,7 +5,7 @@ ghost use Rattle.std.specs.Option.{option_copied};
 ghost use Rattle.fl_types.specs.Refusals.{Answers};
 ghost use Rattle.fl_bitpacking.specs.Words.{words_as};
 ghost use Rattle.fl_array.specs.BitPackedArrays.{BitPackedArrayParts, tree_of_bitpacked};
-ghost use Rattle.fl_array.specs.BitPackedFields.{bits_of_validity, boundaries_in, fields_of, whole_reader};
+ghost use Rattle.fl_array.specs.BitPackedFields.{bits_of_validity, boundaries_in, fields_of, global_width_in, whole_reader};
 ghost use Rattle.fl_array.specs.Trees.{column};
 ghost use Rattle.fl_array.specs.Views.{widths_of_view};
 
@@ -14,9 +14,7 @@ use crate::bitpacking::data::BitPackedData;
 use crate::bitpacking::{BitPackedArray, BitWidthsView};
 use bytes::Bytes;
 use fastlanes::FL_CHUNK_SIZE;
-use fl_bitpacking::unpack_iter::{
-    BitPacked, BitPackingStrategy, BitUnpackedChunks, UnpackedChunks,
-};
+use fl_bitpacking::unpack_iter::{BitPacked, BitUnpackedChunks, PackedSource};
 use fl_bitpacking::words::packed_words;
 use fl_column::{BitList, DType, FastLanesError, PhysicalPType, PrimitiveArray, Validity};
 use fl_patches::Patches;
@@ -167,18 +165,34 @@ impl BitPackedArrayExt for BitPackedArray {
         scratch: &'a mut [T; FL_CHUNK_SIZE],
     ) -> Result<BitUnpackedChunks<'a, T>, FastLanesError> {
         self.prove_well_formed();
-        let parts = self.packed_data();
+        let len = self.packed_data().len();
         match BitPackedArray::bit_widths(self) {
-            BitWidthsView::Global(width) => UnpackedChunks::try_new_with_strategy(
-                BitPackingStrategy,
-                parts.packed().as_slice(),
-                usize::from(width),
-                parts.offset(),
-                parts.len(),
-                scratch,
-            ),
+            BitWidthsView::Global(_) => BitUnpackedChunks::try_new(self, len, scratch),
             BitWidthsView::Blocked(_) => Err(FastLanesError::NotGlobal),
         }
+    }
+}
+
+impl PackedSource for BitPackedArray {
+    ghost bytes = { λ a. a.parts.packed };
+
+    ghost width = { λ a. global_width_in a.widths };
+
+    ghost first = { λ a. a.parts.offset };
+
+    fn packed_bytes(&self) -> &[u8] {
+        self.packed_data().packed().as_slice()
+    }
+
+    fn global_width(&self) -> Option<u8> {
+        match BitPackedArray::bit_widths(self) {
+            BitWidthsView::Global(width) => Some(width),
+            BitWidthsView::Blocked(_) => None,
+        }
+    }
+
+    fn first_position(&self) -> usize {
+        self.packed_data().offset()
     }
 }
 

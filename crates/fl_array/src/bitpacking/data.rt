@@ -180,8 +180,8 @@ impl BitPackedData {
         self.patches_offset
     }
 
-    /// A reader of this many items of a column of this type. The integer type is `T`, and the width of the
-    /// blocks is at most its bits.
+    /// A reader of this many items of a column of this type. Where it is an integer type, that is `T`, and the
+    /// width of the blocks is at most its bits.
     ///
     /// # Errors
     /// `NotInteger` where the column is of booleans, else as `BitUnpackedChunks::try_new`.
@@ -192,7 +192,7 @@ impl BitPackedData {
         scratch: &'a mut [T; FL_CHUNK_SIZE],
     ) -> Result<BitUnpackedChunks<'a, T>, FastLanesError>
         requires typed { IfOk (ptype_in dtype.now) (λ ptype. ptype ≡ T.PTYPE) }
-        requires width { IfSome self.now.bit_width (λ width. width ≤ bits_of_type T.PTYPE) }
+        requires width { IfOk (ptype_in dtype.now) (λ _. IfSome self.now.bit_width (λ width. width ≤ bits_of_type T.PTYPE)) }
         ensures { result ≡ typed_reader (ptype_in dtype.now) self.now len }
     {
         match self.ptype(dtype) {

@@ -1,4 +1,5 @@
 use Rattle.std.proofs.Common.{refl, sym}
+use Rattle.fl_bitpacking.specs.BlockLends.{blocks_left}
 use Rattle.fl_bitpacking.proofs.Lent.{next_there}
 use Rattle.fl_bitpacking.proofs.bit_unpack_iterator.BitUnpackIterator.next.Goals as goal
 
@@ -7,6 +8,6 @@ returns-then-has_next g c = (
   refl,
   record {
     after = tt;
-    items = next_there g.T.NativePType.PTYPE c.args.self.now _ (sym c.if-has_next.ensures) c.unpack_block.ensures.items;
+    items = next_there g.T.NativePType.PTYPE (blocks_left c.args.self.now) _ (sym c.if-has_next.ensures) c.unpack_block.ensures.items;
   },
 )

@@ -1,8 +1,7 @@
-use Rattle.std.proofs.Common.{◌≡◌, Some, ◌+◌, ◌-◌, ◌*◌, map, take, drop, rules, refl, ap, sym, arith}
-use Rattle.fl_bitpacking.specs.Blocks.{global_blocks, item_of_blocks}
+use Rattle.std.proofs.Common.{◌≡◌, Some, ◌+◌, ◌-◌, ◌*◌, ◌∙◌, map, take, drop, rules, refl, ap, sym, arith}
+use Rattle.fl_bitpacking.specs.Blocks.{global_blocks, item_of_blocks, value_at}
 use Rattle.fl_bitpacking.specs.WholeBlocks.{block_items_at}
 use Rattle.fl_bitpacking.specs.Readers.{Reader}
-use Rattle.fl_bitpacking.proofs.Joined.{item_read}
 use Rattle.fl_bitpacking.proofs.Slices.{integers_between}
 use Rattle.fl_bitpacking.proofs.unpack_iter.UnpackedChunks.lend_block.Goals as goal
 
@@ -15,14 +14,14 @@ returns g c =
     let j = c.args.j in
     let from = c.args.span.from in
     let to = c.args.span.to in
-    let whole = c.unpack_chunk.ensures.whole in
+    let whole = c.unpack_at.ensures.whole in
     let order = c.requires.order in
     let within = c.requires.within in
     let width_is : width ≡ c.args.self.now.bit_width = ap (λ (r : Reader). r.bit_width) c.self.view_is in
     let packed_is : packed ≡ c.args.self.now.packed = ap (λ (r : Reader). r.packed) c.self.view_is in
-    let read : map value (take (to - from) (drop from c.unpack_chunk.new.dst)) ≡ block_items_at ptype width packed (1024 * j + from) (to - from) =
-    integers_between value (λ k. item_of_blocks ptype (global_blocks width) packed (1024 * j + from + k)) c.unpack_chunk.new.dst from to order (omega arith)
-    (λ k h. item_read ptype (global_blocks width) packed c.global_block-block.result.now j _ width (from + k) (1024 * j + from + k) _ refl refl c.global_block-block.ensures.bytes (omega arith) (omega arith) (c.unpack_chunk.ensures.items (from + k) (omega arith))) in (
+    let read : map value (take (to - from) (drop from c.unpack_at.new.items)) ≡ block_items_at ptype width packed (1024 * j + from) (to - from) =
+    integers_between value (λ k. item_of_blocks ptype (global_blocks width) packed (1024 * j + from + k)) c.unpack_at.new.items from to order (omega arith)
+    (λ k h. (let place : 1024 * j + from + k ≡ 1024 * j + (from + k) = omega arith in rw place (c.unpack_at.ensures.items (from + k) (omega arith)))) in (
       (refl, λ w. search rules),
       record {
         after = tt;
