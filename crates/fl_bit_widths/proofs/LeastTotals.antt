@@ -130,7 +130,7 @@ least_exists f (suc n) =
     ]
 
 -- the best width is one of the histogram's
-best_within : (t : PType) (entries : List ℕ) → 0 < length entries → best_width t entries < length entries
+pub best_within : (t : PType) (entries : List ℕ) → 0 < length entries → best_width t entries < length entries
 best_within t entries some =
     let found = least_exists (cost_of t entries) (length entries - 1) in
     let all : length entries - 1 + 1 ≡ length entries = omega arith in

@@ -1,6 +1,6 @@
 //! The width of least cost.
 
-ghost use Rattle.std.specs.Prelude.{◌≡◌, ◌+◌, ◌*◌, ◌^◌, ◌<◌, ◌≤◌, length, sum};
+ghost use Rattle.std.specs.Prelude.{IfOk, ◌≡◌, ◌+◌, ◌*◌, ◌^◌, ◌<◌, ◌≤◌, length, sum};
 ghost use Rattle.std.specs.Int.{div_ceil};
 ghost use Rattle.fl_bit_widths.specs.Costs.{best_width, choose_width, count_above, exception_bytes};
 
@@ -75,14 +75,16 @@ pub(crate) fn least_cost(ptype: PType, histogram: &[usize]) -> u8
     best
 }
 
-/// The smallest width at which the items of a histogram take fewest bytes, 0 without entries. At width
+/// The smallest width at which the items of a histogram take fewest bytes, below the number of entries, or 0
+/// without entries. At width
 /// `w` the packed items take `w` bits each, rounded up to bytes together, and each item with more
 /// bits takes 5, 6, 8 or 12 bytes more, for 8, 16, 32 or 64 bits of the type.
 ///
 /// # Errors
 /// `TooManyWidths` where the histogram has more than 255 entries.
 pub fn find_best_bit_width(ptype: PType, histogram: &[usize]) -> Result<u8, FastLanesError>
-    ensures { result ≡ choose_width ptype histogram.now }
+    ensures width { result ≡ choose_width ptype histogram.now }
+    ensures within { IfOk result (λ width. 0 < length histogram.now → width < length histogram.now) }
 {
     if histogram.len() > 255 {
         return Err(FastLanesError::TooManyWidths);
