@@ -2,7 +2,7 @@
 use Rattle.std.proofs.Common.{◌≡◌, ◌∙◌, Result, Ok, Err, sym, ap, subst}
 use Rattle.std.specs.Prelude.{IfOk}
 use Rattle.fl_types.specs.declared.error.FastLanesError.{FastLanesError}
-use Rattle.fl_types.specs.Refusals.{Answers, Refuses}
+use Rattle.fl_types.specs.Refusals.{Answers}
 use Rattle.fl_types.proofs.RefusalLaws.{Refuses_map}
 use Rattle.fl_column.specs.Columns.{Column}
 use Rattle.fl_array.specs.Trees.{Tree, column}

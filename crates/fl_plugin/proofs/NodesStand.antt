@@ -1,6 +1,6 @@
 -- What is read of a node stands for the node's column.
-use Rattle.std.proofs.Common.{◌≡◌, ◌∙◌, ℕ, ℤ, pos, zero, suc, ◌+◌, ◌-◌, ◌<◌, ◌/◌, Bool, true, false, cond, eqb, List, [], ◌∷◌, ◌++◌, length, map, replicate, get_or, slice_get, Option, Some, None, Result, Ok, Err, refl, sym, ap, subst, arith}
-use Rattle.std.specs.Prelude.{◌==◌, ◌&&◌, ◌||◌, IfOk, IsTrue, if◌then◌else◌, option_map, unwrap_or}
+use Rattle.std.proofs.Common.{◌≡◌, ◌∙◌, ℕ, ℤ, pos, zero, suc, ◌+◌, ◌-◌, ◌<◌, ◌/◌, Bool, true, false, cond, List, [], ◌∷◌, ◌++◌, length, map, replicate, get_or, slice_get, Option, Some, None, Result, Ok, Err, refl, sym, ap, subst, arith}
+use Rattle.std.specs.Prelude.{◌==◌, ◌&&◌, ◌||◌, IfOk, if◌then◌else◌, option_map, unwrap_or}
 use Rattle.std.specs.Ordering.{int_eq}
 use Rattle.std.proofs.lemmas.Bool.{eqb-true}
 use Rattle.std.proofs.lemmas.List.{get_or-map, get_or-replicate, length-append, length-map, length-replicate}
@@ -19,16 +19,16 @@ use Rattle.fl_types.specs.Refusals.{Answers}
 use Rattle.fl_types.specs.Bits.{table}
 use Rattle.fl_types.specs.Types.{integer_type, is_integer, is_nullable}
 use Rattle.fl_types.specs.Validities.{covers, full_validity, is_valid_at, items_of, nullability_of}
-use Rattle.fl_types.specs.Values.{ScalarParts, bool_number}
+use Rattle.fl_types.specs.Values.{bool_number}
 use Rattle.fl_column.specs.Chunks.{chunk_count}
 use Rattle.fl_column.specs.Columns.{Column, PrimitiveParts, integers_in, new_bools, new_constant, new_primitive, numbers_of, ptype_of_column}
 use Rattle.fl_column.proofs.ItemLaws.{get_or-items_of, length-items_of}
-use Rattle.fl_patches.specs.PatchMaps.{PatchesParts, new_patches, patched_in, rank_of, refusal_of}
+use Rattle.fl_patches.specs.PatchMaps.{PatchesParts, patched_in, rank_of, refusal_of}
 use Rattle.fl_codec.specs.Deltas.{delta_integer}
 use Rattle.fl_codec.specs.FoRColumns.{chunked_for, global_for, plus_reference}
 use Rattle.fl_codec.specs.RunColumns.{run_item}
 use Rattle.fl_bitpacking.specs.Blocks.{Blocks, boundary_blocks, global_blocks, item_of_blocks}
-use Rattle.fl_bitpacking.specs.Columns.{BitPackedParts, column_of_packed, packed_item}
+use Rattle.fl_bitpacking.specs.Columns.{BitPackedParts, packed_item}
 use Rattle.fl_bitpacking.proofs.Tables.{get_or-table, length-table}
 use Rattle.fl_metadata.specs.Schemas.{◌>>=◌}
 use Rattle.fl_metadata.specs.declared.patches.PatchesMetadata.{PatchesMetadata}
@@ -36,7 +36,7 @@ use Rattle.fl_array.specs.Trees.{DeltaParts, Tree, Window, column}
 use Rattle.fl_array.specs.Trees as tree
 use Rattle.fl_array.specs.BitPackedArrays.{BitWidthsParts, BlockBoundaries, GlobalWidth, bit_widths_refusal, blocks_of_widths, new_bitpacked, tree_of_bitpacked}
 use Rattle.fl_array.specs.DeltaArrays.{new_delta, tree_of_delta}
-use Rattle.fl_array.specs.FoRArrays.{ChunkReferences, FoRReferencesParts, GlobalReference, for_tree, new_for, new_for_chunked, references_of, tree_of_for}
+use Rattle.fl_array.specs.FoRArrays.{GlobalReference, for_tree, new_for, new_for_chunked, references_of, tree_of_for}
 use Rattle.fl_array.specs.RLEArrays.{new_rle, tree_of_rle}
 use Rattle.fl_array.specs.Reads.{integer_column}
 use Rattle.fl_serialized.specs.Nodes.{And, Head, NoMore, Node, Nodes, Of, head_of}
@@ -45,13 +45,13 @@ use Rattle.fl_nodes.specs.declared.messages.Message.TheVariants as says
 use Rattle.fl_nodes.specs.declared.shapes.Shape.{Shape}
 use Rattle.fl_nodes.specs.Checks.{buffers_refusal, checked, count_refusal, message_of, node_refusal, own_bytes}
 use Rattle.fl_nodes.specs.Leaves.{bit_of_bytes, bits_of_bytes, slot_at, slots_of_bytes}
-use Rattle.fl_nodes.specs.Shapes.{back_shapes, child_count, child_shapes, front_shapes, has_validity, same_dtype, takes_validity, validity_shape, validity_shapes}
-use Rattle.fl_plugin.specs.NodeColumns.{HasColumn, StandForEach, StandsFor, child_column, is_valid_by, item_said, patch_of, shape_of, unless_null, validity_column}
+use Rattle.fl_nodes.specs.Shapes.{back_shapes, child_count, child_shapes, front_shapes, has_validity, same_dtype, takes_validity, validity_shape}
+use Rattle.fl_plugin.specs.NodeColumns.{HasColumn, StandForEach, StandsFor, child_column, is_valid_by, item_said, patch_of, shape_of, validity_column}
 use Rattle.fl_plugin.specs.Plain.{decoded, plain_of}
 use Rattle.fl_plugin.specs.ReadShapes.{IsOfShape}
-use Rattle.fl_plugin.specs.Reading.{Child, bitpacked_over, blocked_over, chunk_offsets_in, decoded_offsets, delta_over, fitting, for_chunked_over, for_over, found_children, made, parts_over, patches_found, patches_over, plain_patches, read_children, read_node, reading, rle_over, scalar_over, validity_of, validity_over}
+use Rattle.fl_plugin.specs.Reading.{Child, bitpacked_over, blocked_over, chunk_offsets_in, decoded_offsets, delta_over, fitting, for_chunked_over, for_over, found_children, made, parts_over, patches_found, patches_over, plain_patches, read_children, read_node, reading, rle_over, scalar_over, validity_over}
 use Rattle.fl_plugin.proofs.NestedAgain.{none_otherwise}
-use Rattle.fl_plugin.proofs.ShapesRead.{AllFound, HaveShapes, Says, accepted_is, as_many, children_have, let_through, message_says, or_second, passes, same_ok, shape_read, shapes_read, step}
+use Rattle.fl_plugin.proofs.ShapesRead.{HaveShapes, Says, accepted_is, as_many, children_have, let_through, message_says, passes, same_ok, shape_read, shapes_read, step}
 
 -- ---- children
 -- the column that stands where no child does
