@@ -13,13 +13,13 @@ use Rattle.fl_bitpacking.specs.Blocks.{boundary_array, boundary_blocks}
 use Rattle.fl_bitpacking.specs.Columns.{column_of_packed}
 use Rattle.fl_bitpacking.specs.Refusals.{blocked_refusal}
 use Rattle.fl_bitpacking.proofs.OneWidth.{blocked_accepted, blocked_column}
-use Rattle.fl_array.specs.BitPackedArrays.{BitPackedArrayParts, BlockBoundaries, GlobalWidth, bit_widths_refusal, refusal_of_bitpacked}
+use Rattle.fl_array.specs.BitPackedArrays.{BitPackedArrayParts, BitWidthsParts, BlockBoundaries, GlobalWidth, bit_widths_refusal, bitpacked_tree, refusal_of_bitpacked, tree_of_bitpacked}
 use Rattle.fl_array.specs.DeltaArrays.{DeltaArrayParts, new_delta, refusal_of_delta, tree_of_delta}
 use Rattle.fl_array.specs.FoRArrays.{ChunkReferences, FoRArrayParts, for_refusal, has_no_constant, offset_of_references, refusal_of_for}
 use Rattle.fl_array.specs.Reads.{constant_in}
 use Rattle.fl_array.specs.RLEArrays.{RLEArrayParts, refusal_of_rle}
 use Rattle.fl_array.specs.Kinds.{kind}
-use Rattle.fl_array.specs.ToBlocked.{has_global_bitpacked, to_blocked_tree}
+use Rattle.fl_array.specs.ToBlocked.{blocked_widths, has_global_bitpacked, to_blocked_shallow, to_blocked_tree}
 use Rattle.fl_array.specs.Trees.{Tree, column, column_of_delta, column_of_rle}
 use Rattle.fl_array.proofs.Refused.{accepted_is}
 use Rattle.fl_array.proofs.SliceLaws.{two_parts, three_parts}
@@ -106,3 +106,11 @@ to_blocked_twice (tree.FoRGlobal encoded reference) = ap (λ t. tree.FoRGlobal t
 to_blocked_twice (tree.FoRChunked encoded references offset) = two_parts (λ t u. tree.FoRChunked t u offset) (to_blocked_twice encoded) (to_blocked_twice references)
 to_blocked_twice (tree.Delta bases deltas parts) = two_parts (λ t u. tree.Delta t u parts) (to_blocked_twice bases) (to_blocked_twice deltas)
 to_blocked_twice (tree.RLE values indices offsets window) = three_parts (λ t u v. tree.RLE t u v window) (to_blocked_twice values) (to_blocked_twice indices) (to_blocked_twice offsets)
+
+-- ---- the array alone, and not those in it
+shallow_widths : (a : BitPackedArrayParts) (widths : BitWidthsParts) → a.widths ≡ widths → column (bitpacked_tree a.parts (blocked_widths a.parts widths)) ≡ column (bitpacked_tree a.parts widths)
+shallow_widths a (GlobalWidth width) e = blocked_column a.parts width
+shallow_widths a (BlockBoundaries boundaries) e = refl
+
+pub shallow_answers : (a : BitPackedArrayParts) (r : Result BitPackedArrayParts FastLanesError) → Answers (λ b. b) r (Ok (to_blocked_shallow a)) → Answers (λ b. column (tree_of_bitpacked b)) r (Ok (column (tree_of_bitpacked a)))
+shallow_answers a r h = Answers_view (λ b. column (tree_of_bitpacked b)) r (to_blocked_shallow a) (column (tree_of_bitpacked a)) (shallow_widths a a.widths refl) h

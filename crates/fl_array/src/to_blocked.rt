@@ -8,6 +8,7 @@ ghost use Rattle.fl_array.specs.DeltaArrays.{tree_of_delta};
 ghost use Rattle.fl_array.specs.FoRArrays.{ChunkReferences, GlobalReference, offset_of_references, tree_of_for};
 ghost use Rattle.fl_array.specs.RLEArrays.{tree_of_rle};
 ghost use Rattle.fl_array.specs.ToBlocked.{to_blocked_shallow, to_blocked_tree};
+ghost use Rattle.fl_array.specs.Trees.{column};
 
 use crate::array::{ArrayRef, IntoArray};
 use crate::bitpacking::{BitPacked, BitPackedArray, BitWidthsView};
@@ -17,25 +18,34 @@ use crate::rle::{RLE, RLEArray};
 use fl_column::{FastLanesError, Scalar};
 use std::alloc::Global;
 
+/// The same array with a width for each block.
+fn blocked(alloc: Global, array: &BitPackedArray) -> Result<BitPackedArray, FastLanesError>
+    ensures { Answers (λ a. a) result (Ok (to_blocked_shallow array.now)) }
+{
+    match array.bit_widths() {
+        BitWidthsView::Global(width) => array.between_boundaries(alloc, width),
+        BitWidthsView::Blocked(boundaries) => {
+            let boundaries = boundaries.try_clone(alloc)?;
+            array.clone_blocked(alloc, boundaries)
+        }
+    }
+}
+
 impl BitPacked {
     /// The same array with a width for each block: its packed bytes, offset, length, type, patches and validity
     /// stay. An array that has such widths comes back as a copy.
     ///
     /// # Errors
     /// None but `OutOfMemory`.
+    #[tactic(auto, using(crate::proofs::ToBlockedLaws::shallow_answers))]
     pub fn to_blocked(
         alloc: Global,
         array: &BitPackedArray,
     ) -> Result<BitPackedArray, FastLanesError>
-        ensures { Answers (λ a. a) result (Ok (to_blocked_shallow array.now)) }
+        ensures parts { Answers (λ a. a) result (Ok (to_blocked_shallow array.now)) }
+        ensures column { Answers (λ a. column (tree_of_bitpacked a)) result (Ok (column (tree_of_bitpacked array.now))) }
     {
-        match array.bit_widths() {
-            BitWidthsView::Global(width) => array.between_boundaries(alloc, width),
-            BitWidthsView::Blocked(boundaries) => {
-                let boundaries = boundaries.try_clone(alloc)?;
-                array.clone_blocked(alloc, boundaries)
-            }
-        }
+        blocked(alloc, array)
     }
 }
 
