@@ -14,3 +14,4 @@ pub mod ShapesRead
 pub mod NodesStand
 pub mod OneColumn
 pub mod Meanings
+mod BlockedIds

@@ -8,3 +8,4 @@ pub mod Firsts
 pub mod Plugins
 pub mod RoundTrip
 pub mod NodeColumns
+pub mod NodeIds

@@ -1,5 +1,7 @@
 //! What holds of every array that is written and read.
 
+mod blocked_nodes;
+
 ghost use Rattle.std.specs.Prelude.{◌≡◌, ◌<◌, ◌^◌, IfOk, IfSome, IsTrue, Ok, length, option_map};
 ghost use Rattle.std.specs.Option.{option_copied};
 ghost use Rattle.std.specs.List.{list_all};
@@ -20,6 +22,7 @@ ghost use Rattle.fl_plugin.specs.NodeColumns.{StandsFor};
 ghost use Rattle.fl_plugin.specs.RoundTrip.{ArePatchesOfTypes, HasFittingInteger, IsReadBack, read_back};
 ghost use Rattle.fl_plugin.specs.Writing.{patches_message};
 
+pub use crate::laws::blocked_nodes::written_blocked;
 use crate::nodes::patches_message;
 use crate::reading::deserialize;
 use crate::views::{ArrayView, view};
