@@ -37,7 +37,7 @@ ghost use Rattle.fl_array.specs.Views.{HasLowerBoundaries, HasSmallerBoundaries,
 use crate::array::ArrayRef;
 pub use crate::bitpacking::bit_packed_array_ext::{BitPackedArrayExt, BitPackedSlots};
 use crate::bitpacking::bitpack_compress::bitpack_encode;
-pub use crate::bitpacking::data::{BitPackedData, equal_data};
+pub use crate::bitpacking::data::BitPackedData;
 use crate::numbers::number_of_scalar;
 use bytes::Bytes;
 use fastlanes::Work;

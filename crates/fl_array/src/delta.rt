@@ -24,7 +24,7 @@ ghost use Rattle.fl_array.specs.Slices.{slice_tree};
 use crate::array::{ArrayRef, IntoArray};
 pub use crate::delta::decoding::delta_decompress;
 pub use crate::delta::delta_array_ext::{DeltaArrayExt, DeltaSlots};
-pub use crate::delta::delta_data::{DeltaData, equal_data};
+pub use crate::delta::delta_data::DeltaData;
 use fastlanes::FL_CHUNK_SIZE;
 use fl_codec::delta::children::{delta_children_refusal, lanes_of_dtype};
 use fl_codec::delta::{delta_compress, delta_decompress as decompress};

@@ -27,7 +27,7 @@ ghost use Rattle.fl_array.specs.EncodedFoR.{encoded_for, encoded_for_chunked};
 use crate::array::ArrayRef;
 pub use crate::for_::for_array_ext::{FoRArrayExt, FoRSlots};
 use crate::for_::for_compress::{for_encode, for_encode_chunked};
-pub use crate::for_::for_data::{FoRData, equal_data};
+pub use crate::for_::for_data::FoRData;
 pub use crate::for_::for_decompress::decompress;
 use fastlanes::FL_CHUNK_SIZE;
 use fl_bitpacking::refusals::positions_refusal;

@@ -28,7 +28,7 @@ use crate::array::{ArrayRef, IntoArray};
 use crate::numbers::number_of_scalar;
 pub use crate::rle::decoding::rle_decompress;
 pub use crate::rle::rle_array_ext::{RLEArrayExt, RLESlots};
-pub use crate::rle::rle_data::{RLEData, equal_data};
+pub use crate::rle::rle_data::RLEData;
 pub use crate::rle::rle_probe::RleProbeState;
 use fastlanes::FL_CHUNK_SIZE;
 use fl_codec::laws::runs_and_back;

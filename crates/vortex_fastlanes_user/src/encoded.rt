@@ -1,4 +1,6 @@
-//! Encoded arrays: what their data are printed as and hashed to.
+//! Encoded arrays: what their data are printed as, when they are equal, and what they are hashed to.
+
+ghost use Rattle.std.specs.Prelude.{◌≡◌, ◌↔◌, IsTrue};
 
 use std::alloc::Global;
 use std::collections::HashMap;
@@ -40,6 +42,34 @@ fn data_are_printed(rt: HostRuntime) {
     assert!(rt; is_text(for_text(alloc), "global_reference: -5i32, offset: 0"));
 }
 
+/// Whether two delta arrays keep the same: `==` is true exactly there.
+fn are_equal_deltas(a: &DeltaData, b: &DeltaData) -> bool
+    ensures { IsTrue result ↔ (a.now ≡ b.now) }
+{
+    a == b
+}
+
+/// The same of run-length encoded arrays.
+fn are_equal_runs(a: &RLEData, b: &RLEData) -> bool
+    ensures { IsTrue result ↔ (a.now ≡ b.now) }
+{
+    a == b
+}
+
+/// The same of FoR arrays.
+fn are_equal_references(a: &FoRData, b: &FoRData) -> bool
+    ensures { IsTrue result ↔ (a.now ≡ b.now) }
+{
+    a == b
+}
+
+/// The same of bit-packed arrays.
+fn are_equal_blocks(a: &BitPackedData, b: &BitPackedData) -> bool
+    ensures { IsTrue result ↔ (a.now ≡ b.now) }
+{
+    a == b
+}
+
 /// How many keys two equal data and a third one are.
 fn keys(alloc: Global) -> Result<usize, FastLanesError> {
     let mut offsets: HashMap<DeltaData, u8> = HashMap::new(alloc);
@@ -76,6 +106,38 @@ fn packed_keys(alloc: Global) -> Result<usize, FastLanesError> {
         widths.insert(BitPackedArrayExt::data(&array)?, 0)?;
     }
     Ok(widths.len())
+}
+
+/// Whether data at these offsets are equal, of a delta array and of a run-length encoded one.
+fn equal_at(a: usize, b: usize) -> Result<(bool, bool), FastLanesError> {
+    let deltas = are_equal_deltas(&DeltaData::try_new(a)?, &DeltaData::try_new(b)?);
+    let runs = are_equal_runs(&RLEData::try_new(a)?, &RLEData::try_new(b)?);
+    Ok((deltas, runs))
+}
+
+/// Whether the data of two arrays of one item are equal, of FoR arrays and of bit-packed ones of width 7.
+fn equal_of(alloc: Global, a: i32, b: i32) -> Result<(bool, bool), FastLanesError> {
+    let (a, b) = (column(alloc, &[a])?, column(alloc, &[b])?);
+    let (less, other) = (FoR::encode(alloc, &a)?, FoR::encode(alloc, &b)?);
+    let references = are_equal_references(&FoRArrayExt::data(&less), &FoRArrayExt::data(&other));
+    let (packed, second) = (
+        bitpack_encode(alloc, &a, 7, None)?,
+        bitpack_encode(alloc, &b, 7, None)?,
+    );
+    let blocks = are_equal_blocks(
+        &BitPackedArrayExt::data(&packed)?,
+        &BitPackedArrayExt::data(&second)?,
+    );
+    Ok((references, blocks))
+}
+
+#[test]
+fn data_are_equal_by_their_fields(rt: HostRuntime) {
+    let alloc = rt.alloc();
+    assert!(rt; equal_at(7, 7) == Ok((true, true)));
+    assert!(rt; equal_at(7, 8) == Ok((false, false)));
+    assert!(rt; equal_of(alloc, 5, 5) == Ok((true, true)));
+    assert!(rt; equal_of(alloc, 5, 6) == Ok((false, false)));
 }
 
 #[test]

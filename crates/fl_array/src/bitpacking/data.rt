@@ -1,6 +1,6 @@
 //! What a bit-packed array keeps beside its children.
 
-ghost use Rattle.std.specs.Prelude.{◌≡◌, ◌≤◌, ◌<◌, ◌↔◌, IfOk, IfSome, IsTrue, None, Ok, Some, map, option_map};
+ghost use Rattle.std.specs.Prelude.{◌≡◌, ◌≤◌, ◌<◌, IfOk, IfSome, None, Ok, Some, map, option_map};
 ghost use Rattle.std.specs.Option.{option_copied};
 ghost use Rattle.fl_types.specs.Integers.{bits_of_type};
 ghost use Rattle.fl_types.specs.Refusals.{Answers};
@@ -255,11 +255,4 @@ impl fmt::Display for BitPackedData {
         let (width, offset) = (WidthText(self.bit_width), self.offset);
         write!(f, "{width}offset: {offset}")
     }
-}
-
-/// `a == b`: true exactly where their packed bytes, offsets, widths and patches' offsets are equal.
-pub fn equal_data(a: &BitPackedData, b: &BitPackedData) -> bool
-    ensures { IsTrue result ↔ (a.now ≡ b.now) }
-{
-    a == b
 }

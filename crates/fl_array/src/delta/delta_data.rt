@@ -1,6 +1,6 @@
 //! What a delta array keeps beside its children.
 
-ghost use Rattle.std.specs.Prelude.{◌≡◌, ◌<◌, ◌↔◌, IsTrue, Some};
+ghost use Rattle.std.specs.Prelude.{◌≡◌, ◌<◌, Some};
 ghost use Rattle.fl_array.specs.OffsetData.{new_offset, offset_text};
 
 use fastlanes::FL_CHUNK_SIZE;
@@ -67,11 +67,4 @@ impl fmt::Display for DeltaData {
         let offset = self.offset;
         write!(f, "offset: {offset}")
     }
-}
-
-/// `a == b`: true exactly where their offsets are equal.
-pub fn equal_data(a: &DeltaData, b: &DeltaData) -> bool
-    ensures { IsTrue result ↔ (a.now ≡ b.now) }
-{
-    a == b
 }

@@ -1,6 +1,6 @@
 //! What a FoR array keeps beside its children.
 
-ghost use Rattle.std.specs.Prelude.{◌≡◌, ◌↔◌, IfOk, IsTrue, Ok, Some};
+ghost use Rattle.std.specs.Prelude.{◌≡◌, IfOk, Ok, Some};
 ghost use Rattle.fl_types.specs.Refusals.{Answers};
 ghost use Rattle.fl_column.specs.Columns.{column_of_primitive};
 ghost use Rattle.fl_array.specs.EncodedFoR.{encoded_for, encoded_for_chunked};
@@ -140,11 +140,4 @@ impl fmt::Display for FoRData {
         let (reference, offset) = (ReferenceText(self.global_reference), self.offset);
         write!(f, "{reference}offset: {offset}")
     }
-}
-
-/// `a == b`: true exactly where their offsets and their references are equal.
-pub fn equal_data(a: &FoRData, b: &FoRData) -> bool
-    ensures { IsTrue result ↔ (a.now ≡ b.now) }
-{
-    a == b
 }

@@ -1,6 +1,6 @@
 //! What a run-length encoded array keeps beside its children.
 
-ghost use Rattle.std.specs.Prelude.{◌≡◌, ◌<◌, ◌↔◌, IfOk, IsTrue, Ok, Some};
+ghost use Rattle.std.specs.Prelude.{◌≡◌, ◌<◌, IfOk, Ok, Some};
 ghost use Rattle.fl_types.specs.Refusals.{Answers};
 ghost use Rattle.fl_column.specs.Columns.{column_of_primitive};
 ghost use Rattle.fl_array.specs.RLEArrays.{encoded_rle, tree_of_rle};
@@ -81,11 +81,4 @@ impl fmt::Display for RLEData {
         let offset = self.offset;
         write!(f, "offset: {offset}")
     }
-}
-
-/// `a == b`: true exactly where their offsets are equal.
-pub fn equal_data(a: &RLEData, b: &RLEData) -> bool
-    ensures { IsTrue result ↔ (a.now ≡ b.now) }
-{
-    a == b
 }
