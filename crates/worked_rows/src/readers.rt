@@ -58,28 +58,84 @@ fn lent<T: BitPacked>(items: &UnpackedItems<'_, T>, answer: &mut Text) {
     }
 }
 
-/// Adds the items of whole blocks, at most five.
-fn whole<T: BitPacked>(chunks: &mut BitUnpackedChunks<'_, T>, answer: &mut Text) {
-    let mut blocks = chunks.full_chunks();
-    for _ in 0..5usize {
-        if let Some(items) = blocks.next() {
-            shown::integers(answer, items);
+/// Types of which a reader's whole blocks are asked. Each is asked by itself, since the prover doesn't know how much
+/// memory an iterator over blocks of any type takes.
+pub(crate) trait WholeBlocks: BitPacked {
+    /// Adds the items of whole blocks, at most five.
+    fn whole(chunks: &mut BitUnpackedChunks<'_, Self>, answer: &mut Text);
+}
+
+macro_rules! add_whole {
+    ($chunks:ident, $answer:ident) => {{
+        let mut blocks = $chunks.full_chunks();
+        for _ in 0..5usize {
+            if let Some(items) = blocks.next() {
+                shown::integers($answer, items);
+            }
         }
+    }};
+}
+
+impl WholeBlocks for u8 {
+    fn whole(chunks: &mut BitUnpackedChunks<'_, u8>, answer: &mut Text) {
+        add_whole!(chunks, answer)
+    }
+}
+
+impl WholeBlocks for u16 {
+    fn whole(chunks: &mut BitUnpackedChunks<'_, u16>, answer: &mut Text) {
+        add_whole!(chunks, answer)
+    }
+}
+
+impl WholeBlocks for u32 {
+    fn whole(chunks: &mut BitUnpackedChunks<'_, u32>, answer: &mut Text) {
+        add_whole!(chunks, answer)
+    }
+}
+
+impl WholeBlocks for u64 {
+    fn whole(chunks: &mut BitUnpackedChunks<'_, u64>, answer: &mut Text) {
+        add_whole!(chunks, answer)
+    }
+}
+
+impl WholeBlocks for i8 {
+    fn whole(chunks: &mut BitUnpackedChunks<'_, i8>, answer: &mut Text) {
+        add_whole!(chunks, answer)
+    }
+}
+
+impl WholeBlocks for i16 {
+    fn whole(chunks: &mut BitUnpackedChunks<'_, i16>, answer: &mut Text) {
+        add_whole!(chunks, answer)
+    }
+}
+
+impl WholeBlocks for i32 {
+    fn whole(chunks: &mut BitUnpackedChunks<'_, i32>, answer: &mut Text) {
+        add_whole!(chunks, answer)
+    }
+}
+
+impl WholeBlocks for i64 {
+    fn whole(chunks: &mut BitUnpackedChunks<'_, i64>, answer: &mut Text) {
+        add_whole!(chunks, answer)
     }
 }
 
 /// Adds the items of the first block, of the last one, and of whole blocks.
-fn parts<T: BitPacked>(chunks: &mut BitUnpackedChunks<'_, T>, answer: &mut Text) {
+fn parts<T: WholeBlocks>(chunks: &mut BitUnpackedChunks<'_, T>, answer: &mut Text) {
     answer.word("first");
     lent(&chunks.initial(), answer);
     answer.word("last");
     lent(&chunks.trailer(), answer);
     answer.word("whole");
-    whole(chunks, answer);
+    T::whole(chunks, answer);
 }
 
 /// Adds the parts that a reader lends, and those that it lends at a second call.
-pub(crate) fn lend_twice<T: BitPacked>(chunks: &mut BitUnpackedChunks<'_, T>, answer: &mut Text) {
+pub(crate) fn lend_twice<T: WholeBlocks>(chunks: &mut BitUnpackedChunks<'_, T>, answer: &mut Text) {
     parts(chunks, answer);
     answer.word("again");
     parts(chunks, answer);
@@ -96,7 +152,7 @@ pub(crate) fn fits<T: BitPacked>(data: &BitPackedData) -> bool
 }
 
 /// Adds the parts that a reader of this many items lends.
-pub(crate) fn lend<T: BitPacked>(data: &BitPackedData, len: usize, answer: &mut Text) {
+pub(crate) fn lend<T: WholeBlocks>(data: &BitPackedData, len: usize, answer: &mut Text) {
     T::prove_fits_in_memory();
     if fits::<T>(data) {
         let mut scratch = [T::zero(); FL_CHUNK_SIZE];

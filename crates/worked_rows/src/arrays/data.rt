@@ -6,6 +6,7 @@ ghost use Rattle.fl_array.specs.BitPackedFields.{ptype_in};
 
 use crate::columns::{count, dtype_of};
 use crate::packing::width_of;
+use crate::readers::WholeBlocks;
 use crate::text::Text;
 use crate::{readers, shown};
 use fl_types::match_each_integer_ptype;
@@ -57,7 +58,7 @@ fn ptype(data: &BitPackedData, dtype: DType, answer: &mut Text) {
 }
 
 /// Adds what a reader by the array lends.
-fn lend_by_array<T: BitPacked>(array: &BitPackedArray, answer: &mut Text)
+fn lend_by_array<T: WholeBlocks>(array: &BitPackedArray, answer: &mut Text)
     requires { array.now.parts.ptype ≡ T.PTYPE }
 {
     T::prove_fits_in_memory();
@@ -80,7 +81,7 @@ fn read_as<T: BitPacked>(is_bool: bool) -> DType
 }
 
 /// Adds what a reader by the data of a column of this type lends.
-fn lend_by_data<T: BitPacked>(data: &BitPackedData, len: usize, dtype: DType, answer: &mut Text)
+fn lend_by_data<T: WholeBlocks>(data: &BitPackedData, len: usize, dtype: DType, answer: &mut Text)
     requires { IfOk (ptype_in dtype) (λ ptype. ptype ≡ T.PTYPE) }
 {
     T::prove_fits_in_memory();
@@ -94,7 +95,7 @@ fn lend_by_data<T: BitPacked>(data: &BitPackedData, len: usize, dtype: DType, an
 }
 
 /// Adds what a reader of the array's blocks lends: by its data, by these with a column's type, or by the array.
-fn lend<T: BitPacked>(array: &BitPackedArray, data: &BitPackedData, by: &str, answer: &mut Text)
+fn lend<T: WholeBlocks>(array: &BitPackedArray, data: &BitPackedData, by: &str, answer: &mut Text)
     requires { array.now.parts.ptype ≡ T.PTYPE }
 {
     match by {
