@@ -87,18 +87,31 @@ fn add_range(items: &mut Items, first: &str, rest: &str) -> Result<(), FastLanes
     items.rise(first, steps(first, number(end), step), by)
 }
 
+/// Puts integers that rise, or nulls, in place of items at rising places.
+fn replace_by(
+    items: &mut Items,
+    start: usize,
+    step: usize,
+    first: i128,
+    rise: i128,
+    is_valid: bool,
+) {
+    let mut integer = first;
+    for place in start..items.integers.len() {
+        if (place - start).checked_rem(step) == Some(0) {
+            items.put(place, integer, is_valid);
+            integer = integer.saturating_add(rise);
+        }
+    }
+}
+
 /// Replaces items: `@1/9=7/2` puts 7, 9, 11 and so on in place of each ninth item from item 1 on, `@1/9=null` nulls.
 fn replace(items: &mut Items, places: &str, given: &str) {
     let (start, step) = places.split_once('/').unwrap_or((places, "1"));
     let (first, rise) = given.split_once('/').unwrap_or((given, "0"));
-    let (start, step, rise) = (count(start), count(step), number(rise));
-    let mut integer = number(first);
-    for place in start..items.integers.len() {
-        if (place - start).checked_rem(step) == Some(0) {
-            items.put(place, integer, given != "null");
-            integer = integer.saturating_add(rise);
-        }
-    }
+    let is_valid = !matches!(given, "null");
+    let (first, rise) = (number(first), number(rise));
+    replace_by(items, count(start), count(step), first, rise, is_valid);
 }
 
 /// Adds an item: an integer, `null`, or a null over an integer in brackets.
