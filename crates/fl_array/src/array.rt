@@ -74,7 +74,7 @@ impl Model for ArrayRef {
 
     ghost coded = { coded_tree };
 
-    ghost use Rattle.fl_array.specs.Shown.{tree_of};
+    ghost use Rattle.fl_array.specs.StoredParts.{tree_of};
 
     ghost view = { λ a. tree_of a.node };
 

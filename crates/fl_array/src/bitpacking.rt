@@ -31,7 +31,7 @@ ghost use Rattle.fl_array.specs.Reads.{IsValidityOf, integer_column, primitive_i
 ghost use Rattle.fl_array.specs.Slices.{slice_tree};
 ghost use Rattle.fl_array.specs.EncodedBitPacked.{IsEncodedAt, encode_refusal};
 ghost use Rattle.fl_array.specs.OwnedParts.{owned_parts};
-ghost use Rattle.fl_array.specs.Shown.{stored_widths};
+ghost use Rattle.fl_array.specs.StoredParts.{stored_widths};
 ghost use Rattle.fl_array.specs.Views.{HasLowerBoundaries, HasSmallerBoundaries, widths_of_view, widths_of_owned};
 
 use crate::array::ArrayRef;
@@ -99,7 +99,7 @@ impl Model for BitPackedArray {
 
     ghost coded = { coded_bitpacked };
 
-    ghost use Rattle.fl_array.specs.Shown.{stored_widths};
+    ghost use Rattle.fl_array.specs.StoredParts.{stored_widths};
 
     ghost view = { λ a. record { parts = a.parts; widths = stored_widths a.widths } };
 

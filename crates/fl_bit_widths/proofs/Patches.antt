@@ -13,7 +13,7 @@ use Rattle.fl_types.specs.declared.error.FastLanesError.{FastLanesError}
 use Rattle.fl_types.specs.declared.error.FastLanesError.TheVariants.{PatchType, PatchLength, PatchContent}
 use Rattle.fl_types.specs.declared.validity.Validity.{Validity}
 use Rattle.fl_types.specs.declared.validity.Validity.TheVariants as valid
-use Rattle.fl_types.specs.Bits.{table}
+use Rattle.fl_types.specs.Bits.{tabulate}
 use Rattle.fl_types.specs.Integers.{is_unsigned, smallest_type}
 use Rattle.fl_types.specs.Refusals.{Answers}
 use Rattle.fl_types.specs.Validities.{covers, full_validity, items_of, nullability_of}
@@ -55,7 +55,7 @@ count_taken limit items = let start : 0 + limit ≡ limit = omega arith in rw st
 offsets_count : (items : List (Option ℤ)) (len : ℕ) → counts_before items (chunk_count len) ≡ chunk_offsets_of len (places_from 0 items)
 unfolding counts_before chunk_offsets_of
 offsets_count items len = let f : ℕ → ℕ = λ k. length (values_in (take (1024 * k) items)) in let g : ℕ → ℕ = λ k. count_below (1024 * k) (places_from 0 items) in
-    let same : f ≡ g = (λ i k. sym (count_taken (1024 * k) items) i) in ap (λ h. table h (chunk_count len)) same
+    let same : f ≡ g = (λ i k. sym (count_taken (1024 * k) items) i) in ap (λ h. tabulate h (chunk_count len)) same
 
 -- what was found is in order
 pub found_chunked : (t : PType) (width_at : ℕ → ℕ) (items : List (Option ℤ)) (places : List ℕ) (values : List ℤ) (offsets : List ℕ) (n len : ℕ) → AreGathered places values (exceptions_of t width_at items) → offsets ≡ counts_before (exceptions_of t width_at items) (chunk_count n) → n ≡ len → length items ≡ len

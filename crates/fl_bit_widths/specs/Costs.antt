@@ -5,7 +5,7 @@ use Rattle.std.specs.Int.{div_ceil}
 use Rattle.fl_types.specs.declared.error.FastLanesError.{FastLanesError}
 use Rattle.fl_types.specs.declared.error.FastLanesError.TheVariants.{NegativeValue, TooManyWidths}
 use Rattle.fl_types.specs.declared.dtype.PType.{PType}
-use Rattle.fl_types.specs.Bits.{between, table}
+use Rattle.fl_types.specs.Bits.{between, tabulate}
 use Rattle.fl_types.specs.Integers.{bits_of_type}
 use Rattle.fl_types.specs.Validities.{items_of}
 use Rattle.fl_column.specs.Columns.{PrimitiveParts}
@@ -50,7 +50,7 @@ block_histogram ptype items j = histogram_of ptype (padded_block items j)
 
 -- the best widths of the first blocks
 unfoldable pub first_widths : PType → List (Option ℤ) → ℕ → List ℕ
-first_widths ptype items blocks = table (λ j. best_width ptype (block_histogram ptype items j)) blocks
+first_widths ptype items blocks = tabulate (λ j. best_width ptype (block_histogram ptype items j)) blocks
 
 -- the best width of each block
 abbrev pub best_widths : PType → List (Option ℤ) → List ℕ

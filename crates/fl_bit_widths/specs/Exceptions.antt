@@ -2,7 +2,7 @@
 use Rattle.std.specs.Prelude.{◌==◌, ◌+◌, ◌^◌, ◌/◌, ℕ, ℤ, Bool, false, List, length, Option, Some, None, unwrap_or, nat_lt, find, count_by, slice_index, slice_index_or, int_lt, pos, if◌then◌else◌}
 use Rattle.std.specs.List.{range_with_len}
 use Rattle.fl_types.specs.declared.dtype.PType.{PType}
-use Rattle.fl_types.specs.Bits.{table}
+use Rattle.fl_types.specs.Bits.{tabulate}
 use Rattle.fl_types.specs.Integers.{bits_of_type, pattern_of}
 use Rattle.fl_patches.specs.PatchMaps.{values_in}
 
@@ -22,7 +22,7 @@ count_with_bits ptype items bits = count_by (λ item. bits_of_item ptype item ==
 
 -- the histogram: entry b, from 0 to the type's bits, counts the items with b bits
 abbrev pub histogram_of : PType → List (Option ℤ) → List ℕ
-histogram_of ptype items = table (count_with_bits ptype items) (bits_of_type ptype + 1)
+histogram_of ptype items = tabulate (count_with_bits ptype items) (bits_of_type ptype + 1)
 
 -- an item is there and is negative
 abbrev pub is_negative : Option ℤ → Bool
@@ -40,7 +40,7 @@ exception ptype width item = if is_exception ptype width item then item else Non
 
 -- each item where it is an exception at the width of its place, else null
 unfoldable pub exceptions_of : PType → (ℕ → ℕ) → List (Option ℤ) → List (Option ℤ)
-exceptions_of ptype width items = table (λ i. exception ptype (width i) (slice_index_or items i None)) (length items)
+exceptions_of ptype width items = tabulate (λ i. exception ptype (width i) (slice_index_or items i None)) (length items)
 
 -- how many of the items are exceptions at the width of their place
 abbrev pub exception_count : PType → (ℕ → ℕ) → List (Option ℤ) → ℕ

@@ -4,7 +4,7 @@ use Rattle.std.specs.List.{list_all}
 use Rattle.fl_types.specs.declared.dtype.PType.{PType}
 use Rattle.fl_types.specs.declared.dtype.PType.TheVariants.{U64}
 use Rattle.fl_types.specs.declared.dtype.Nullability.{Nullability}
-use Rattle.fl_types.specs.Bits.{table}
+use Rattle.fl_types.specs.Bits.{tabulate}
 use Rattle.fl_types.specs.Integers.{smallest_type}
 use Rattle.fl_types.specs.Validities.{items_of, nullability_of}
 use Rattle.fl_column.specs.Columns.{PrimitiveParts, non_nullable, without_nulls}
@@ -14,7 +14,7 @@ use Rattle.fl_bit_widths.specs.Exceptions.{exception, exceptions_of, one_width, 
 
 -- for each chunk of 1024 of this many items, how many of the places stand before it
 unfoldable pub chunk_offsets_of : ℕ → List ℕ → List ℕ
-chunk_offsets_of len places = table (λ k. count_below (1024 * k) places) (chunk_count len)
+chunk_offsets_of len places = tabulate (λ k. count_below (1024 * k) places) (chunk_count len)
 
 -- patches with these places and values, with indices of this type and chunk offsets, if there is one
 abbrev pub patches_with : PType → ℕ → PType → Nullability → List ℕ → List ℤ → Option PatchesParts
@@ -58,7 +58,7 @@ pub record AreGathered (places : List ℕ) (values : List ℤ) (items : List (Op
 
 -- for each of the first blocks, how many of the items before it are there
 unfoldable pub counts_before : List (Option ℤ) → ℕ → List ℕ
-counts_before items blocks = table (λ k. length (values_in (take (1024 * k) items))) blocks
+counts_before items blocks = tabulate (λ k. length (values_in (take (1024 * k) items))) blocks
 
 -- places and values are those of the items of the first blocks that are there, and the offsets count them
 pub record HasBlocks (places : List ℕ) (values : List ℤ) (offsets : List ℕ) (items : List (Option ℤ)) (blocks : ℕ) : Type 0 where

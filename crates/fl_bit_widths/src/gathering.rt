@@ -1,7 +1,7 @@
 //! The patches of the items that a width leaves out.
 
 ghost use Rattle.std.specs.Prelude.{◌≡◌, ◌+◌, ◌*◌, ◌/◌, ◌<◌, ◌≤◌, ◌^◌, ◌++◌, ◌∷◌, [], ℕ, ℤ, pos, List, Option, IfOk, IsTrue, OnOk, None, Ok, Some, length, map, min, slice_index, slice_index_or};
-ghost use Rattle.fl_types.specs.Bits.{between, table};
+ghost use Rattle.fl_types.specs.Bits.{between, tabulate};
 ghost use Rattle.fl_types.specs.Integers.{pattern_of, smallest_type};
 ghost use Rattle.fl_types.specs.Refusals.{Answers};
 ghost use Rattle.fl_types.specs.Validities.{covers, full_validity, items_of, masked, nullability_of};

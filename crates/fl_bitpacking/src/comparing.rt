@@ -96,7 +96,7 @@ fn compare_block<W: OrderedWord>(
 }
 
 /// The word of which each bit is turned round.
-fn turned(word: u64) -> u64
+fn flipped(word: u64) -> u64
     ensures { (j : ℕ) → j < 64 → is_bit_set result j ≡ not (is_bit_set word j) }
 {
     !word
@@ -108,7 +108,7 @@ fn negate(bits: &mut [u64; 16])
     ensures whole { length bits.new ≡ 16 }
 {
     for k in 0..16usize {
-        bits[k] = turned(bits[k]);
+        bits[k] = flipped(bits[k]);
     }
 }
 

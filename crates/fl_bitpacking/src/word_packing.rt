@@ -8,7 +8,7 @@ ghost use Rattle.fl_column.specs.Chunks.{chunk_count};
 ghost use Rattle.fl_bitpacking.specs.Blocks.{AreWords, pattern_in};
 
 use crate::bit_packed::write_padded_patterns;
-use fastlanes::facts::prove_all_in_range;
+use fastlanes::proof_support::prove_all_in_range;
 use fastlanes::{FL_CHUNK_SIZE, FastLanes, pack};
 use fl_column::patterns::push_values;
 use fl_column::{PhysicalPType, chunk_count, chunk_of};

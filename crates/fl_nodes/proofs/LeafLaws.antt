@@ -2,7 +2,7 @@
 use Rattle.std.proofs.Common.{◌≡◌, ◌∙◌, ℕ, ℤ, Bool, false, ◌+◌, ◌*◌, ◌^◌, ◌<◌, List, [], ◌∷◌, ◌++◌, append_assoc, length, map, take, get_or, refl, sym, ap, arith}
 use Rattle.std.specs.Prelude.{flat_map}
 use Rattle.std.proofs.lemmas.List.{flat_map_more}
-use Rattle.fl_types.specs.Bits.{table}
+use Rattle.fl_types.specs.Bits.{tabulate}
 use Rattle.fl_types.specs.declared.dtype.PType.{PType}
 use Rattle.fl_column.proofs.ItemLaws.{map_read}
 use Rattle.fl_nodes.specs.Leaves.{bytes_of_slot, bytes_of_slots}
@@ -17,14 +17,14 @@ slots_more value ptype items i x old new lt is added before =
     rw (added, before, map_read value items i x lt is) (flat_map_more (bytes_of_slot ptype) [] (map value (take i items)) (value x))
 
 -- one item more of a table
-pub table_more : {A : Type 0} (f : ℕ → A) (n : ℕ) → table f (n + 1) ≡ table f n ++ f n ∷ []
+pub table_more : {A : Type 0} (f : ℕ → A) (n : ℕ) → tabulate f (n + 1) ≡ tabulate f n ++ f n ∷ []
 table_more f n = map-range_with_len_more f 0 n n (omega arith)
 
 -- an item is added to those of a table
-pub one_more : {A : Type 0} (f : ℕ → A) (n : ℕ) (old new : List A) (x : A) → new ≡ old ++ x ∷ [] → old ≡ table f n → x ≡ f n → new ≡ table f (n + 1)
+pub one_more : {A : Type 0} (f : ℕ → A) (n : ℕ) (old new : List A) (x : A) → new ≡ old ++ x ∷ [] → old ≡ tabulate f n → x ≡ f n → new ≡ tabulate f (n + 1)
 one_more f n old new x added before is = rw (added, before, is) (sym (table_more f n))
 
-pub length-table : {X : Type 0} (f : ℕ → X) (n : ℕ) → length (table f n) ≡ n
+pub length-table : {X : Type 0} (f : ℕ → X) (n : ℕ) → length (tabulate f n) ≡ n
 length-table f n = length-map-range_with_len f 0 n
 
 -- one bit more of a byte

@@ -2,7 +2,7 @@
 use Rattle.std.specs.Prelude.{◌+◌, ◌*◌, ◌/◌, ◌%◌, ◌==◌, ℕ, ℤ, Bool, false, List, length, flat_map, slice_index, slice_index_or}
 use Rattle.std.specs.Int.{Width, bit_at, div_ceil, to_le_bytes, w8, w16, w32, w64}
 use Rattle.fastlanes.specs.Layout.{bit_value, from_bits, word_at}
-use Rattle.fl_types.specs.Bits.{table}
+use Rattle.fl_types.specs.Bits.{tabulate}
 use Rattle.fl_types.specs.Integers.{bits_of_type, pattern_of, read_as}
 use Rattle.fl_types.specs.declared.dtype.PType.{PType}
 use Rattle.fl_types.specs.declared.dtype.PType.TheVariants.{U8, U16, U32, U64, I8, I16, I32, I64}
@@ -37,7 +37,7 @@ slot_at ptype bytes i = read_as ptype (word_at (bits_of_type ptype) bytes i)
 
 -- the integers of a type that bytes store
 abbrev pub slots_of_bytes : PType → List ℕ → ℕ → List ℤ
-slots_of_bytes ptype bytes len = table (slot_at ptype bytes) len
+slots_of_bytes ptype bytes len = tabulate (slot_at ptype bytes) len
 
 -- ---- booleans
 -- byte k of booleans: its bit j is the one at place 8 * k + j, 0 behind the last one
@@ -50,7 +50,7 @@ bits_size len = div_ceil len 8
 
 -- the bytes of booleans, eight to a byte
 abbrev pub bytes_of_bits : List Bool → List ℕ
-bytes_of_bits bits = table (byte_of_bits bits) (bits_size (length bits))
+bytes_of_bits bits = tabulate (byte_of_bits bits) (bits_size (length bits))
 
 -- the boolean at a place of bytes
 unfoldable pub bit_of_bytes : List ℕ → ℕ → Bool
@@ -58,4 +58,4 @@ bit_of_bytes bytes i = bit_at (slice_index bytes (i / 8)) (i % 8) == 1
 
 -- the booleans that bytes store; bits behind the last one say nothing
 abbrev pub bits_of_bytes : List ℕ → ℕ → List Bool
-bits_of_bytes bytes len = table (bit_of_bytes bytes) len
+bits_of_bytes bytes len = tabulate (bit_of_bytes bytes) len

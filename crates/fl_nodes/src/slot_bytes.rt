@@ -3,7 +3,7 @@
 ghost use Rattle.std.specs.Prelude.{◌≡◌, ◌+◌, ◌*◌, ◌/◌, ◌<◌, ◌≤◌, ◌++◌, IfErr, IfOk, OnOk, Ok, flat_map, length, map};
 ghost use Rattle.std.specs.Int.{to_le_bytes};
 ghost use Rattle.fl_types.specs.declared.error.FastLanesError.TheVariants.{OutOfMemory};
-ghost use Rattle.fl_types.specs.Bits.{table};
+ghost use Rattle.fl_types.specs.Bits.{tabulate};
 ghost use Rattle.fl_types.specs.Integers.{bits_of_type};
 ghost use Rattle.fl_types.specs.Refusals.{Answers};
 ghost use Rattle.fl_column.specs.Columns.{new_primitive};

@@ -23,7 +23,7 @@ use Rattle.fl_codec.specs.RunRefusals.{is_run_index_dtype, rle_refusal, rle_type
 use Rattle.fl_codec.specs.Refusals as codec
 use Rattle.fl_metadata.specs.Messages.{delta_metadata_of, delta_slots, for_chunked_of, for_chunked_slots, rle_of, rle_slots}
 use Rattle.fl_metadata.specs.WrittenText.{message_text}
-use Rattle.fl_array.specs.Trees.{BitPackedBlocked, BitPackedGlobal, Constant, Delta, DeltaParts, FoRChunked, FoRGlobal, Primitive, RLE, Tree, Window, column}
+use Rattle.fl_array.specs.Trees.{BitPackedBlocked, BitPackedGlobal, Constant, Delta, DeltaParts, FoRChunked, FoRGlobal, Primitive, RLE, Tree, OffsetLen, column}
 use Rattle.fl_array.specs.Trees as tree
 use Rattle.fl_array.specs.FoRArrays.{ChunkReferences, for_chunked_refusal, for_refusal, reference_count_refusal, reference_type_refusal, references_of}
 use Rattle.fl_array.specs.Reads.{constant_in}
@@ -191,7 +191,7 @@ delta_back bases deltas parts none message reads_b reads_d =
     delta_node bases deltas parts of_base.0 none (holds _ s6.0) base_solid delta_solid (eqb-true _ _ (and_first (eqb (item_count deltas % 1024) 0) _ whole)) lanes (message (omega (arith, less))) reads_b reads_d
 
 -- ---- run-length encoded arrays
-rle_node : (values indices offsets : Tree) (window : Window) (p i o : PType) (n : Nullability) → rle_refusal (column values) (column indices) (column offsets) window.offset window.len ≡ None
+rle_node : (values indices offsets : Tree) (window : OffsetLen) (p i o : PType) (n : Nullability) → rle_refusal (column values) (column indices) (column offsets) window.offset window.len ≡ None
     → (column values).dtype ≡ dtypes.Primitive p NonNullable → (column indices).dtype ≡ dtypes.Primitive i n → (column offsets).dtype ≡ dtypes.Primitive o NonNullable
     → rle_of (message_text (rle_slots (record { values_len = item_count values; indices_len = item_count indices; indices = i; values_idx_offsets_len = item_count offsets; values_idx_offsets = o; offset = window.offset })))
     ≡ Ok (record { values_len = item_count values; indices_len = item_count indices; indices = i; values_idx_offsets_len = item_count offsets; values_idx_offsets = o; offset = window.offset })
@@ -220,7 +220,7 @@ none_behind : (a b : Option FastLanesError) → codec.otherwise a b ≡ None →
 none_behind (Some e) b h = absurd cc
 none_behind None b h = (refl, h)
 
-pub rle_back : (values indices offsets : Tree) (window : Window) → rle_refusal (column values) (column indices) (column offsets) window.offset window.len ≡ None
+pub rle_back : (values indices offsets : Tree) (window : OffsetLen) → rle_refusal (column values) (column indices) (column offsets) window.offset window.len ≡ None
     → ((i o : PType) → window.offset < 1024 → rle_of (message_text (rle_slots (record { values_len = item_count values; indices_len = item_count indices; indices = i; values_idx_offsets_len = item_count offsets; values_idx_offsets = o; offset = window.offset })))
     ≡ Ok (record { values_len = item_count values; indices_len = item_count indices; indices = i; values_idx_offsets_len = item_count offsets; values_idx_offsets = o; offset = window.offset }))
     → reading (written values) ≡ Ok (read_back values) → reading (written indices) ≡ Ok (read_back indices) → reading (written offsets) ≡ Ok (read_back offsets)

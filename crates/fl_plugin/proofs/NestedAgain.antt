@@ -17,7 +17,7 @@ use Rattle.fl_bitpacking.specs.Refusals.{otherwise}
 use Rattle.fl_metadata.specs.Messages.{type_numbered}
 use Rattle.fl_metadata.specs.Scalars.{scalar_of, scalar_slots}
 use Rattle.fl_metadata.specs.WrittenText.{message_text}
-use Rattle.fl_array.specs.Trees.{BitPackedBlocked, BitPackedGlobal, Constant, Delta, DeltaParts, FoRChunked, FoRGlobal, Primitive, RLE, Tree, Window, column}
+use Rattle.fl_array.specs.Trees.{BitPackedBlocked, BitPackedGlobal, Constant, Delta, DeltaParts, FoRChunked, FoRGlobal, Primitive, RLE, Tree, OffsetLen, column}
 use Rattle.fl_array.specs.Trees as tree
 use Rattle.fl_array.specs.FoRArrays.{GlobalReference, for_refusal}
 use Rattle.fl_serialized.specs.Nodes.{Node, head_of, listed, nodes_of}

@@ -16,7 +16,7 @@ use Rattle.fl_types.specs.declared.error.FastLanesError.TheVariants.{ChildMismat
 use Rattle.fl_types.specs.declared.validity.Validity.{Validity}
 use Rattle.fl_types.specs.declared.validity.Validity.TheVariants as valid
 use Rattle.fl_types.specs.Refusals.{Answers}
-use Rattle.fl_types.specs.Bits.{table}
+use Rattle.fl_types.specs.Bits.{tabulate}
 use Rattle.fl_types.specs.Types.{integer_type, is_integer, is_nullable}
 use Rattle.fl_types.specs.Validities.{covers, full_validity, is_valid_at, items_of, nullability_of}
 use Rattle.fl_types.specs.Values.{bool_number}
@@ -32,7 +32,7 @@ use Rattle.fl_bitpacking.specs.Columns.{BitPackedParts, packed_item}
 use Rattle.fl_bitpacking.proofs.Tables.{get_or-table, length-table}
 use Rattle.fl_metadata.specs.Schemas.{◌>>=◌}
 use Rattle.fl_metadata.specs.declared.patches.PatchesMetadata.{PatchesMetadata}
-use Rattle.fl_array.specs.Trees.{DeltaParts, Tree, Window, column}
+use Rattle.fl_array.specs.Trees.{DeltaParts, Tree, OffsetLen, column}
 use Rattle.fl_array.specs.Trees as tree
 use Rattle.fl_array.specs.BitPackedArrays.{BitWidthsParts, BlockBoundaries, GlobalWidth, bit_widths_refusal, blocks_of_widths, new_bitpacked, tree_of_bitpacked}
 use Rattle.fl_array.specs.DeltaArrays.{new_delta, tree_of_delta}
@@ -130,7 +130,7 @@ valid_same head m trees i shaped all = cases (has_validity head m (length trees)
 -- ---- the items of each kind
 -- a column whose items are a node's
 as_said : (c : Column) (head : Head) (m : Message) (columns : List Column) → c.dtype ≡ head.dtype → length c.items ≡ head.len → ((i : ℕ) → i < head.len → get_or c.items i None ≡ item_said head m columns i)
-    → c ≡ record { dtype = head.dtype; items = table (item_said head m columns) head.len }
+    → c ≡ record { dtype = head.dtype; items = tabulate (item_said head m columns) head.len }
 as_said c head m columns typed long each =
     ap (λ d. let x : Column = record { dtype = d; items = c.items } in x) typed ∙ ap (λ items. let x : Column = record { dtype = head.dtype; items = items } in x) (fill_by_all (item_said head m columns) c.items head.len None long each)
 
@@ -299,7 +299,7 @@ delta_items_are bases deltas others parts p t i valid typed lt valids h =
     (get_or-table (λ i. cond (is_valid_at parts.validity i) (Some (delta_integer (ptype_of_column (column bases)) (integers_in (column bases)) (integers_in (column deltas)) (parts.offset + i))) None) parts.len i None lt
     ∙ valid_item _ _ _ _ valids (ap (λ q. delta_integer q (integers_in (column bases)) (integers_in (column deltas)) (parts.offset + i)) typed))
 
-rle_items : (values indices offsets : Tree) (others : List Tree) (window : Window) (t : Tree) (i : ℕ) → i < window.len → rle_over window (values ∷ indices ∷ offsets ∷ others) ≡ Ok t
+rle_items : (values indices offsets : Tree) (others : List Tree) (window : OffsetLen) (t : Tree) (i : ℕ) → i < window.len → rle_over window (values ∷ indices ∷ offsets ∷ others) ≡ Ok t
     → get_or (column t).items i None ≡ run_item (integers_in (column values)) (column indices).items (numbers_of (column offsets)) (window.offset + i)
 rle_items values indices offsets others window t i lt h =
     let s = step (new_rle values indices offsets window) _ t h in

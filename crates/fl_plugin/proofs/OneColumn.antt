@@ -1,7 +1,7 @@
 -- A node stands for one column.
 use Rattle.std.proofs.Common.{◌≡◌, ◌∙◌, List, [], ◌∷◌, length, Result, Ok, refl, sym, ap}
 use Rattle.fl_types.specs.declared.error.FastLanesError.{FastLanesError}
-use Rattle.fl_types.specs.Bits.{table}
+use Rattle.fl_types.specs.Bits.{tabulate}
 use Rattle.fl_column.specs.Columns.{Column}
 use Rattle.fl_serialized.specs.Nodes.{And, Head, NoMore, Node, Nodes, Of}
 use Rattle.fl_nodes.specs.declared.messages.Message.{Message}
@@ -15,8 +15,8 @@ one_said : (head : Head) (cs ds : List Column) (c d : Column) → cs ≡ ds → 
 one_said head cs ds c d e h k =
     let message = one_message h.message k.message (sym h.said ∙ ap (λ xs. checked head (length xs)) e ∙ k.said) in
     h.items
-    ∙ ap (λ m. let x : Column = record { dtype = head.dtype; items = table (item_said head m cs) head.len } in x) message
-    ∙ ap (λ xs. let x : Column = record { dtype = head.dtype; items = table (item_said head k.message xs) head.len } in x) e
+    ∙ ap (λ m. let x : Column = record { dtype = head.dtype; items = tabulate (item_said head m cs) head.len } in x) message
+    ∙ ap (λ xs. let x : Column = record { dtype = head.dtype; items = tabulate (item_said head k.message xs) head.len } in x) e
     ∙ sym k.items
 
 mutual

@@ -28,7 +28,7 @@ use Rattle.fl_metadata.specs.Schemas.{◌>>=◌}
 use Rattle.fl_metadata.specs.WireReading.{fields_of}
 use Rattle.fl_metadata.specs.Messages.{bit_packed_blocked_of, bit_packed_of, delta_metadata_of, for_chunked_of, rle_of}
 use Rattle.fl_metadata.specs.Scalars.{scalar_of}
-use Rattle.fl_array.specs.Trees.{DeltaParts, Tree, Window, column}
+use Rattle.fl_array.specs.Trees.{DeltaParts, Tree, OffsetLen, column}
 use Rattle.fl_array.specs.Trees as tree
 use Rattle.fl_array.specs.BitPackedArrays.{BitWidthsParts, BlockBoundaries, GlobalWidth, bit_widths_refusal, bitpacked_tree, new_bitpacked, tree_of_bitpacked}
 use Rattle.fl_array.specs.DeltaArrays.{new_delta, tree_of_delta}
@@ -303,7 +303,7 @@ delta_shape bases deltas others parts p n d few t is nulls of_base h =
       long = length-table _ parts.len;
     })
 
-rle_shape : (values indices offsets : Tree) (others : List Tree) (window : Window) (p i : PType) (n : Nullability) (d : DType) (few many : ℕ) (t : Tree) → d ≡ dtypes.Primitive p n
+rle_shape : (values indices offsets : Tree) (others : List Tree) (window : OffsetLen) (p i : PType) (n : Nullability) (d : DType) (few many : ℕ) (t : Tree) → d ≡ dtypes.Primitive p n
     → IsOfShape values (dtypes.Primitive p NonNullable) few → IsOfShape indices (dtypes.Primitive i (nullability_in d)) many → rle_over window (values ∷ indices ∷ offsets ∷ others) ≡ Ok t → IsOfShape t d window.len
 rle_shape values indices offsets others window p i n d few many t is of_value of_index h =
     let s = step (new_rle values indices offsets window) _ t h in

@@ -3,7 +3,7 @@ use Rattle.std.specs.Prelude.{◌≡◌, ◌+◌, ◌-◌, ◌/◌, ℕ, ℤ, po
 use Rattle.std.specs.Ordering.{int_eq}
 use Rattle.fl_types.specs.declared.dtype.DType.TheVariants as dtypes
 use Rattle.fl_types.specs.declared.dtype.Nullability.TheVariants.{NonNullable}
-use Rattle.fl_types.specs.Bits.{table}
+use Rattle.fl_types.specs.Bits.{tabulate}
 use Rattle.fl_types.specs.Values.{bool_number}
 use Rattle.fl_column.specs.Columns.{Column, integers_in, numbers_of}
 use Rattle.fl_patches.specs.PatchMaps.{rank_of}
@@ -69,7 +69,7 @@ pub record HasColumn (head : Head) (columns : List Column) (c : Column) : Type 0
   pub message : Message
   pub said : checked head (length columns) ≡ Ok message
   pub shaped : map shape_of columns ≡ child_shapes head message (length columns)
-  pub items : c ≡ record { dtype = head.dtype; items = table (item_said head message columns) head.len }
+  pub items : c ≡ record { dtype = head.dtype; items = tabulate (item_said head message columns) head.len }
 
 abbrev mutual
   -- a node stands for the column that it has over those that its children stand for

@@ -127,7 +127,7 @@ delta_over parts (bases ∷ []) = Err ChildCount
 delta_over parts (bases ∷ deltas ∷ others) = new_delta bases deltas parts >>= λ a. Ok (tree_of_delta a)
 
 -- the run-length encoded array over its run values, run indices and run offsets
-abbrev pub rle_over : tree.Window → List Tree → Result Tree FastLanesError
+abbrev pub rle_over : tree.OffsetLen → List Tree → Result Tree FastLanesError
 rle_over window [] = Err ChildCount
 rle_over window (values ∷ []) = Err ChildCount
 rle_over window (values ∷ indices ∷ []) = Err ChildCount

@@ -1,8 +1,8 @@
 //! Columns of integers, packed.
 #![tactic(auto)]
 
-use flcol_engine::ends::{ReadEnd, WriteEnd};
 use flcol_engine::fault::Fault;
+use flcol_engine::io::{ReadEnd, WriteEnd};
 use flcol_engine::start;
 use std::process::ExitCode;
 use std::{env, io};

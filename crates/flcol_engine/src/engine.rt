@@ -7,8 +7,8 @@ ghost use Rattle.flcol_engine.specs.Command.{parts_of_run};
 ghost use Rattle.flcol_engine.specs.Outputs.{IsEncodeOutput, IsOutcomeOf, IsRunOutput};
 
 use crate::commands::{Encode, Pack, Run};
-use crate::ends::{Sink, Source};
 use crate::fault::Fault;
+use crate::io::{Sink, Source};
 use crate::transfer::{read_all, write_all};
 use crate::{encodes, runs, text};
 use bytes::Bytes;

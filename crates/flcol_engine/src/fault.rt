@@ -5,7 +5,7 @@ ghost use Rattle.fl_types.specs.declared.error.FastLanesError.TheVariants.{OutOf
 ghost use Rattle.flcol_engine.specs.declared.fault.Fault.TheVariants as faults;
 ghost use Rattle.flcol_engine.specs.Faults.{fault_line, fault_number, of_container};
 
-use crate::ends::{ReadFault, WriteFault};
+use crate::io::{ReadFault, WriteFault};
 use flcol_container::ContainerError;
 use std::alloc::{AllocError, AllocFailed};
 use thiserror::Error;

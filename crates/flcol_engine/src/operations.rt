@@ -9,8 +9,8 @@ ghost use Rattle.fl_types.specs.declared.dtype.DType.TheVariants.{Primitive};
 ghost use Rattle.fl_types.specs.declared.mask.Mask.TheVariants.{Values};
 ghost use Rattle.flcol_engine.specs.Words.{bits_in_text, column_type_in_word, each_says, index_in_text, indices_array, is_bit, list_in_text, named_operation, operation_in_word, pair_in_text, range_in_text};
 
-use crate::word_parts::{list, pair, split_once};
-use crate::words::column_type;
+use crate::arg_parts::{list, pair, split_once};
+use crate::args::column_type;
 use std::alloc::Global;
 use vortex_fastlanes::array::{ArrayRef, IntoArray, Op};
 use vortex_fastlanes::{BitList, DType, FastLanesError, Mask, PrimitiveArray};

@@ -148,8 +148,8 @@ pub fn print_scalar(alloc: Global, scalar: Scalar) -> Result<Vec<u8>, FastLanesE
 {
     match scalar {
         Scalar::Integer(value, _) => print_integer(alloc, value),
-        Scalar::Truth(truth, _) => print_truth(alloc, truth),
-        Scalar::NullInteger(_) | Scalar::NullTruth => Ok(Vec::from_slice(alloc, b"null\n")?),
+        Scalar::Bool(truth, _) => print_truth(alloc, truth),
+        Scalar::NullInteger(_) | Scalar::NullBool => Ok(Vec::from_slice(alloc, b"null\n")?),
     }
 }
 

@@ -7,8 +7,8 @@ ghost use Rattle.flcol_engine.specs.Faults.{fault_line};
 ghost use Rattle.flcol_engine.specs.Command.{IsRun, IsUsage, command_of, parts_of_command, report_of, status_of, usage_line};
 
 use crate::commands::Command;
-use crate::ends::{Sink, Source};
 use crate::fault::Fault;
+use crate::io::{Sink, Source};
 use crate::transfer::write_all;
 use crate::{engine, words};
 use std::alloc::Global;

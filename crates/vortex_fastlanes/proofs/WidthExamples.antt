@@ -3,7 +3,7 @@ use Rattle.std.proofs.Common.{◌≡◌, ◌+◌, ℤ, pos, negsuc, true, false,
 use Rattle.fl_types.specs.declared.dtype.PType.TheVariants.{U8, U16, U32, U64, I8}
 use Rattle.fl_types.specs.declared.error.FastLanesError.TheVariants.{NegativeValue, TooManyWidths}
 use Rattle.fl_types.specs.declared.validity.Validity.TheVariants as valid
-use Rattle.fl_types.specs.Bits.{table}
+use Rattle.fl_types.specs.Bits.{tabulate}
 use Rattle.fl_types.specs.Integers.{smallest_type}
 use Rattle.fl_column.specs.Columns.{PrimitiveParts}
 use Rattle.fl_patches.specs.PatchMaps.{places_from}
@@ -16,7 +16,7 @@ unfolding bit_count
 bits = refl
 
 -- 0 to 23, null from 16 on: a null counts as width 0
-counted : histogram_of U32 (table (λ n. Some (pos n)) 16 ++ replicate 8 None) ≡ 9 ∷ 1 ∷ 2 ∷ 4 ∷ 8 ∷ replicate 28 0
+counted : histogram_of U32 (tabulate (λ n. Some (pos n)) 16 ++ replicate 8 None) ≡ 9 ∷ 1 ∷ 2 ∷ 4 ∷ 8 ∷ replicate 28 0
 unfolding bit_count count_with_bits
 counted = refl
 

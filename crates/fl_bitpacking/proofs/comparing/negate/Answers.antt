@@ -11,10 +11,10 @@ loop-k-preserved c =
     record {
       done = λ i h. elim (cases_eq (i / 64) k) [
         | inl same ↦
-            bit_in_word bits k c.turned.result i (omega arith) same ∙ (c.turned.ensures (i % 64) (omega arith)
+            bit_in_word bits k c.flipped.result i (omega arith) same ∙ (c.flipped.ensures (i % 64) (omega arith)
             ∙ ap not (sym (bit_of_its_word bits k i same) ∙ c.loop-k.invariant.rest i (omega arith)))
-        | inr other ↦ bit_out_of_word bits k c.turned.result i other ∙ c.loop-k.invariant.done i (omega arith)
+        | inr other ↦ bit_out_of_word bits k c.flipped.result i other ∙ c.loop-k.invariant.done i (omega arith)
       ];
-      rest = λ i h. (let other : i / 64 ≢ k = omega arith in bit_out_of_word bits k c.turned.result i other ∙ c.loop-k.invariant.rest i (omega arith));
+      rest = λ i h. (let other : i / 64 ≢ k = omega arith in bit_out_of_word bits k c.flipped.result i other ∙ c.loop-k.invariant.rest i (omega arith));
       whole = rw length-set whole;
     }
