@@ -12,8 +12,7 @@ use crate::best_width::{count_exceptions, least_cost};
 use crate::histogram::{clear, count_items};
 use crate::patterns::type_bits;
 use fastlanes::FL_CHUNK_SIZE;
-use fl_column::patterns::Pattern;
-use fl_column::{PrimitiveArray, chunk_bounds, chunk_count};
+use fl_column::{PhysicalPType, PrimitiveArray, chunk_bounds, chunk_count};
 use fl_types::{FastLanesError, NativePType, Validity, is_less, match_each_integer_ptype};
 use std::alloc::{AllocError, Global};
 
@@ -40,7 +39,12 @@ fn has_negative<T: NativePType>(items: &[T], validity: &Validity) -> bool
 }
 
 /// Counts the items of a block by their bits, and those behind the last item as nulls.
-fn count_block<T: Pattern>(items: &[T], validity: &Validity, block: usize, entries: &mut [usize])
+fn count_block<T: PhysicalPType>(
+    items: &[T],
+    validity: &Validity,
+    block: usize,
+    entries: &mut [usize],
+)
     requires covers { IsTrue (covers validity.now (length items.now)) }
     requires begun { 1024 * block < length items.now }
     requires room { length entries.old ≡ bits_of_type T.PTYPE + 1 }
@@ -53,7 +57,7 @@ fn count_block<T: Pattern>(items: &[T], validity: &Validity, block: usize, entri
 }
 
 /// The best width of a block, and how many exceptions it leaves. The entries are for its histogram.
-fn choose_width<T: Pattern>(
+fn choose_width<T: PhysicalPType>(
     items: &[T],
     validity: &Validity,
     block: usize,
@@ -72,7 +76,7 @@ fn choose_width<T: Pattern>(
 }
 
 /// The best width of each block, and how many exceptions they leave.
-fn widths_of<T: Pattern>(
+fn widths_of<T: PhysicalPType>(
     alloc: Global,
     items: &[T],
     validity: &Validity,
@@ -94,7 +98,7 @@ fn widths_of<T: Pattern>(
     Ok((widths, total))
 }
 
-fn choose_widths<T: Pattern>(
+fn choose_widths<T: PhysicalPType>(
     alloc: Global,
     array: &PrimitiveArray,
 ) -> Result<(Vec<u8>, usize), FastLanesError>

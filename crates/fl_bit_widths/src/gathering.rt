@@ -13,8 +13,7 @@ ghost use Rattle.fl_bit_widths.specs.Widths.{NamesAll, width_at};
 
 use crate::patterns::{bit_count, bits_of};
 use crate::widths::Widths;
-use fl_column::patterns::Pattern;
-use fl_column::{PrimitiveArray, chunk_bounds, chunk_count, index_array};
+use fl_column::{PhysicalPType, PrimitiveArray, chunk_bounds, chunk_count, index_array};
 use fl_patches::Patches;
 use fl_types::{BitList, FastLanesError, Validity, match_each_integer_ptype};
 use std::alloc::{AllocError, Global};
@@ -26,7 +25,7 @@ struct PatchesBuilder<T> {
     values: Vec<T>,
 }
 
-impl<T: Pattern> PatchesBuilder<T> {
+impl<T: PhysicalPType> PatchesBuilder<T> {
     /// None yet, with room for this many.
     fn with_capacity(alloc: Global, count: usize) -> Result<PatchesBuilder<T>, AllocError>
         ensures { IfOk result (λ f. AreGathered f.places.items (map T.value f.values.items) []) }
@@ -136,7 +135,7 @@ impl<T: Pattern> PatchesBuilder<T> {
 }
 
 /// A pattern with every bit that a pattern of the items has.
-fn union_of<T: Pattern>(items: &[T]) -> u64
+fn union_of<T: PhysicalPType>(items: &[T]) -> u64
     ensures { (i : ℕ) → i < length items.now → pattern_of T.PTYPE (slice_index_or (map T.value items.now) i (pos 0)) ≤ result }
 {
     let mut union = 0;
@@ -147,7 +146,7 @@ fn union_of<T: Pattern>(items: &[T]) -> u64
 }
 
 /// The exceptions at the widths of the blocks, and how many of them stand before each block.
-fn find<T: Pattern>(
+fn find<T: PhysicalPType>(
     alloc: Global,
     items: &[T],
     validity: &Validity,
@@ -170,7 +169,7 @@ fn find<T: Pattern>(
 
 /// The patches of an array's exceptions, which were found with how many stand before each block, or
 /// `None` where there is none. The indices are of the smallest type that holds a number.
-fn patches_of<T: Pattern>(
+fn patches_of<T: PhysicalPType>(
     alloc: Global,
     array: &PrimitiveArray,
     found: PatchesBuilder<T>,
@@ -194,7 +193,7 @@ fn patches_of<T: Pattern>(
 }
 
 /// The patches at the widths of the blocks. The indices are of the smallest type that holds a number.
-fn gather_typed<T: Pattern>(
+fn gather_typed<T: PhysicalPType>(
     alloc: Global,
     array: &PrimitiveArray,
     widths: Widths,

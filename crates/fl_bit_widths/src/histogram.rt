@@ -8,14 +8,13 @@ ghost use Rattle.fl_types.specs.Validities.{covers, items_of, masked};
 ghost use Rattle.fl_bit_widths.specs.Exceptions.{bits_of_item, histogram_of};
 
 use crate::patterns::{bits_of, type_bits};
-use fl_column::PrimitiveArray;
-use fl_column::patterns::Pattern;
+use fl_column::{PhysicalPType, PrimitiveArray};
 use fl_types::{BitList, FastLanesError, Validity, match_each_integer_ptype};
 use std::alloc::{AllocError, Global};
 
 /// Makes every entry 0.
 #[tactic(auto, using(crate::proofs::Histograms::histogram_none))]
-pub(crate) fn clear<T: Pattern>(entries: &mut [usize])
+pub(crate) fn clear<T: PhysicalPType>(entries: &mut [usize])
     requires { length entries.old ≡ bits_of_type T.PTYPE + 1 }
     ensures { entries.new ≡ histogram_of T.PTYPE [] }
 {
@@ -26,14 +25,14 @@ pub(crate) fn clear<T: Pattern>(entries: &mut [usize])
 
 /// Entries for the bits of a type, all 0.
 #[tactic(auto, using(crate::proofs::Histograms::histogram_zeros))]
-fn no_entries<T: Pattern>(alloc: Global) -> Result<Vec<usize>, AllocError>
+fn no_entries<T: PhysicalPType>(alloc: Global) -> Result<Vec<usize>, AllocError>
     ensures { IfOk result (λ v. v.items ≡ histogram_of T.PTYPE []) }
 {
     vec![in alloc; 0usize; type_bits::<T>() + 1]
 }
 
 /// The bits of an item, 0 of a null.
-fn bits_at<T: Pattern>(items: &[T], bits: &BitList, i: usize) -> usize
+fn bits_at<T: PhysicalPType>(items: &[T], bits: &BitList, i: usize) -> usize
     requires even { length bits.now ≡ length items.now }
     requires range { i < length items.now }
     ensures value { result ≡ bits_of_item T.PTYPE (slice_index_or (masked bits.now (map T.value items.now)) i None) }
@@ -44,7 +43,7 @@ fn bits_at<T: Pattern>(items: &[T], bits: &BitList, i: usize) -> usize
 
 /// Counts the items from `start` to below `end` by their bits, where those are null whose bit isn't
 /// set. All entries are 0 before.
-fn count_masked<T: Pattern>(
+fn count_masked<T: PhysicalPType>(
     items: &[T],
     bits: &BitList,
     start: usize,
@@ -65,7 +64,7 @@ fn count_masked<T: Pattern>(
 
 /// Counts the items from `start` to below `end` by their bits, where none is null. All entries are 0
 /// before.
-fn count_present<T: Pattern>(items: &[T], start: usize, end: usize, entries: &mut [usize])
+fn count_present<T: PhysicalPType>(items: &[T], start: usize, end: usize, entries: &mut [usize])
     requires order { start ≤ end }
     requires range { end ≤ length items.now }
     requires empty { entries.old ≡ histogram_of T.PTYPE [] }
@@ -78,7 +77,7 @@ fn count_present<T: Pattern>(items: &[T], start: usize, end: usize, entries: &mu
 }
 
 /// Counts the items from `start` to below `end` by their bits. All entries are 0 before.
-pub(crate) fn count_items<T: Pattern>(
+pub(crate) fn count_items<T: PhysicalPType>(
     items: &[T],
     validity: &Validity,
     start: usize,
@@ -98,7 +97,7 @@ pub(crate) fn count_items<T: Pattern>(
     }
 }
 
-fn histogram_typed<T: Pattern>(
+fn histogram_typed<T: PhysicalPType>(
     alloc: Global,
     array: &PrimitiveArray,
 ) -> Result<Vec<usize>, FastLanesError>

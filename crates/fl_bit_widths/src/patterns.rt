@@ -4,7 +4,7 @@ ghost use Rattle.std.specs.Prelude.{◌≡◌, ◌≤◌};
 ghost use Rattle.fl_types.specs.Integers.{bits_of_type, pattern_of};
 ghost use Rattle.fl_bit_widths.specs.Exceptions.{bit_count};
 
-use fl_column::patterns::Pattern;
+use fl_column::PhysicalPType;
 
 /// How many bits a pattern has.
 #[tactic(auto, using(crate::proofs::BitCounts::count_by_zeros))]
@@ -16,7 +16,7 @@ pub(crate) fn bit_count(pattern: u64) -> usize
 
 /// How many bits the pattern of a value has.
 #[tactic(auto, using(crate::proofs::BitCounts::bits_of_pattern))]
-pub(crate) fn bits_of<T: Pattern>(item: T) -> usize
+pub(crate) fn bits_of<T: PhysicalPType>(item: T) -> usize
     ensures count { result ≡ bit_count (pattern_of T.PTYPE (T.value item)) }
     ensures most { result ≤ bits_of_type T.PTYPE }
 {
@@ -24,7 +24,7 @@ pub(crate) fn bits_of<T: Pattern>(item: T) -> usize
 }
 
 /// How many bits a value of the type has.
-pub(crate) fn type_bits<T: Pattern>() -> usize
+pub(crate) fn type_bits<T: PhysicalPType>() -> usize
     ensures { result ≡ bits_of_type T.PTYPE }
 {
     T::PTYPE.bit_width()
