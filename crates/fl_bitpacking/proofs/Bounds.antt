@@ -7,9 +7,9 @@ use Rattle.std.proofs.lemmas.List.FromFn.{get_or-map-range_with_len, length-map-
 use Rattle.std.proofs.lemmas.List.Sums.{sum_by_more, sum_by-take-le}
 use Rattle.fl_types.specs.Bits.{tabulate}
 use Rattle.fl_column.proofs.ListLaws.{all_from}
-use Rattle.fl_bit_widths.specs.Widths.{Names, block_width}
-use Rattle.fl_bit_widths.specs.declared.widths.Widths.{Widths}
-use Rattle.fl_bit_widths.specs.declared.widths.Widths.TheVariants.{Global, Boundaries, PerBlock}
+use Rattle.fl_patches.specs.Widths.{Names, block_width}
+use Rattle.fl_patches.specs.declared.widths.Widths.{Widths}
+use Rattle.fl_patches.specs.declared.widths.Widths.TheVariants.{Global, Boundaries, PerBlock}
 use Rattle.fl_bitpacking.specs.Blocks.{AreJoined, AreWithin, blocks_of, boundary_blocks, boundaries_of}
 
 pub table_more : {A : Type 0} (f : ℕ → A) (n : ℕ) → tabulate f (n + 1) ≡ tabulate f n ++ f n ∷ []

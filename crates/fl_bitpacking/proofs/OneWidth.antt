@@ -14,8 +14,8 @@ use Rattle.fl_types.proofs.BitLists.{same_tables}
 use Rattle.fl_column.specs.Columns.{PrimitiveParts, column_of_primitive, numbers_of}
 use Rattle.fl_column.specs.Numbers.{index_array}
 use Rattle.fl_patches.specs.PatchMaps.{patched_in, places_from, values_in}
-use Rattle.fl_bit_widths.specs.Exceptions.{exceptions_of, one_width}
-use Rattle.fl_bit_widths.specs.PatchParts.{global_patches, patch_count, patches_with}
+use Rattle.fl_patches.specs.Exceptions.{exceptions_of, one_width}
+use Rattle.fl_patches.specs.PatchParts.{global_patches, patch_count, patches_with}
 use Rattle.fl_bitpacking.specs.BlockedWidths.{width_per_block}
 use Rattle.fl_bitpacking.specs.Blocks.{Blocks, block_item, boundaries_of, boundary_array, boundary_blocks, bytes_of_block, global_blocks, item_of_blocks}
 use Rattle.fl_bitpacking.specs.Columns.{BitPackedParts, block_count, column_of_packed, packed_item}

@@ -6,8 +6,8 @@ use Rattle.fl_types.specs.declared.error.FastLanesError.{FastLanesError}
 use Rattle.fl_types.specs.declared.error.FastLanesError.TheVariants.{IndexOutOfBounds}
 use Rattle.fl_types.specs.declared.validity.Validity.{Validity}
 use Rattle.fl_types.specs.declared.validity.Validity.TheVariants as valid
-use Rattle.fl_bit_widths.specs.declared.widths.Widths.{Widths}
-use Rattle.fl_bit_widths.specs.declared.widths.Widths.TheVariants.{Global, Boundaries, PerBlock}
+use Rattle.fl_patches.specs.declared.widths.Widths.{Widths}
+use Rattle.fl_patches.specs.declared.widths.Widths.TheVariants.{Global, Boundaries, PerBlock}
 use Rattle.fl_column.specs.Operations.{is_in_range, item_named}
 use Rattle.fl_patches.specs.PatchMaps.{patched_in}
 use Rattle.fl_bitpacking.specs.Blocks.{Blocks, block_item, blocks_of, item_of_blocks, value_at}

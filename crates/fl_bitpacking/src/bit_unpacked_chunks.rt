@@ -14,7 +14,7 @@ use crate::unpack_iter::{BitPackingStrategy, PackedSource, UnpackedChunks};
 use crate::unpacked_block::UnpackedBlock;
 use crate::unpacked_items::{Span, UnpackedItems};
 use fastlanes::{FL_CHUNK_SIZE, Work};
-use fl_bit_widths::Widths;
+use fl_patches::Widths;
 use fl_types::FastLanesError;
 use std::marker::Model;
 

@@ -9,8 +9,8 @@ ghost use Rattle.fl_bitpacking.specs.Parts.{AreReadable, blocks_in};
 
 use crate::block_decoding::BlockDecoder;
 use fastlanes::{FL_CHUNK_SIZE, Work};
-use fl_bit_widths::Widths;
 use fl_column::chunk_count;
+use fl_patches::Widths;
 use fl_types::NativePType;
 
 /// The bytes of the block that starts there.

@@ -25,9 +25,8 @@ use crate::ordered_word::OrderedWord;
 use crate::patching::place_of;
 use crate::range_test::{PatternTest, RangeTest};
 use fastlanes::{Work, transpose_bits, unpack_cmp_bytes};
-use fl_bit_widths::Widths;
 use fl_column::{BoolArray, PrimitiveArray};
-use fl_patches::Patches;
+use fl_patches::{Patches, Widths};
 use fl_types::{BitList, FastLanesError, NativePType, PType, match_each_integer_ptype};
 use std::alloc::{AllocError, Global};
 

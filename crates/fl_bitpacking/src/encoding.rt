@@ -6,8 +6,8 @@ ghost use Rattle.fl_types.specs.Integers.{bits_of_type};
 ghost use Rattle.fl_types.specs.Validities.{items_of};
 ghost use Rattle.fl_column.specs.Columns.{column_of_primitive};
 ghost use Rattle.fl_column.specs.Chunks.{chunk_count};
-ghost use Rattle.fl_bit_widths.specs.Costs.{count_above};
-ghost use Rattle.fl_bit_widths.specs.Exceptions.{histogram_of};
+ghost use Rattle.fl_patches.specs.Costs.{count_above};
+ghost use Rattle.fl_patches.specs.Exceptions.{histogram_of};
 ghost use Rattle.fl_bitpacking.specs.Blocks.{boundary_array, boundaries_of, boundary_blocks, global_blocks};
 ghost use Rattle.fl_bitpacking.specs.Columns.{column_of_packed};
 ghost use Rattle.fl_bitpacking.specs.Encoders.{AnswersUnless, IsPackedAt, IsPackedInBlocks, best_width_of, best_widths_of, width_refusal, widths_refusal};
@@ -18,12 +18,12 @@ use crate::packed_data::PackedData;
 use crate::packing::{bitpack_blocked_unchecked, bitpack_unchecked};
 use crate::refusals::positions_refusal;
 use crate::width_refusals::{width_refusal, widths_refusal};
-use fl_bit_widths::laws::{histogram_counts_each, patches_are_counted};
-use fl_bit_widths::{
+use fl_column::PrimitiveArray;
+use fl_patches::laws::{histogram_counts_each, patches_are_counted};
+use fl_patches::{
     bit_width_histogram, count_exceptions, find_best_bit_width, find_best_bit_widths,
     gather_blocked_patches, gather_patches,
 };
-use fl_column::PrimitiveArray;
 use fl_types::FastLanesError;
 use std::alloc::Global;
 

@@ -7,14 +7,14 @@ ghost use Rattle.fl_types.specs.Integers.{bits_of_type, lanes_of_type};
 ghost use Rattle.fl_types.specs.declared.error.FastLanesError.TheVariants.{OutOfMemory};
 ghost use Rattle.fl_column.specs.Chunks.{chunk_count};
 ghost use Rattle.fl_bitpacking.specs.Blocks.{AreJoined, AreWithin, ArePacked, blocks_of, boundary_array, boundary_blocks, boundaries_of, bytes_of_block, global_blocks, pattern_in};
-ghost use Rattle.fl_bit_widths.specs.Widths.{NamesAll};
+ghost use Rattle.fl_patches.specs.Widths.{NamesAll};
 
 use crate::bit_packed::BitPacked;
 use crate::boundaries::{boundary_array, packed_size};
 use bytes::Bytes;
 use fastlanes::FL_CHUNK_SIZE;
-use fl_bit_widths::Widths;
 use fl_column::{PrimitiveArray, chunk_count, chunk_of};
+use fl_patches::Widths;
 use fl_types::{FastLanesError, NativePType, match_each_integer_ptype};
 use std::alloc::{AllocError, Global};
 

@@ -13,7 +13,7 @@ use crate::cut_blocks::{lends_first, lends_last, unpack_at, whole_blocks};
 use crate::unpacked_items::Span;
 pub use crate::unpacked_items::UnpackedItems;
 use fastlanes::{FL_CHUNK_SIZE, Work};
-use fl_bit_widths::Widths;
+use fl_patches::Widths;
 use fl_types::{FastLanesError, NativePType};
 use std::marker::Model;
 

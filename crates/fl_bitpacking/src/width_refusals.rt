@@ -3,7 +3,7 @@
 ghost use Rattle.std.specs.Prelude.{◌≡◌, ◌<◌, ◌==◌, IsTrue, int_lt, length, map, nat_lt, pos, slice_index_or, None};
 ghost use Rattle.std.specs.List.{list_all, list_any};
 ghost use Rattle.fl_types.specs.Validities.{covers, items_of};
-ghost use Rattle.fl_bit_widths.specs.Exceptions.{is_negative};
+ghost use Rattle.fl_patches.specs.Exceptions.{is_negative};
 ghost use Rattle.fl_bitpacking.specs.Encoders.{width_refusal, widths_refusal};
 
 use fl_column::{PrimitiveArray, chunk_count};

@@ -1,7 +1,17 @@
 pub mod AllFound
+pub mod BitCounts
+pub mod Blocks
 pub mod Chunks
+pub mod Counted
+pub mod Firsts
+pub mod Gathers
+pub mod Histograms
 pub mod Kept
+pub mod LeastCosts
+pub mod LeastTotals
+pub mod Negatives
 pub mod Parts
+pub mod Patches
 pub mod Picked
 pub mod Rising
 pub mod SearchRanges

@@ -7,9 +7,9 @@ use Rattle.fl_types.specs.Bits.{tabulate}
 use Rattle.fl_types.specs.Integers.{smallest_type}
 use Rattle.fl_column.specs.Columns.{PrimitiveParts}
 use Rattle.fl_patches.specs.PatchMaps.{places_from}
-use Rattle.fl_bit_widths.specs.Costs.{best_width, best_widths, block_histogram, choose_width, choose_widths, cost_of, first_widths}
-use Rattle.fl_bit_widths.specs.Exceptions.{bit_count, count_with_bits, exceptions_of, histogram_of, width_of_block}
-use Rattle.fl_bit_widths.specs.PatchParts.{chunk_offsets_of, global_patches}
+use Rattle.fl_patches.specs.Costs.{best_width, best_widths, block_histogram, choose_width, choose_widths, cost_of, first_widths}
+use Rattle.fl_patches.specs.Exceptions.{bit_count, count_with_bits, exceptions_of, histogram_of, width_of_block}
+use Rattle.fl_patches.specs.PatchParts.{chunk_offsets_of, global_patches}
 
 bits : map bit_count (0 ∷ 1 ∷ 2 ∷ 3 ∷ 255 ∷ 256 ∷ 9223372036854775808 ∷ 18446744073709551615 ∷ []) ≡ 0 ∷ 1 ∷ 2 ∷ 2 ∷ 8 ∷ 9 ∷ 64 ∷ 64 ∷ []
 unfolding bit_count

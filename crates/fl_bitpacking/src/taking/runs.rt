@@ -2,7 +2,7 @@
 
 ghost use Rattle.std.specs.Prelude.{◌≡◌, ◌+◌, ◌-◌, ◌*◌, ◌/◌, ◌%◌, ◌<◌, ◌≤◌, ◌^◌, ℕ, IfOk, OnOk, length, slice_index};
 ghost use Rattle.fl_types.specs.Integers.{bits_of_type};
-ghost use Rattle.fl_bit_widths.specs.Widths.{Names};
+ghost use Rattle.fl_patches.specs.Widths.{Names};
 ghost use Rattle.fl_bitpacking.specs.Blocks.{blocks_of};
 ghost use Rattle.fl_bitpacking.specs.Parts.{AreReadable};
 ghost use Rattle.fl_bitpacking.specs.Taken.{AreBelow, AreTaken, HasStarts, IsRun, unpack_threshold};
@@ -12,8 +12,8 @@ use crate::blocks::{PackedBlocks, block_at};
 use crate::decoding::unpack_block_item;
 use crate::patching::write_at;
 use fastlanes::{FL_CHUNK_SIZE, Work};
-use fl_bit_widths::Widths;
 use fl_column::PhysicalPType;
+use fl_patches::Widths;
 use std::alloc::{AllocError, Global};
 
 /// The most positions of one block that are read one by one, in a type of this many bits. Of more, the

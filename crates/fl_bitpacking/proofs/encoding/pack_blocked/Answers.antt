@@ -1,7 +1,7 @@
 use Rattle.std.proofs.Common.{◌≡◌, None, length, sym, subst, ap, ◌∙◌}
 use Rattle.fl_column.specs.Columns.{PrimitiveParts, column_of_primitive}
 use Rattle.fl_patches.proofs.Parts.{ok_same}
-use Rattle.fl_bit_widths.specs.PatchParts.{blocked_patches}
+use Rattle.fl_patches.specs.PatchParts.{blocked_patches}
 use Rattle.fl_bitpacking.specs.Blocks.{boundary_array}
 use Rattle.fl_bitpacking.specs.Columns.{BitPackedParts}
 use Rattle.fl_bitpacking.specs.Refusals.{AreConsistent, blocked_refusal, positions_refusal}

@@ -1,6 +1,6 @@
 use Rattle.std.proofs.Common.{◌≡◌, None, length, sym, subst, ap, ◌∙◌}
 use Rattle.fl_patches.proofs.Parts.{ok_same}
-use Rattle.fl_bit_widths.specs.PatchParts.{global_patches}
+use Rattle.fl_patches.specs.PatchParts.{global_patches}
 use Rattle.fl_bitpacking.specs.Columns.{BitPackedParts}
 use Rattle.fl_bitpacking.specs.Refusals.{AreConsistent, global_refusal, positions_refusal}
 use Rattle.fl_bitpacking.proofs.EncodedParts.{consistent_at, packed_global, same_parts}

@@ -1,7 +1,7 @@
 use Rattle.std.proofs.Common.{◌≡◌, None, sym, subst, refl, ◌∙◌}
 use Rattle.fl_column.specs.Columns.{column_of_primitive}
 use Rattle.fl_patches.proofs.Parts.{ok_same}
-use Rattle.fl_bit_widths.specs.PatchParts.{global_patches}
+use Rattle.fl_patches.specs.PatchParts.{global_patches}
 use Rattle.fl_bitpacking.specs.Blocks.{global_blocks}
 use Rattle.fl_bitpacking.specs.Columns.{BitPackedParts, column_of_packed}
 use Rattle.fl_bitpacking.specs.Encoders.{IsPackedAt}

@@ -1,4 +1,4 @@
-use Rattle.fl_bit_widths.proofs.Gathers.{covered_slice}
+use Rattle.fl_patches.proofs.Gathers.{covered_slice}
 use Rattle.fl_bitpacking.proofs.width_refusals.has_negative_in.Goals as goal
 
 pub has_negative_typed-requires : goal.has_negative_typed-requires

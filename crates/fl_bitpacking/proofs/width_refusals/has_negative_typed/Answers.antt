@@ -1,8 +1,8 @@
 use Rattle.std.proofs.Common.{map, sym, arith, None}
 use Rattle.fl_types.specs.Validities.{items_of}
 use Rattle.fl_column.proofs.ListLaws.{any_at, any_from}
-use Rattle.fl_bit_widths.specs.Exceptions.{is_negative}
-use Rattle.fl_bit_widths.proofs.Gathers.{covered_values}
+use Rattle.fl_patches.specs.Exceptions.{is_negative}
+use Rattle.fl_patches.proofs.Gathers.{covered_values}
 use Rattle.fl_bitpacking.proofs.width_refusals.has_negative_typed.Goals as goal
 
 pub returns-then-is_negative_at : goal.returns-then-is_negative_at

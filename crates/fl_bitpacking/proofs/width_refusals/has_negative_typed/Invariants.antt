@@ -1,6 +1,6 @@
 use Rattle.std.proofs.Common.{◌≡◌, ℕ, ◌<◌, false, get_or, map, None}
 use Rattle.fl_types.specs.Validities.{items_of}
-use Rattle.fl_bit_widths.specs.Exceptions.{is_negative}
+use Rattle.fl_patches.specs.Exceptions.{is_negative}
 use Rattle.fl_bitpacking.proofs.width_refusals.has_negative_typed.Given as goal
 
 -- no item so far is negative

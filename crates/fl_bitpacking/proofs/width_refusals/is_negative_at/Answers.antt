@@ -1,6 +1,6 @@
 use Rattle.std.proofs.Common.{true, false, refl, ◌∙◌}
 use Rattle.fl_types.specs.Validities.{is_valid_at}
-use Rattle.fl_bit_widths.proofs.Negatives.{negative_item}
+use Rattle.fl_patches.proofs.Negatives.{negative_item}
 use Rattle.fl_bitpacking.proofs.width_refusals.is_negative_at.Goals as goal
 
 pub returns-then-is_below_zero : goal.returns-then-is_below_zero
