@@ -164,6 +164,19 @@ pub undecided_none : (t : PType) (blocks : Blocks) (predicate : ℤ → Bool) �
 unfolding undecided_below
 undecided_none t blocks predicate = refl
 
+-- more blocks leave no fewer undecided
+pub undecided_within : (t : PType) (blocks : Blocks) (predicate : ℤ → Bool) (j n : ℕ) → j ≤ n → undecided_below t blocks predicate j ≤ undecided_below t blocks predicate n
+undecided_within t blocks predicate j zero h = let none : j ≡ 0 = omega arith in rw none (omega arith)
+undecided_within t blocks predicate j (suc n) h =
+    let one : suc n ≡ n + 1 = omega arith in
+    elim (cases_eq j (n + 1)) [
+      | inl same ↦ rw (one, same) (omega arith)
+      | inr other ↦
+          let step = undecided_more t blocks predicate n in
+          let within = undecided_within t blocks predicate j n (omega arith) in
+          rw one (omega arith)
+    ]
+
 -- ---- patches
 -- one more answer is put
 pub answer_more : (test : ℤ → Bool) (bits : List Bool) (was : ℕ → Bool) (slots : List ℤ) (xs : List ℕ) (offset k at : ℕ) (b : Bool) → is_rising xs ≡ true → k < length xs → get_or xs k 0 ≡ offset + at → at < length bits → b ≡ test (get_or slots k (pos 0))

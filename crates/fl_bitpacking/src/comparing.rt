@@ -225,6 +225,7 @@ fn test_blocks<W: OrderedWord>(
     ensures long { IfOk result (λ v. length v.items ≡ 16 * blocks_in blocks.entry) }
     ensures bits { IfOk result (λ v. (p : ℕ) → p < 1024 * blocks_in blocks.entry → is_set v.items p ≡ passes test.range (item_of_blocks test.ptype (blocks_of blocks.entry.widths) blocks.entry.packed.now p)) }
     ensures blocks { OnOk result (work.new.blocks ≡ min (work.old.blocks + undecided_below test.ptype (blocks_of blocks.entry.widths) (passes test.range) (blocks_in blocks.entry)) u64.MAX) }
+    ensures most { work.new.blocks ≤ work.old.blocks + undecided_below test.ptype (blocks_of blocks.entry.widths) (passes test.range) (blocks_in blocks.entry) }
     ensures words { work.new.words ≡ work.old.words }
 {
     prove_count_fits(work);
@@ -248,6 +249,7 @@ fn test_words(
     ensures long { IfOk result (λ v. length v.items ≡ 16 * blocks_in blocks.entry) }
     ensures bits { IfOk result (λ v. (p : ℕ) → p < 1024 * blocks_in blocks.entry → is_set v.items p ≡ passes test.range (item_of_blocks test.ptype (blocks_of blocks.entry.widths) blocks.entry.packed.now p)) }
     ensures blocks { OnOk result (work.new.blocks ≡ min (work.old.blocks + undecided_below test.ptype (blocks_of blocks.entry.widths) (passes test.range) (blocks_in blocks.entry)) u64.MAX) }
+    ensures most { work.new.blocks ≤ work.old.blocks + undecided_below test.ptype (blocks_of blocks.entry.widths) (passes test.range) (blocks_in blocks.entry) }
     ensures words { work.new.words ≡ work.old.words }
 {
     match test.ptype {
@@ -270,6 +272,7 @@ fn test_items(
     ensures long { IfOk result (λ b. length b ≡ blocks.entry.len) }
     ensures bits { IfOk result (λ b. (i : ℕ) → i < blocks.entry.len → slice_index_or b i false ≡ passes test.range (item_of_blocks test.ptype (blocks_of blocks.entry.widths) blocks.entry.packed.now (blocks.entry.offset + i))) }
     ensures blocks { OnOk result (work.new.blocks ≡ min (work.old.blocks + (if blocks.entry.len == 0 then 0 else undecided_below test.ptype (blocks_of blocks.entry.widths) (passes test.range) (blocks_in blocks.entry))) u64.MAX) }
+    ensures most { work.new.blocks ≤ work.old.blocks + (if blocks.entry.len == 0 then 0 else undecided_below test.ptype (blocks_of blocks.entry.widths) (passes test.range) (blocks_in blocks.entry)) }
     ensures words { work.new.words ≡ work.old.words }
 {
     prove_count_fits(work);
@@ -389,6 +392,7 @@ pub(crate) fn test_column(
     requires readable { AreReadable (bits_of_type column.now.ptype) (blocks_to_read column.now widths) }
     ensures column { Answers column_of_bools result (Ok (tested (passes range) (column_of_packed (parts_of column.now) (blocks_of widths.entry)))) }
     ensures blocks { OnOk result (work.new.blocks ≡ min (work.old.blocks + undecided_blocks (parts_of column.now) (blocks_of widths.entry) (passes range)) u64.MAX) }
+    ensures most { work.new.blocks ≤ work.old.blocks + undecided_blocks (parts_of column.now) (blocks_of widths.entry) (passes range) }
     ensures words { work.new.words ≡ work.old.words }
 {
     let blocks = PackedBlocks {
@@ -417,6 +421,7 @@ pub(crate) fn test_global(
     requires room { 128 * width * block_count (parts_of column.now) ≤ length column.now.packed.now }
     ensures column { Answers column_of_bools result (Ok (tested (passes range) (column_of_packed (parts_of column.now) (global_blocks width)))) }
     ensures blocks { OnOk result (work.new.blocks ≡ min (work.old.blocks + undecided_blocks (parts_of column.now) (global_blocks width) (passes range)) u64.MAX) }
+    ensures most { work.new.blocks ≤ work.old.blocks + undecided_blocks (parts_of column.now) (global_blocks width) (passes range) }
     ensures words { work.new.words ≡ work.old.words }
 {
     test_column(alloc, column, Widths::Global(width), range, work)
@@ -438,6 +443,7 @@ pub(crate) fn test_blocked(
     requires blocks { IsTrue (are_blocks (bits_of_type column.now.ptype) (length column.now.packed.now) (numbers boundaries.now)) }
     ensures column { Answers column_of_bools result (Ok (tested (passes range) (column_of_packed (parts_of column.now) (boundary_blocks (numbers boundaries.now))))) }
     ensures blocks { OnOk result (work.new.blocks ≡ min (work.old.blocks + undecided_blocks (parts_of column.now) (boundary_blocks (numbers boundaries.now)) (passes range)) u64.MAX) }
+    ensures most { work.new.blocks ≤ work.old.blocks + undecided_blocks (parts_of column.now) (boundary_blocks (numbers boundaries.now)) (passes range) }
     ensures words { work.new.words ≡ work.old.words }
 {
     test_column(alloc, column, Widths::Boundaries(boundaries), range, work)

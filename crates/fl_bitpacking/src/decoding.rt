@@ -95,6 +95,7 @@ fn push_block<T: BitPacked>(
     ensures part { OnOk result ((i : ℕ) → length items.old.items + i < length items.new.items → value_at T.value items.new.items (length items.old.items + i) ≡ decoded_item (plus_block_reference T.PTYPE (map T.value references.now)) T.PTYPE (blocks_of blocks.entry.widths) blocks.entry.packed.now (blocks.entry.offset + (length items.old.items + i))) }
     ensures next { IfOk result (λ next. next ≡ (blocks_of blocks.entry.widths).start (j + 1)) }
     ensures blocks { OnOk result (work.new.blocks ≡ min (work.old.blocks + 1) u64.MAX) }
+    ensures most { work.new.blocks ≤ work.old.blocks + 1 }
     ensures words { work.new.words ≡ work.old.words }
 {
     let (from, to) = blocks.places(j);
@@ -115,6 +116,7 @@ pub(crate) fn decode_blocks<T: BitPacked>(
     ensures long { IfOk result (λ v. length v.items ≡ blocks.entry.len) }
     ensures items { IfOk result (λ v. (i : ℕ) → i < blocks.entry.len → value_at T.value v.items i ≡ decoded_item (plus_block_reference T.PTYPE (map T.value references.now)) T.PTYPE (blocks_of blocks.entry.widths) blocks.entry.packed.now (blocks.entry.offset + i)) }
     ensures blocks { OnOk result (work.new.blocks ≡ min (work.old.blocks + blocks_in blocks.entry) u64.MAX) }
+    ensures most { work.new.blocks ≤ work.old.blocks + blocks_in blocks.entry }
     ensures words { work.new.words ≡ work.old.words }
 {
     prove_count_fits(work);
@@ -147,7 +149,7 @@ pub(crate) fn unpack_values<T: BitPacked>(
     requires { AreReadable (bits_of_type T.PTYPE) blocks }
     ensures long { IfOk result (λ v. length v.items ≡ blocks.entry.len) }
     ensures items { IfOk result (λ v. (i : ℕ) → i < blocks.entry.len → value_at T.value v.items i ≡ item_of_blocks T.PTYPE (blocks_of blocks.entry.widths) blocks.entry.packed.now (blocks.entry.offset + i)) }
-    ensures blocks { OnOk result (work.new.blocks ≤ work.old.blocks + blocks_in blocks.entry) }
+    ensures blocks { work.new.blocks ≤ work.old.blocks + blocks_in blocks.entry }
     ensures words { work.new.words ≡ work.old.words }
 {
     match blocks.widths {
@@ -201,7 +203,7 @@ fn unpack_typed<T: BitPacked + WrappingAdd>(
     requires fit { Fit (parts_of column.now) }
     requires readable { AreReadable (bits_of_type column.now.ptype) (blocks_to_read column.now widths) }
     ensures column { Answers column_of_primitive result (Ok (column_of_packed (parts_of column.now) (blocks_of widths.entry))) }
-    ensures blocks { OnOk result (work.new.blocks ≤ work.old.blocks + blocks_in (blocks_to_read column.now widths.entry)) }
+    ensures blocks { work.new.blocks ≤ work.old.blocks + blocks_in (blocks_to_read column.now widths.entry) }
     ensures words { work.new.words ≡ work.old.words }
 {
     let blocks = PackedBlocks {
@@ -226,7 +228,7 @@ fn unpack_column(
     requires fit { Fit (parts_of column.now) }
     requires readable { AreReadable (bits_of_type column.now.ptype) (blocks_to_read column.now widths) }
     ensures column { Answers column_of_primitive result (Ok (column_of_packed (parts_of column.now) (blocks_of widths.entry))) }
-    ensures blocks { OnOk result (work.new.blocks ≤ work.old.blocks + blocks_in (blocks_to_read column.now widths.entry)) }
+    ensures blocks { work.new.blocks ≤ work.old.blocks + blocks_in (blocks_to_read column.now widths.entry) }
     ensures words { work.new.words ≡ work.old.words }
 {
     match_each_integer_ptype!(column.ptype, unpack_typed(alloc, column, widths, work))
@@ -246,7 +248,7 @@ pub fn unpack_global(
     requires width { width ≤ bits_of_type column.now.ptype }
     requires room { 128 * width * block_count (parts_of column.now) ≤ length column.now.packed.now }
     ensures column { Answers column_of_primitive result (Ok (column_of_packed (parts_of column.now) (global_blocks width))) }
-    ensures blocks { OnOk result (work.new.blocks ≤ work.old.blocks + block_count (parts_of column.now)) }
+    ensures blocks { work.new.blocks ≤ work.old.blocks + block_count (parts_of column.now) }
     ensures words { work.new.words ≡ work.old.words }
 {
     unpack_column(alloc, column, Widths::Global(width), work)
@@ -268,7 +270,7 @@ pub fn unpack_blocked(
     requires count { length boundaries.now.slots ≡ block_count (parts_of column.now) + 1 }
     requires blocks { IsTrue (are_blocks (bits_of_type column.now.ptype) (length column.now.packed.now) (numbers boundaries.now)) }
     ensures column { Answers column_of_primitive result (Ok (column_of_packed (parts_of column.now) (boundary_blocks (numbers boundaries.now)))) }
-    ensures blocks { OnOk result (work.new.blocks ≤ work.old.blocks + block_count (parts_of column.now)) }
+    ensures blocks { work.new.blocks ≤ work.old.blocks + block_count (parts_of column.now) }
     ensures words { work.new.words ≡ work.old.words }
 {
     unpack_column(alloc, column, Widths::Boundaries(boundaries), work)

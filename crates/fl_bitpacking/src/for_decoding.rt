@@ -44,6 +44,7 @@ fn unfor_by<'a, T: BitPacked + WrappingAdd>(
     requires readable { AreReadable (bits_of_type column.now.ptype) (blocks_to_read column.now widths) }
     ensures column { Answers column_of_primitive result (Ok (decoded_column (plus_block_reference T.PTYPE (map T.value references.now)) (parts_of column.now) (blocks_of widths.entry))) }
     ensures blocks { OnOk result (work.new.blocks ≡ min (work.old.blocks + block_count (parts_of column.now)) u64.MAX) }
+    ensures most { work.new.blocks ≤ work.old.blocks + block_count (parts_of column.now) }
     ensures words { work.new.words ≡ work.old.words }
 {
     let blocks = PackedBlocks {
@@ -71,6 +72,7 @@ fn unfor_typed<'a, T: BitPacked + WrappingAdd>(
     requires readable { AreReadable (bits_of_type column.now.ptype) (blocks_to_read column.now widths) }
     ensures column { Answers column_of_primitive result (Ok (plus_references references.entry column.now.offset (column_of_packed (parts_of column.now) (blocks_of widths.entry)))) }
     ensures blocks { OnOk result (work.new.blocks ≡ min (work.old.blocks + block_count (parts_of column.now)) u64.MAX) }
+    ensures most { work.new.blocks ≤ work.old.blocks + block_count (parts_of column.now) }
     ensures words { work.new.words ≡ work.old.words }
 {
     T::prove_fits_in_memory();
@@ -99,6 +101,7 @@ fn unfor_column<'a>(
     requires readable { AreReadable (bits_of_type column.now.ptype) (blocks_to_read column.now widths) }
     ensures column { Answers column_of_primitive result (Ok (plus_references references.entry column.now.offset (column_of_packed (parts_of column.now) (blocks_of widths.entry)))) }
     ensures blocks { OnOk result (work.new.blocks ≡ min (work.old.blocks + block_count (parts_of column.now)) u64.MAX) }
+    ensures most { work.new.blocks ≤ work.old.blocks + block_count (parts_of column.now) }
     ensures words { work.new.words ≡ work.old.words }
 {
     match_each_integer_ptype!(
@@ -124,6 +127,7 @@ pub fn unfor_global(
     requires room { 128 * width * block_count (parts_of column.now) ≤ length column.now.packed.now }
     ensures column { Answers column_of_primitive result (Ok (plus_references references.entry column.now.offset (column_of_packed (parts_of column.now) (global_blocks width)))) }
     ensures blocks { OnOk result (work.new.blocks ≡ min (work.old.blocks + block_count (parts_of column.now)) u64.MAX) }
+    ensures most { work.new.blocks ≤ work.old.blocks + block_count (parts_of column.now) }
     ensures words { work.new.words ≡ work.old.words }
 {
     unfor_column(alloc, column, Widths::Global(width), references, work)
@@ -147,6 +151,7 @@ pub fn unfor_blocked<'a>(
     requires blocks { IsTrue (are_blocks (bits_of_type column.now.ptype) (length column.now.packed.now) (numbers boundaries.now)) }
     ensures column { Answers column_of_primitive result (Ok (plus_references references.entry column.now.offset (column_of_packed (parts_of column.now) (boundary_blocks (numbers boundaries.now))))) }
     ensures blocks { OnOk result (work.new.blocks ≡ min (work.old.blocks + block_count (parts_of column.now)) u64.MAX) }
+    ensures most { work.new.blocks ≤ work.old.blocks + block_count (parts_of column.now) }
     ensures words { work.new.words ≡ work.old.words }
 {
     unfor_column(

@@ -33,6 +33,7 @@ impl PackedData {
         requires room { 128 * width * block_count self.now ≤ length self.now.packed }
         ensures column { Answers column_of_bools result (Ok (tested (passes range) (column_of_packed self.now (global_blocks width)))) }
         ensures blocks { OnOk result (work.new.blocks ≡ min (work.old.blocks + undecided_blocks self.now (global_blocks width) (passes range)) u64.MAX) }
+        ensures most { work.new.blocks ≤ work.old.blocks + undecided_blocks self.now (global_blocks width) (passes range) }
         ensures words { work.new.words ≡ work.old.words }
     {
         self.prove_well_formed();
@@ -52,6 +53,7 @@ impl PackedData {
         requires blocks { IsTrue (are_blocks (bits_of_type self.now.ptype) (length self.now.packed) (numbers boundaries.now)) }
         ensures column { Answers column_of_bools result (Ok (tested (passes range) (column_of_packed self.now (boundary_blocks (numbers boundaries.now))))) }
         ensures blocks { OnOk result (work.new.blocks ≡ min (work.old.blocks + undecided_blocks self.now (boundary_blocks (numbers boundaries.now)) (passes range)) u64.MAX) }
+        ensures most { work.new.blocks ≤ work.old.blocks + undecided_blocks self.now (boundary_blocks (numbers boundaries.now)) (passes range) }
         ensures words { work.new.words ≡ work.old.words }
     {
         self.prove_well_formed();

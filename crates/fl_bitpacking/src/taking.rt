@@ -98,8 +98,8 @@ impl<'a> Taking<'a> {
         requires starts { HasStarts self.widths }
         requires below { AreBelow self.column.len self.positions.now }
         ensures slots { IfOk result (λ v. AreSlots T.value self.entry v.items) }
-        ensures blocks { OnOk result (17 * work.new.blocks ≤ 17 * work.old.blocks + length self.entry.positions.now) }
-        ensures words { OnOk result (work.new.words ≤ work.old.words + 2 * length self.entry.positions.now) }
+        ensures blocks { 17 * work.new.blocks ≤ 17 * work.old.blocks + length self.entry.positions.now }
+        ensures words { work.new.words ≤ work.old.words + 2 * length self.entry.positions.now }
     {
         let items = take_stored(alloc, self.blocks(), self.positions, work)?;
         Ok(with_patches_at(items, self.column.patches, self.positions))
@@ -135,8 +135,8 @@ impl<'a> Taking<'a> {
         requires starts { HasStarts self.widths }
         requires below { AreBelow self.column.len self.positions.now }
         ensures slots { IfOk result (λ v. AreSlots T.value self.entry v.items) }
-        ensures blocks { whole ≡ false → OnOk result (17 * work.new.blocks ≤ 17 * work.old.blocks + length self.entry.positions.now) }
-        ensures words { whole ≡ false → OnOk result (work.new.words ≤ work.old.words + 2 * length self.entry.positions.now) }
+        ensures blocks { whole ≡ false → 17 * work.new.blocks ≤ 17 * work.old.blocks + length self.entry.positions.now }
+        ensures words { whole ≡ false → work.new.words ≤ work.old.words + 2 * length self.entry.positions.now }
     {
         if whole {
             self.slots_of_all(alloc, work)
@@ -298,8 +298,8 @@ fn take_typed<T: BitPacked + PhysicalPType + WrappingAdd>(
     requires starts { HasStarts taking.widths }
     requires positions { ArePositions taking.column.len (column_of_primitive indices.now).items taking.positions.now }
     ensures column { Answers column_of_primitive result (take_column (column_of_primitive indices.now) (column_of_packed (parts_of taking.entry.column) (blocks_of taking.entry.widths))) }
-    ensures blocks { whole ≡ false → OnOk result (17 * work.new.blocks ≤ 17 * work.old.blocks + length (column_of_primitive indices.now).items) }
-    ensures words { whole ≡ false → OnOk result (work.new.words ≤ work.old.words + 2 * length (column_of_primitive indices.now).items) }
+    ensures blocks { whole ≡ false → 17 * work.new.blocks ≤ 17 * work.old.blocks + length (column_of_primitive indices.now).items }
+    ensures words { whole ≡ false → work.new.words ≤ work.old.words + 2 * length (column_of_primitive indices.now).items }
 {
     let slots = taking.taken_slots::<T>(alloc, whole, work)?;
     taking.named_items(alloc, slots, indices)
@@ -318,8 +318,8 @@ fn take_at(
     requires starts { HasStarts taking.widths }
     requires positions { ArePositions taking.column.len (column_of_primitive indices.now).items taking.positions.now }
     ensures column { Answers column_of_primitive result (take_column (column_of_primitive indices.now) (column_of_packed (parts_of taking.entry.column) (blocks_of taking.entry.widths))) }
-    ensures blocks { whole ≡ false → OnOk result (17 * work.new.blocks ≤ 17 * work.old.blocks + length (column_of_primitive indices.now).items) }
-    ensures words { whole ≡ false → OnOk result (work.new.words ≤ work.old.words + 2 * length (column_of_primitive indices.now).items) }
+    ensures blocks { whole ≡ false → 17 * work.new.blocks ≤ 17 * work.old.blocks + length (column_of_primitive indices.now).items }
+    ensures words { whole ≡ false → work.new.words ≤ work.old.words + 2 * length (column_of_primitive indices.now).items }
 {
     match_each_integer_ptype!(
         taking.column.ptype,
@@ -341,8 +341,8 @@ fn take_named(
     requires readable { AreReadable (bits_of_type column.now.ptype) (blocks_to_read column.now widths) }
     requires starts { HasStarts widths }
     ensures column { Answers column_of_primitive result (take_column (column_of_primitive indices.now) (column_of_packed (parts_of column.now) (blocks_of widths.entry))) }
-    ensures blocks { is_global ≡ false → OnOk result (17 * work.new.blocks ≤ 17 * work.old.blocks + length (column_of_primitive indices.now).items) }
-    ensures words { is_global ≡ false → OnOk result (work.new.words ≤ work.old.words + 2 * length (column_of_primitive indices.now).items) }
+    ensures blocks { is_global ≡ false → 17 * work.new.blocks ≤ 17 * work.old.blocks + length (column_of_primitive indices.now).items }
+    ensures words { is_global ≡ false → work.new.words ≤ work.old.words + 2 * length (column_of_primitive indices.now).items }
 {
     let positions = named_positions(alloc, indices, column.len)?;
     let whole = is_global && positions.len() > column.len / 8;
@@ -398,8 +398,8 @@ pub fn take_blocked(
     requires count { length boundaries.now.slots ≡ block_count (parts_of column.now) + 1 }
     requires blocks { IsTrue (are_blocks (bits_of_type column.now.ptype) (length column.now.packed.now) (numbers boundaries.now)) }
     ensures column { Answers column_of_primitive result (take_column (column_of_primitive indices.now) (column_of_packed (parts_of column.now) (boundary_blocks (numbers boundaries.now)))) }
-    ensures blocks { OnOk result (17 * work.new.blocks ≤ 17 * work.old.blocks + length (column_of_primitive indices.now).items) }
-    ensures words { OnOk result (work.new.words ≤ work.old.words + 2 * length (column_of_primitive indices.now).items) }
+    ensures blocks { 17 * work.new.blocks ≤ 17 * work.old.blocks + length (column_of_primitive indices.now).items }
+    ensures words { work.new.words ≤ work.old.words + 2 * length (column_of_primitive indices.now).items }
 {
     take_named(
         alloc,
@@ -447,8 +447,8 @@ impl PackedData {
         requires count { length boundaries.now.slots ≡ block_count self.now + 1 }
         requires blocks { IsTrue (are_blocks (bits_of_type self.now.ptype) (length self.now.packed) (numbers boundaries.now)) }
         ensures column { Answers column_of_primitive result (take_column (column_of_primitive indices.now) (column_of_packed self.now (boundary_blocks (numbers boundaries.now)))) }
-        ensures blocks { OnOk result (17 * work.new.blocks ≤ 17 * work.old.blocks + length (column_of_primitive indices.now).items) }
-        ensures words { OnOk result (work.new.words ≤ work.old.words + 2 * length (column_of_primitive indices.now).items) }
+        ensures blocks { 17 * work.new.blocks ≤ 17 * work.old.blocks + length (column_of_primitive indices.now).items }
+        ensures words { work.new.words ≤ work.old.words + 2 * length (column_of_primitive indices.now).items }
     {
         self.prove_well_formed();
         take_blocked(alloc, &self.column(), boundaries, indices, work)
@@ -467,8 +467,8 @@ impl PackedData {
         work: &mut Work,
     ) -> Result<PrimitiveArray, FastLanesError>
         ensures column { Answers column_of_primitive result (take_column (column_of_primitive indices.now) (column_of_packed self.now (boundary_blocks (numbers_of (column_of_constant boundaries.now))))) }
-        ensures blocks { OnOk result (17 * work.new.blocks ≤ 17 * work.old.blocks + length (column_of_primitive indices.now).items) }
-        ensures words { OnOk result (work.new.words ≤ work.old.words + 2 * length (column_of_primitive indices.now).items) }
+        ensures blocks { 17 * work.new.blocks ≤ 17 * work.old.blocks + length (column_of_primitive indices.now).items }
+        ensures words { work.new.words ≤ work.old.words + 2 * length (column_of_primitive indices.now).items }
     {
         self.prove_well_formed();
         let widths = Widths::Global(0);

@@ -75,10 +75,10 @@ pub(crate) fn least_cost(ptype: PType, histogram: &[usize]) -> u8
     best
 }
 
-/// The smallest width at which the items of a histogram take fewest bytes, below the number of entries, or 0
-/// without entries. At width
-/// `w` the packed items take `w` bits each, rounded up to bytes together, and each item with more
-/// bits takes 5, 6, 8 or 12 bytes more, for 8, 16, 32 or 64 bits of the type.
+/// The smallest width at which the items of a histogram take fewest bytes, below the number of
+/// entries, or 0 without entries. At width `w` the packed items take `w` bits each, rounded up to
+/// bytes together, and each item with more bits takes 5, 6, 8 or 12 bytes more, for 8, 16, 32 or 64
+/// bits of the type.
 ///
 /// # Errors
 /// `TooManyWidths` where the histogram has more than 255 entries.

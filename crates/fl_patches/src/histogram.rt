@@ -102,7 +102,8 @@ fn histogram_typed<T: PhysicalPType>(
     array: &PrimitiveArray,
 ) -> Result<Vec<usize>, FastLanesError>
     requires { array.now.ptype ≡ T.PTYPE }
-    ensures { Answers (λ v. v.items) result (Ok (histogram_of array.now.ptype (items_of array.now.validity array.now.slots))) }
+    ensures counts { Answers (λ v. v.items) result (Ok (histogram_of array.now.ptype (items_of array.now.validity array.now.slots))) }
+    ensures long { IfOk result (λ v. length v.items ≡ bits_of_type array.now.ptype + 1) }
 {
     let items = array.as_slice::<T>();
     let mut entries = no_entries::<T>(alloc)?;
@@ -117,7 +118,8 @@ pub fn bit_width_histogram(
     alloc: Global,
     array: &PrimitiveArray,
 ) -> Result<Vec<usize>, FastLanesError>
-    ensures { Answers (λ v. v.items) result (Ok (histogram_of array.now.ptype (items_of array.now.validity array.now.slots))) }
+    ensures counts { Answers (λ v. v.items) result (Ok (histogram_of array.now.ptype (items_of array.now.validity array.now.slots))) }
+    ensures long { IfOk result (λ v. length v.items ≡ bits_of_type array.now.ptype + 1) }
 {
     match_each_integer_ptype!(array.ptype(), histogram_typed(alloc, array))
 }

@@ -1,5 +1,7 @@
 //! Casts of bit-packed arrays in place: the packed bytes stay where the integer type does.
 
+mod slice;
+
 ghost use Rattle.std.specs.Prelude.{◌≡◌, ◌||◌, IfOk, IsTrue, Ok, is_none, not};
 ghost use Rattle.std.specs.List.{list_any};
 ghost use Rattle.fl_types.specs.declared.dtype.DType.TheVariants.{Primitive};

@@ -196,8 +196,8 @@ pub(crate) fn take_stored<T: BitPacked + PhysicalPType>(
     requires below { AreBelow blocks.len positions.now }
     ensures long { IfOk result (λ v. length v.items ≡ length positions.now) }
     ensures taken { IfOk result (λ v. AreTaken T.value T.PTYPE blocks.entry positions.now (length positions.now) v.items) }
-    ensures blocks { OnOk result (17 * work.new.blocks ≤ 17 * work.old.blocks + length positions.now) }
-    ensures words { OnOk result (work.new.words ≤ work.old.words + 2 * length positions.now) }
+    ensures blocks { 17 * work.new.blocks ≤ 17 * work.old.blocks + length positions.now }
+    ensures words { work.new.words ≤ work.old.words + 2 * length positions.now }
 {
     T::prove_fits_in_memory();
     let mut items = Vec::new(alloc);

@@ -1,8 +1,9 @@
 use Rattle.std.proofs.Common.{◌+◌, ◌*◌, ◌∙◌, inl, inr, refl, sym, arith}
 use Rattle.std.proofs.lemmas.Bool.{cases_lt}
 use Rattle.fl_bitpacking.specs.Blocks.{blocks_of}
+use Rattle.fl_bitpacking.specs.Parts.{blocks_in}
 use Rattle.fl_bitpacking.specs.RangeTests.{passes}
-use Rattle.fl_bitpacking.proofs.ComparedLaws.{undecided_more, undecided_none}
+use Rattle.fl_bitpacking.proofs.ComparedLaws.{undecided_more, undecided_none, undecided_within}
 use Rattle.fl_bitpacking.proofs.comparing.test_blocks.Goals as goal
 
 pub loop-j-init : goal.loop-j-init
@@ -36,3 +37,13 @@ loop-j-preserved g c =
       blocks = rw more (omega arith);
       words = omega arith;
     }
+
+pub returns-in_err-start-clause-most : goal.returns-in_err-start-clause-most
+returns-in_err-start-clause-most g c =
+    let blocks = blocks_of c.args.blocks.widths in
+    let test = passes c.args.test.range in
+    let more = undecided_more c.args.test.ptype blocks test c.loop-j.j in
+    let within = undecided_within c.args.test.ptype blocks test (c.loop-j.j + 1) (blocks_in c.args.blocks) (omega arith) in
+    let counted = c.loop-j.invariant.blocks in
+    let counts = c.push_answers.ensures.blocks in
+    omega arith

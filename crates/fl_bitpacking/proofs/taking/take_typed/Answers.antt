@@ -1,5 +1,4 @@
 use Rattle.std.proofs.Common.{arith}
-use Rattle.fl_bitpacking.proofs.TakenColumns.{on_ok}
 use Rattle.fl_bitpacking.proofs.taking.take_typed.Goals as goal
 
 pub taken_slots-requires-clause-below : goal.taken_slots-requires-clause-below
@@ -9,10 +8,10 @@ pub returns-clause-blocks : goal.returns-clause-blocks
 returns-clause-blocks g c h =
     let few = c.requires.positions.few in
     let counted = c.in_ok-slots.ensures.blocks h in
-    on_ok c.named_items.result (omega arith)
+    omega arith
 
 pub returns-clause-words : goal.returns-clause-words
 returns-clause-words g c h =
     let few = c.requires.positions.few in
     let counted = c.in_ok-slots.ensures.words h in
-    on_ok c.named_items.result (omega arith)
+    omega arith
