@@ -5,8 +5,8 @@ ghost use Rattle.fl_types.specs.Refusals.{Answers};
 ghost use Rattle.flcol_engine.specs.Words.{halves_at, index_in_text, list_in_text, number_in_word, pair_in_text, range_in_text};
 
 use crate::text;
+use fl_column::FastLanesError;
 use std::alloc::Global;
-use vortex_fastlanes::FastLanesError;
 
 /// What stands before the first separator and what stands behind it, where there is one.
 pub(crate) fn split_once(text: &[u8], separator: u8) -> Option<(&[u8], &[u8])>

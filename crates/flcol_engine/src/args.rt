@@ -9,10 +9,10 @@ use crate::arg_parts::{number, split_once};
 use crate::commands::{ColumnQuestion, Command, Encode, Encoding, Pack, Packing, Question, Run};
 use crate::operations::operations;
 use crate::text;
-use std::alloc::Global;
-use vortex_fastlanes::{
+use fl_column::{
     BetweenOptions, CompareOperator, FastLanesError, Nullability, PType, StrictComparison,
 };
+use std::alloc::Global;
 
 /// The line that says how the program is called.
 pub fn usage() -> &'static str

@@ -12,9 +12,9 @@ use crate::io::{Sink, Source};
 use crate::transfer::{read_all, write_all};
 use crate::{encodes, runs, text};
 use bytes::Bytes;
+use fl_bitpacking::packing::bitpack_unchecked;
+use fl_column::FastLanesError;
 use std::alloc::Global;
-use vortex_fastlanes::FastLanesError;
-use vortex_fastlanes::bitpack_compress::bitpack_unchecked;
 
 /// The packed bytes of the column that a text says.
 fn packed(alloc: Global, command: Pack, text: &[u8]) -> Result<Bytes, Fault>

@@ -11,9 +11,10 @@ ghost use Rattle.flcol_engine.specs.Words.{bits_in_text, column_type_in_word, ea
 
 use crate::arg_parts::{list, pair, split_once};
 use crate::args::column_type;
+use fl_array::{ArrayRef, IntoArray};
+use fl_column::{BitList, DType, FastLanesError, Mask, PrimitiveArray};
+use fl_ops::Op;
 use std::alloc::Global;
-use vortex_fastlanes::array::{ArrayRef, IntoArray, Op};
-use vortex_fastlanes::{BitList, DType, FastLanesError, Mask, PrimitiveArray};
 
 /// The indices, where none is null.
 fn all_indices(alloc: Global, indices: &[Option<u64>]) -> Result<Option<Vec<u64>>, FastLanesError>

@@ -11,12 +11,10 @@ ghost use Rattle.fl_types.specs.Values.{bool_number, integer_of, scalar_parts};
 ghost use Rattle.fl_column.specs.Columns.{column_of_bools, column_of_primitive};
 ghost use Rattle.flcol_engine.specs.Printing.{column_text, line, scalar_text, text_of_item, truth_text};
 
+use fl_column::{BoolArray, FastLanesError, NativePType, PValue, PrimitiveArray, Scalar, Validity};
 use fl_types::{is_less, match_each_integer_ptype};
 use itoa::Buffer;
 use std::alloc::Global;
-use vortex_fastlanes::{
-    BoolArray, FastLanesError, NativePType, PValue, PrimitiveArray, Scalar, Validity,
-};
 
 /// Adds an integer in decimal digits, and a line feed.
 fn push_integer<T: NativePType>(text: &mut Vec<u8>, x: T) -> Result<(), FastLanesError>

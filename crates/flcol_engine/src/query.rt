@@ -13,13 +13,14 @@ use crate::fault::Fault;
 use crate::printing::print_line;
 use crate::questions::reply;
 use bytes::Bytes;
+use fl_array::ArrayRef;
+use fl_column::FastLanesError;
+use fl_ops::apply_all;
 use fl_plugin::laws::prove_read_back;
 use fl_plugin::writing::node_kind;
 use fl_plugin::{deserialize, serialize};
 use flcol_container::{read_container, write_container};
 use std::alloc::Global;
-use vortex_fastlanes::FastLanesError;
-use vortex_fastlanes::array::{ArrayRef, apply_all};
 
 /// The array of a container; its packed bytes are parts of the container's.
 ///

@@ -11,8 +11,8 @@ use crate::fault::Fault;
 use crate::io::{Sink, Source};
 use crate::transfer::write_all;
 use crate::{engine, words};
+use fl_column::FastLanesError;
 use std::alloc::Global;
-use vortex_fastlanes::FastLanesError;
 
 /// Memory ran out.
 const OUT_OF_MEMORY: Fault = Fault::Refused(FastLanesError::OutOfMemory);
