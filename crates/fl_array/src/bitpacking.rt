@@ -38,7 +38,7 @@ pub use crate::bitpacking::data::BitPackedData;
 use crate::numbers::number_of_scalar;
 use bytes::Bytes;
 use fastlanes::Work;
-use fl_bitpacking::decoding::PackedColumn;
+use fl_bitpacking::bitpack_decompress::PackedColumn;
 use fl_bitpacking::packed_data::PackedData;
 use fl_bitpacking::refusals::{
     block_offsets_refusal, blocked_refusal, constant_boundaries_refusal, global_refusal,

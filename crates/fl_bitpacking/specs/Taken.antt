@@ -14,8 +14,8 @@ use Rattle.fl_bitpacking.specs.Blocks.{Blocks, block_item, blocks_of, item_of_bl
 use Rattle.fl_bitpacking.specs.Columns.{BitPackedParts, column_of_packed, packed_item, stored}
 use Rattle.fl_bitpacking.specs.Parts.{parts_of}
 use Rattle.fl_bitpacking.specs.declared.blocks.PackedBlocks.{PackedBlocks}
-use Rattle.fl_bitpacking.specs.declared.taking.runs.Run.{Run}
-use Rattle.fl_bitpacking.specs.declared.taking.Taking.{Taking}
+use Rattle.fl_bitpacking.specs.declared.compute.take.runs.Run.{Run}
+use Rattle.fl_bitpacking.specs.declared.compute.take.Taking.{Taking}
 
 -- the most positions of one block that are read one by one, in a type of this many bits; of more the block is unpacked whole
 abbrev pub unpack_threshold : ℕ → ℕ

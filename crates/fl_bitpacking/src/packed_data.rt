@@ -22,9 +22,9 @@ ghost use Rattle.fl_bitpacking.specs.Refusals.{AreConsistent, blocked_refusal, g
 ghost use Rattle.fl_bitpacking.specs.SingleItems.{HasBlock, item_in_block, stored_in_block, stored_scalar};
 ghost use Rattle.fl_bitpacking.specs.SlicedParts.{HasEnds, IsBlockedSlice, end_block, first_block, sliced_parts};
 
+use crate::bitpack_decompress::unfor::{References, unfor_blocked, unfor_global};
+use crate::bitpack_decompress::{PackedColumn, unpack_block_item, unpack_blocked, unpack_global};
 use crate::boundaries::global_boundary_array;
-use crate::decoding::{PackedColumn, unpack_block_item, unpack_blocked, unpack_global};
-use crate::for_decoding::{References, unfor_blocked, unfor_global};
 use bytes::Bytes;
 use fastlanes::{FL_CHUNK_SIZE, Work};
 use fl_column::{ConstantArray, PhysicalPType, PrimitiveArray, chunk_count};

@@ -12,7 +12,7 @@ use crate::io::{Sink, Source};
 use crate::transfer::{read_all, write_all};
 use crate::{encodes, runs, text};
 use bytes::Bytes;
-use fl_bitpacking::packing::bitpack_unchecked;
+use fl_bitpacking::bitpack_compress::bitpack_unchecked;
 use fl_column::FastLanesError;
 use std::alloc::Global;
 

@@ -15,7 +15,7 @@ ghost use Rattle.fl_array.specs.Trees.{column};
 
 use crate::array::IntoArray;
 use crate::bitpacking::BitPackedArray;
-use fl_bitpacking::encoding::{
+use fl_bitpacking::bitpack_compress::encoding::{
     encode_at_best_width, encode_at_best_widths, encode_blocked, encode_global, pack_unpatched,
 };
 use fl_column::{FastLanesError, PrimitiveArray};

@@ -11,7 +11,7 @@ ghost use Rattle.fl_array.specs.Trees.{column};
 use crate::array::ArrayRef;
 use crate::bitpacking::{BitPackedArray, BitWidthsView};
 use fastlanes::Work;
-use fl_bitpacking::for_decoding::References;
+use fl_bitpacking::bitpack_decompress::unfor::References;
 use fl_column::{FastLanesError, PrimitiveArray};
 use std::alloc::Global;
 

@@ -13,7 +13,7 @@ use crate::bits;
 use crate::columns::count;
 use crate::packing::width_of;
 use bytes::Bytes;
-use fl_bitpacking::packing::bitpack_blocked_unchecked;
+use fl_bitpacking::bitpack_compress::bitpack_blocked_unchecked;
 use fl_codec::for_::{self, EncodedFoR, GlobalFoR};
 use fl_codec::rle::{self, Runs};
 use fl_column::chunk_count;
