@@ -3,13 +3,8 @@
 pub(crate) mod bit_packed_array_ext;
 pub mod bitpack_compress;
 pub mod bitpack_decompress;
-mod comparing;
 mod compute;
-mod constant_boundaries;
-mod counted;
 mod data;
-mod taking;
-mod unfor;
 
 ghost use Rattle.std.specs.Prelude.{◌≡◌, ◌+◌, ◌*◌, ◌/◌, ◌^◌, ◌<◌, ◌≤◌, IfErr, IfOk, IsTrue, None, Ok, OnOk, length, IfSome};
 ghost use Rattle.fl_types.specs.declared.error.FastLanesError.TheVariants.{OutOfMemory};
