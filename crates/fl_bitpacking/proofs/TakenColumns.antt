@@ -24,7 +24,8 @@ use Rattle.fl_column.proofs.ListLaws.{and_first, and_second}
 use Rattle.fl_bitpacking.specs.Blocks.{Blocks, blocks_of, value_at}
 use Rattle.fl_bitpacking.specs.Columns.{BitPackedParts, column_of_packed, packed_item}
 use Rattle.fl_bitpacking.specs.Parts.{parts_of}
-use Rattle.fl_bitpacking.specs.Taken.{ArePositions, AreSlots, is_full, items_named, items_taken, named_positions, named_positions_in, slot_at}
+use Rattle.fl_column.specs.Selections.{is_full}
+use Rattle.fl_bitpacking.specs.Taken.{ArePositions, AreSlots, items_named, items_taken, named_positions, named_positions_in, slot_at}
 use Rattle.fl_bitpacking.specs.declared.compute.take.Taking.{Taking}
 use Rattle.fl_bitpacking.proofs.TakenLaws.{in_range_of}
 use Rattle.fl_bitpacking.proofs.Tables.{get_or-table, length-table}

@@ -68,12 +68,6 @@ pub record AreTaken {T : Type 0} (value : T → ℤ) (ptype : PType) (blocks : P
   pub each : (i : ℕ) → i < count → value_at value items i ≡ item_of_blocks ptype (blocks_of blocks.widths) blocks.packed.now (blocks.offset + slice_index positions i)
 
 -- ---- columns
--- a validity by whose form no item is null
-abbrev pub is_full : Validity → Bool
-is_full valid.NonNullable = true
-is_full valid.AllValid = true
-is_full valid.AllInvalid = false
-is_full (valid.Array bits) = false
 
 -- what stands at position p of a column, also under a null: its patch, else what is stored
 abbrev pub slot_at : BitPackedParts → Blocks → ℕ → ℤ

@@ -6,7 +6,6 @@ mod without_nulls;
 
 ghost use Rattle.std.specs.Prelude.{◌≡◌, ◌<◌, ◌≤◌, ◌+◌, ◌*◌, ◌+ℤ◌, ◌^◌, ◌&&◌, ℤ, pos, List, IsTrue, IfSome, IfOk, Ok, Some, None, length, map, option_map, unwrap_or, slice_index_or, is_none};
 ghost use Rattle.std.specs.List.{list_all};
-ghost use Rattle.std.specs.Ordering.{int_eq};
 ghost use Rattle.fl_types.specs.Bits.{between, tabulate};
 ghost use Rattle.fl_types.specs.Integers.{wrap};
 ghost use Rattle.fl_types.specs.Refusals.{Answers};
@@ -24,7 +23,8 @@ use crate::plain::{non_nullable, under_validity_of};
 use fastlanes::FL_CHUNK_SIZE;
 use fl_column::{ConstantArray, PrimitiveArray, item_at};
 use fl_types::{
-    FastLanesError, NativePType, Nullability, PValue, Scalar, Validity, match_each_integer_ptype,
+    FastLanesError, NativePType, Nullability, PValue, Scalar, Validity, is_equal,
+    match_each_integer_ptype,
 };
 use num_traits::{WrappingAdd, WrappingSub};
 use std::alloc::{AllocError, Global};
@@ -139,13 +139,6 @@ fn chunk_references<T: NativePType>(
         references.push(reference)?;
     }
     Ok(references)
-}
-
-/// Whether the two values are one.
-fn is_equal<T: NativePType>(x: T, y: T) -> bool
-    ensures { result ≡ int_eq (T.value x) (T.value y) }
-{
-    x == y
 }
 
 /// The one reference that all of them are, 0 where there is none.

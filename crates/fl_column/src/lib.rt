@@ -24,6 +24,7 @@ pub use crate::constant::ConstantArray;
 pub use crate::numbers::{index_array, number_at};
 pub use crate::physical::PhysicalPType;
 pub use crate::primitive::PrimitiveArray;
+pub use crate::selection::without_nulls::is_full;
 pub use crate::selection::{item_at, ranges_total};
 pub use fl_types::{
     BetweenOptions, BitList, CompareOperator, DType, FastLanesError, Mask, NativePType,

@@ -3,6 +3,7 @@ pub mod BitCounts
 pub mod Blocks
 pub mod Chunks
 pub mod Counted
+pub mod ExceptionPatches
 pub mod Firsts
 pub mod Gathers
 pub mod Histograms
@@ -11,7 +12,6 @@ pub mod LeastCosts
 pub mod LeastTotals
 pub mod Negatives
 pub mod Parts
-pub mod Patches
 pub mod Picked
 pub mod Rising
 pub mod SearchRanges

@@ -25,8 +25,8 @@ fn is_negative_at<T: NativePType>(items: &[T], validity: &Validity, i: usize) ->
     is_less(items[i], T::zero()) && validity.is_valid(i, items.len())
 }
 
-/// Whether an item is negative and not null.
-fn has_negative<T: NativePType>(items: &[T], validity: &Validity) -> bool
+/// Whether one of these items is negative and not null.
+pub fn has_negative<T: NativePType>(items: &[T], validity: &Validity) -> bool
     requires { IsTrue (covers validity.now (length items.now)) }
     ensures { result ≡ list_any is_negative (items_of validity.now (map T.value items.now)) }
 {

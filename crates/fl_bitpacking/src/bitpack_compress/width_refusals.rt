@@ -1,49 +1,21 @@
 //! Why an array is not packed at a width, or at widths of its blocks.
 
-ghost use Rattle.std.specs.Prelude.{◌≡◌, ◌<◌, ◌==◌, IsTrue, int_lt, length, map, nat_lt, pos, slice_index_or, None};
+ghost use Rattle.std.specs.Prelude.{◌≡◌, ◌==◌, nat_lt};
 ghost use Rattle.std.specs.List.{list_all, list_any};
-ghost use Rattle.fl_types.specs.Validities.{covers, items_of};
+ghost use Rattle.fl_types.specs.Validities.{items_of};
 ghost use Rattle.fl_patches.specs.Exceptions.{is_negative};
 ghost use Rattle.fl_bitpacking.specs.Encoders.{width_refusal, widths_refusal};
 
 use fl_column::{PrimitiveArray, chunk_count};
-use fl_types::{FastLanesError, NativePType, Validity, match_each_integer_ptype};
-
-/// Whether a value is below 0.
-fn is_below_zero<T: NativePType>(value: T) -> bool
-    ensures { result ≡ int_lt (T.value value) (pos 0) }
-{
-    value < T::zero()
-}
-
-/// Whether an item is negative, and no null.
-fn is_negative_at<T: NativePType>(items: &[T], validity: &Validity, i: usize) -> bool
-    requires covers { IsTrue (covers validity.now (length items.now)) }
-    requires range { i < length items.now }
-    ensures { result ≡ is_negative (slice_index_or (items_of validity.now (map T.value items.now)) i None) }
-{
-    is_below_zero(items[i]) && validity.is_valid(i, items.len())
-}
-
-/// Whether an item is negative that is no null.
-fn has_negative_typed<T: NativePType>(items: &[T], validity: &Validity) -> bool
-    requires { IsTrue (covers validity.now (length items.now)) }
-    ensures { result ≡ list_any is_negative (items_of validity.now (map T.value items.now)) }
-{
-    for i in 0..items.len() {
-        if is_negative_at(items, validity, i) {
-            return true;
-        }
-    }
-    false
-}
+use fl_patches::block_widths;
+use fl_types::{FastLanesError, NativePType, match_each_integer_ptype};
 
 fn has_negative_in<T: NativePType>(array: &PrimitiveArray) -> bool
     requires { array.now.ptype ≡ T.PTYPE }
     ensures { result ≡ list_any is_negative (items_of array.now.validity array.now.slots) }
 {
     let validity = array.validity();
-    has_negative_typed(array.as_slice::<T>(), validity)
+    block_widths::has_negative(array.as_slice::<T>(), validity)
 }
 
 /// Whether an item of an array is negative that is no null.

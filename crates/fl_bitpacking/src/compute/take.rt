@@ -17,7 +17,7 @@ ghost use Rattle.fl_column.specs.Operations.{item_named, take_column};
 ghost use Rattle.fl_bitpacking.specs.Blocks.{are_blocks, blocks_of, boundary_blocks, global_blocks, value_at};
 ghost use Rattle.fl_bitpacking.specs.Columns.{block_count, column_of_packed, packed_item};
 ghost use Rattle.fl_bitpacking.specs.Parts.{AreReadable, Fit, blocks_to_read, parts_of};
-ghost use Rattle.fl_bitpacking.specs.Taken.{AreBelow, ArePositions, AreSlots, HasStarts, is_full, items_named, items_taken, named_positions};
+ghost use Rattle.fl_bitpacking.specs.Taken.{AreBelow, ArePositions, AreSlots, HasStarts, items_named, items_taken, named_positions};
 
 use crate::bit_packed::BitPacked;
 use crate::bitpack_decompress::{PackedColumn, unpack_values, with_values};
@@ -27,7 +27,7 @@ use crate::compute::take::positions::named_positions;
 use crate::compute::take::runs::take_stored;
 use crate::packed_data::PackedData;
 use fastlanes::Work;
-use fl_column::{ConstantArray, PhysicalPType, PrimitiveArray, PrimitiveBuilder};
+use fl_column::{ConstantArray, PhysicalPType, PrimitiveArray, PrimitiveBuilder, is_full};
 use fl_patches::Widths;
 use fl_types::{FastLanesError, NativePType, Nullability, Validity, match_each_integer_ptype};
 use num_traits::WrappingAdd;
@@ -47,13 +47,6 @@ fn read<T: NativePType>(items: &[T], i: usize) -> T
     ensures { T.value result ≡ value_at T.value items.now i }
 {
     items[i]
-}
-
-/// Whether no item is null by the form of a validity.
-fn is_full(validity: &Validity) -> bool
-    ensures { result ≡ is_full validity.now }
-{
-    matches!(validity, Validity::NonNullable | Validity::AllValid)
 }
 
 /// The items at these positions.

@@ -1,5 +1,5 @@
 use Rattle.std.proofs.Common.{arith}
-use Rattle.fl_patches.proofs.Patches.{gathered_global}
+use Rattle.fl_patches.proofs.ExceptionPatches.{gathered_global}
 use Rattle.fl_patches.proofs.gathering.gather_patches.Goals as goal
 
 pub returns-clause-parts : goal.returns-clause-parts

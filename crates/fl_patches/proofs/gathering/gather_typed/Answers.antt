@@ -3,7 +3,7 @@ use Rattle.fl_types.specs.Integers.{smallest_type}
 use Rattle.fl_column.proofs.NumberLaws.{smallest_unsigned}
 use Rattle.fl_patches.specs.Widths.{width_at}
 use Rattle.fl_patches.proofs.Gathers.{covered_slice, named_slice}
-use Rattle.fl_patches.proofs.Patches.{answered_are, found_of, found_patches}
+use Rattle.fl_patches.proofs.ExceptionPatches.{answered_are, found_of, found_patches}
 use Rattle.fl_types.proofs.Refused.{no_value, no_memory}
 use Rattle.fl_patches.proofs.gathering.gather_typed.Goals as goal
 
