@@ -27,7 +27,7 @@ use Rattle.fl_metadata.specs.declared.patches.PatchesMetadata.{PatchesMetadata}
 use Rattle.fl_array.specs.Trees.{BitPackedBlocked, BitPackedGlobal, Constant, Delta, FoRChunked, FoRGlobal, Primitive, RLE, Tree, column}
 use Rattle.fl_array.specs.Trees as tree
 use Rattle.fl_serialized.specs.Nodes.{And, Head, NoMore, Node, Nodes, Of, depth, depth_of, nodes_of}
-use Rattle.fl_plugin.specs.Writing.{chunk_offset_nodes, head_written, item_count, metadata_of, packed_nodes, patch_nodes, scalar_text, validity_nodes, written}
+use Rattle.fl_serde.specs.Writing.{chunk_offset_nodes, head_written, item_count, metadata_of, packed_nodes, patch_nodes, scalar_text, validity_nodes, written}
 use Rattle.flcol_container.specs.Container.{node_count}
 use Rattle.flcol_container.specs.Outcomes.{IsWriting}
 use Rattle.flcol_container.specs.Room.{has_room, have_room, head_has_room}

@@ -14,9 +14,9 @@ use Rattle.fl_metadata.specs.Schemas.{are_within, has_kinds, last_values, messag
 use Rattle.fl_metadata.specs.Messages.{bit_packed_blocked_of, bit_packed_of, delta_metadata_of, for_chunked_of, patches_in, rle_of}
 use Rattle.fl_metadata.specs.Scalars.{scalar_of}
 use Rattle.fl_serialized.specs.Nodes.{Node, Of, nodes_of}
-use Rattle.fl_nodes.specs.declared.messages.Message.TheVariants as says
-use Rattle.fl_nodes.specs.Leaves.{bit_of_bytes}
-use Rattle.fl_plugin.specs.NodeColumns.{StandsFor}
+use Rattle.fl_serde.specs.declared.messages.Message.TheVariants as says
+use Rattle.fl_serde.specs.Leaves.{bit_of_bytes}
+use Rattle.fl_serde.specs.NodeColumns.{StandsFor}
 
 -- a node of any parts
 abbrev node : List ℕ → DType → ℕ → List ℕ → List (List ℕ) → List Node → Node

@@ -1,0 +1,15 @@
+pub mod Leaves
+pub mod Kinds
+pub mod Shapes
+pub mod Checks
+pub mod Views
+pub mod Writing
+pub mod Plain
+pub mod Reading
+pub mod EarlyRefusals
+pub mod ReadShapes
+pub mod Firsts
+pub mod Plugins
+pub mod RoundTrip
+pub mod NodeColumns
+pub mod NodeIds

@@ -1,0 +1,31 @@
+//! Serialized arrays: what a columnar file keeps of an array, and the reader that any tree can be handed to.
+//!
+//! A node is judged by itself first: the bytes of leaves, what it says of its array by its id, its type and its
+//! metadata, what is asked of its buffers and its children, and the refusals before these are read.
+#![tactic(auto)]
+
+pub mod bit_bytes;
+pub mod checks;
+pub mod kinds;
+pub mod laws;
+pub mod messages;
+mod nodes;
+mod patches;
+mod plain;
+pub mod plugins;
+pub mod reading;
+pub mod scalars;
+pub mod shapes;
+pub mod slot_bytes;
+mod views;
+pub mod writing;
+
+pub use crate::checks::check;
+pub use crate::kinds::NodeKind;
+pub use crate::messages::Message;
+pub use crate::plugins::{ArrayForm, BitPackedPlugin, FoRPlugin};
+pub use crate::reading::deserialize;
+pub use crate::shapes::Shape;
+pub use crate::writing::serialize;
+pub use fl_serialized::SerializedArray;
+pub use fl_serialized::ids::{bitpacked_v1_id, bitpacked_v2_id, for_v1_id, for_v2_id};
