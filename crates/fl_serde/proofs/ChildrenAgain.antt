@@ -27,10 +27,10 @@ use Rattle.fl_array.specs.Trees.{BitPackedBlocked, BitPackedGlobal, Constant, De
 use Rattle.fl_array.specs.Trees as tree
 use Rattle.fl_array.specs.FoRArrays.{ChunkReferences, for_chunked_refusal, for_refusal, reference_count_refusal, reference_type_refusal, references_of}
 use Rattle.fl_array.specs.Reads.{constant_in}
-use Rattle.fl_serde.specs.declared.messages.Message.{Message}
-use Rattle.fl_serde.specs.declared.messages.Message.TheVariants as says
-use Rattle.fl_serde.specs.declared.shapes.Shape.{Shape}
-use Rattle.fl_serde.specs.Shapes.{encoded_shape, numbers}
+use Rattle.fl_serde.specs.declared.node_info.NodeInfo.{NodeInfo}
+use Rattle.fl_serde.specs.declared.node_info.NodeInfo.TheVariants as infos
+use Rattle.fl_serde.specs.declared.children.ExpectedChild.{ExpectedChild}
+use Rattle.fl_serde.specs.Children.{encoded_child, numbers}
 use Rattle.fl_serde.specs.Reading.{reading}
 use Rattle.fl_serde.proofs.ReadLaws.{child_of}
 use Rattle.fl_serde.specs.RoundTrip.{read_back, read_validity}
@@ -117,10 +117,10 @@ chunked_node : (e r : Tree) (offset : ℕ) (p : PType) (n : Nullability) → chu
     → reading (written e) ≡ Ok (read_back e) → reading (written r) ≡ Ok (read_back r) → reading (written (FoRChunked e r offset)) ≡ Ok (read_back (FoRChunked e r offset))
 chunked_node e r offset p n none kept typed of_reference near counted message reads_e reads_r =
     let t : Tree = FoRChunked e r offset in
-    let m : Message = says.FoRChunked p (record { offset = offset }) in
+    let m : NodeInfo = infos.FoRChunked p (record { offset = offset }) in
     let long : item_count t ≡ item_count e = length-table _ (item_count e) in
-    let encoded : Shape = encoded_shape (head_written t) in
-    let references : Shape = numbers p (chunk_count (offset + item_count t)) in
+    let encoded : ExpectedChild = encoded_child (head_written t) in
+    let references : ExpectedChild = numbers p (chunk_count (offset + item_count t)) in
     node_read t (read_back t) (written e ∷ written r ∷ []) m (read_back e ∷ read_back r ∷ []) (rw (typed, message) refl)
     (none_of_three (head_written t) m 2 refl refl (rw long near))
     (read_one encoded (references ∷ []) (child_of (written e)) (child_of (written r) ∷ []) (read_back e) (read_back r ∷ []) (fit_written encoded e (read_back e) refl long reads_e)
@@ -149,10 +149,10 @@ delta_node : (bases deltas : Tree) (parts : DeltaParts) (p : PType) → delta_re
     → reading (written bases) ≡ Ok (read_back bases) → reading (written deltas) ≡ Ok (read_back deltas) → reading (written (Delta bases deltas parts)) ≡ Ok (read_back (Delta bases deltas parts))
 delta_node bases deltas parts p none covered of_base of_delta whole lanes message reads_b reads_d =
     let t : Tree = Delta bases deltas parts in
-    let m : Message = says.Delta p (record { deltas_len = item_count deltas; offset = parts.offset }) in
+    let m : NodeInfo = infos.Delta p (record { deltas_len = item_count deltas; offset = parts.offset }) in
     let long : item_count t ≡ parts.len = length-table _ parts.len in
-    let first : Shape = numbers p (lanes_of_type p * (item_count deltas / 1024)) in
-    let second : Shape = numbers p (item_count deltas) in
+    let first : ExpectedChild = numbers p (lanes_of_type p * (item_count deltas / 1024)) in
+    let second : ExpectedChild = numbers p (item_count deltas) in
     let vn = validity_nodes parts.len parts.validity in
     let w = with_validity (head_written t) m parts.len parts.validity (written bases ∷ written deltas ∷ []) [] (read_back bases ∷ read_back deltas ∷ []) [] refl refl long covered
     (fit_written first bases (read_back bases) (sym of_base) (sym lanes) reads_b, (fit_written second deltas (read_back deltas) (sym of_delta) refl reads_d, tt)) tt in
@@ -199,11 +199,11 @@ rle_node : (values indices offsets : Tree) (window : Window) (p i o : PType) (n 
     → reading (written (RLE values indices offsets window)) ≡ Ok (read_back (RLE values indices offsets window))
 rle_node values indices offsets window p i o n none of_value of_index of_offset message reads_v reads_i reads_o =
     let t : Tree = RLE values indices offsets window in
-    let m : Message = says.RLE p (record { values_len = item_count values; indices_len = item_count indices; indices = i; values_idx_offsets_len = item_count offsets; values_idx_offsets = o; offset = window.offset }) in
+    let m : NodeInfo = infos.RLE p (record { values_len = item_count values; indices_len = item_count indices; indices = i; values_idx_offsets_len = item_count offsets; values_idx_offsets = o; offset = window.offset }) in
     let long : item_count t ≡ window.len = length-table _ window.len in
-    let first : Shape = numbers p (item_count values) in
-    let second : Shape = record { dtype = dtypes.Primitive i (nullability_in (column indices).dtype); len = item_count indices } in
-    let third : Shape = numbers o (item_count offsets) in
+    let first : ExpectedChild = numbers p (item_count values) in
+    let second : ExpectedChild = record { dtype = dtypes.Primitive i (nullability_in (column indices).dtype); len = item_count indices } in
+    let third : ExpectedChild = numbers o (item_count offsets) in
     let typed : dtypes.Primitive i (nullability_in (column indices).dtype) ≡ (column indices).dtype = rw of_index refl in
     let back : rle_refusal (column (read_back values)) (column (read_back indices)) (column (read_back offsets)) window.offset window.len ≡ None =
     ap (λ c. rle_refusal c (column (read_back indices)) (column (read_back offsets)) window.offset window.len) (column_back values)

@@ -12,7 +12,7 @@ pub mod PlainAgain
 pub mod ChildrenAgain
 pub mod PackedAgain
 pub mod BackLaws
-pub mod ShapesRead
+pub mod TypesRead
 pub mod NodesStand
 pub mod OneColumn
 pub mod Meanings

@@ -21,14 +21,14 @@ use Rattle.fl_array.specs.Trees.{BitPackedBlocked, BitPackedGlobal, Constant, De
 use Rattle.fl_array.specs.Trees as tree
 use Rattle.fl_array.specs.FoRArrays.{GlobalReference, for_refusal}
 use Rattle.fl_serialized.specs.Nodes.{Node, head_of, listed, nodes_of}
-use Rattle.fl_serde.specs.declared.messages.Message.{Message}
-use Rattle.fl_serde.specs.declared.messages.Message.TheVariants as says
-use Rattle.fl_serde.specs.declared.shapes.Shape.{Shape}
-use Rattle.fl_serde.specs.Checks.{checked, message_of, node_refusal}
-use Rattle.fl_serde.specs.Shapes.{child_shapes, same_dtype}
+use Rattle.fl_serde.specs.declared.node_info.NodeInfo.{NodeInfo}
+use Rattle.fl_serde.specs.declared.node_info.NodeInfo.TheVariants as infos
+use Rattle.fl_serde.specs.declared.children.ExpectedChild.{ExpectedChild}
+use Rattle.fl_serde.specs.Checks.{checked, info_of, node_refusal}
+use Rattle.fl_serde.specs.Children.{expected_children, same_dtype}
 use Rattle.fl_serde.specs.Reading.{Child, fitting, for_over, made, read_children, reading, scalar_over}
 use Rattle.fl_serde.specs.RoundTrip.{read_back, read_reference}
-use Rattle.fl_serde.specs.Writing.{head_written, item_count, node_over, scalar_text, written}
+use Rattle.fl_serde.specs.Writing.{head_written, item_count, node_over, scalar_bytes, written}
 use Rattle.fl_serde.proofs.ColumnsAgain.{column_back}
 use Rattle.fl_serde.proofs.ReadLaws.{after_check, child_of}
 
@@ -100,20 +100,20 @@ head_is_written (FoRChunked encoded references offset) = refl
 head_is_written (Delta bases deltas parts) = refl
 head_is_written (RLE values indices offsets window) = refl
 
--- a child of the shape that is asked
-pub fit : (shape : Shape) (node : Node) (u : Tree) → shape.dtype ≡ (head_of node).dtype → shape.len ≡ (head_of node).len → reading node ≡ Ok u → fitting shape (child_of node) ≡ Ok u
-fit shape node u typed long reads = rw (typed, long, same_dtype_itself (head_of node).dtype, equal (head_of node).len, reads) refl
+-- a child that is as expected
+pub fit : (asked : ExpectedChild) (node : Node) (u : Tree) → asked.dtype ≡ (head_of node).dtype → asked.len ≡ (head_of node).len → reading node ≡ Ok u → fitting asked (child_of node) ≡ Ok u
+fit asked node u typed long reads = rw (typed, long, same_dtype_itself (head_of node).dtype, equal (head_of node).len, reads) refl
 
 -- the node of an array as a child
-pub fit_written : (shape : Shape) (t u : Tree) → shape.dtype ≡ (column t).dtype → shape.len ≡ item_count t → reading (written t) ≡ Ok u → fitting shape (child_of (written t)) ≡ Ok u
-fit_written shape t u typed long reads = fit shape (written t) u (typed ∙ sym (ap (λ h. h.dtype) (head_is_written t))) (long ∙ sym (ap (λ h. h.len) (head_is_written t))) reads
+pub fit_written : (asked : ExpectedChild) (t u : Tree) → asked.dtype ≡ (column t).dtype → asked.len ≡ item_count t → reading (written t) ≡ Ok u → fitting asked (child_of (written t)) ≡ Ok u
+fit_written asked t u typed long reads = fit asked (written t) u (typed ∙ sym (ap (λ h. h.dtype) (head_is_written t))) (long ∙ sym (ap (λ h. h.len) (head_is_written t))) reads
 
-pub read_one : (shape : Shape) (shapes : List Shape) (child : Child) (children : List Child) (t : Tree) (ts : List Tree) → fitting shape child ≡ Ok t → read_children shapes children ≡ Ok ts → read_children (shape ∷ shapes) (child ∷ children) ≡ Ok (t ∷ ts)
-read_one shape shapes child children t ts first others = rw (first, others) refl
+pub read_one : (asked : ExpectedChild) (expected : List ExpectedChild) (child : Child) (children : List Child) (t : Tree) (ts : List Tree) → fitting asked child ≡ Ok t → read_children expected children ≡ Ok ts → read_children (asked ∷ expected) (child ∷ children) ≡ Ok (t ∷ ts)
+read_one asked expected child children t ts first others = rw (first, others) refl
 
 -- a node whose parts are read
-pub node_read : (t u : Tree) (children : List Node) (m : Message) (trees : List Tree) → message_of (head_written t) ≡ Ok m → node_refusal (head_written t) m (length children) ≡ None
-    → read_children (child_shapes (head_written t) m (length children)) (map child_of children) ≡ Ok trees → made (head_written t) m trees ≡ Ok u → reading (node_over t children) ≡ Ok u
+pub node_read : (t u : Tree) (children : List Node) (m : NodeInfo) (trees : List Tree) → info_of (head_written t) ≡ Ok m → node_refusal (head_written t) m (length children) ≡ None
+    → read_children (expected_children (head_written t) m (length children)) (map child_of children) ≡ Ok trees → made (head_written t) m trees ≡ Ok u → reading (node_over t children) ≡ Ok u
 node_read t u children m trees message none read is =
     let accepted_it : checked (head_written t) (length children) ≡ Ok m = rw (message, none) refl in
     let here : checked (head_written t) (length (listed (nodes_of children))) ≡ Ok m = ap (λ l. checked (head_written t) (length l)) (listed_again children) ∙ accepted_it in
@@ -133,18 +133,18 @@ for_back e reference none fits scalar reads =
     let of_type = integers (column e).dtype (holds _ s1.0) in
     let valued = some_value reference.value s2.0 in
     let of_reference = same_type_is reference.dtype of_type.0 of_type.1 (ap (same_type reference.dtype) (sym of_type.2) ∙ holds _ s3.0) in
-    for_node e reference of_type.0 of_type.1 of_reference.0 valued.0 of_type.2 of_reference.1 valued.1 (scalar_text_again reference of_type.0 of_reference.0 valued.0 of_reference.1 valued.1 fits scalar) reads
+    for_node e reference of_type.0 of_type.1 of_reference.0 valued.0 of_type.2 of_reference.1 valued.1 (scalar_bytes_again reference of_type.0 of_reference.0 valued.0 of_reference.1 valued.1 fits scalar) reads
   where
-    scalar_text_again : (reference : ScalarParts) (p : PType) (m : Nullability) (z : ℤ) → reference.dtype ≡ dtypes.Primitive p m → reference.value ≡ Some z → IfSome reference.value (λ z. (p : PType) → integer_type reference.dtype ≡ Some p → FitsIn p z)
-        → ((p : PType) (value : Option ℤ) → IfSome value (FitsIn p) → scalar_of p (message_text (scalar_slots p value)) ≡ Ok value) → scalar_of p (scalar_text reference) ≡ Ok reference.value
-    scalar_text_again reference p m z typed valued fits scalar =
+    scalar_bytes_again : (reference : ScalarParts) (p : PType) (m : Nullability) (z : ℤ) → reference.dtype ≡ dtypes.Primitive p m → reference.value ≡ Some z → IfSome reference.value (λ z. (p : PType) → integer_type reference.dtype ≡ Some p → FitsIn p z)
+        → ((p : PType) (value : Option ℤ) → IfSome value (FitsIn p) → scalar_of p (message_text (scalar_slots p value)) ≡ Ok value) → scalar_of p (scalar_bytes reference) ≡ Ok reference.value
+    scalar_bytes_again reference p m z typed valued fits scalar =
         let at_value : (z : ℤ) → reference.value ≡ Some z → FitsIn p z = λ z e. (subst (λ v. IfSome v (λ z. (p : PType) → integer_type reference.dtype ≡ Some p → FitsIn p z)) e fits) p (ap integer_type typed) in
         rw typed (scalar p reference.value (rw valued (at_value z valued)))
 
-    for_node : (e : Tree) (reference : ScalarParts) (p : PType) (n m : Nullability) (z : ℤ) → (column e).dtype ≡ dtypes.Primitive p n → reference.dtype ≡ dtypes.Primitive p m → reference.value ≡ Some z → scalar_of p (scalar_text reference) ≡ Ok reference.value
+    for_node : (e : Tree) (reference : ScalarParts) (p : PType) (n m : Nullability) (z : ℤ) → (column e).dtype ≡ dtypes.Primitive p n → reference.dtype ≡ dtypes.Primitive p m → reference.value ≡ Some z → scalar_of p (scalar_bytes reference) ≡ Ok reference.value
         → reading (written e) ≡ Ok (read_back e) → reading (written (FoRGlobal e reference)) ≡ Ok (read_back (FoRGlobal e reference))
     for_node e reference p n m z typed of_reference valued text reads =
-        node_read (FoRGlobal e reference) (read_back (FoRGlobal e reference)) (written e ∷ []) (says.FoR p reference.value) (read_back e ∷ [])
+        node_read (FoRGlobal e reference) (read_back (FoRGlobal e reference)) (written e ∷ []) (infos.FoR p reference.value) (read_back e ∷ [])
         (rw (typed, text) refl) refl
         (read_one (record { dtype = (column (FoRGlobal e reference)).dtype; len = item_count (FoRGlobal e reference) }) [] (child_of (written e)) [] (read_back e) []
         (fit_written (record { dtype = (column (FoRGlobal e reference)).dtype; len = item_count (FoRGlobal e reference) }) e (read_back e) refl (length-map (column e).items _) reads) refl)

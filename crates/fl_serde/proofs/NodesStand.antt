@@ -40,18 +40,18 @@ use Rattle.fl_array.specs.FoRArrays.{GlobalReference, for_tree, new_for, new_for
 use Rattle.fl_array.specs.RLEArrays.{new_rle, tree_of_rle}
 use Rattle.fl_array.specs.Reads.{integer_column}
 use Rattle.fl_serialized.specs.Nodes.{And, Head, NoMore, Node, Nodes, Of, head_of}
-use Rattle.fl_serde.specs.declared.messages.Message.{Message}
-use Rattle.fl_serde.specs.declared.messages.Message.TheVariants as says
-use Rattle.fl_serde.specs.declared.shapes.Shape.{Shape}
-use Rattle.fl_serde.specs.Checks.{buffers_refusal, checked, count_refusal, message_of, node_refusal, own_bytes}
+use Rattle.fl_serde.specs.declared.node_info.NodeInfo.{NodeInfo}
+use Rattle.fl_serde.specs.declared.node_info.NodeInfo.TheVariants as infos
+use Rattle.fl_serde.specs.declared.children.ExpectedChild.{ExpectedChild}
+use Rattle.fl_serde.specs.Checks.{buffers_refusal, checked, count_refusal, info_of, node_refusal, own_bytes}
 use Rattle.fl_serde.specs.Leaves.{bit_of_bytes, bits_of_bytes, slot_at, slots_of_bytes}
-use Rattle.fl_serde.specs.Shapes.{back_shapes, child_count, child_shapes, front_shapes, has_validity, same_dtype, takes_validity, validity_shape}
-use Rattle.fl_serde.specs.NodeColumns.{HasColumn, StandForEach, StandsFor, child_column, is_valid_by, item_said, patch_of, shape_of, validity_column}
+use Rattle.fl_serde.specs.Children.{back_children, child_count, expected_children, front_children, has_validity, same_dtype, takes_validity, validity_child}
+use Rattle.fl_serde.specs.NodeColumns.{HasColumn, StandForEach, StandsFor, child_column, expected_of, is_valid_by, item_said, patch_of, validity_column}
 use Rattle.fl_serde.specs.Plain.{decoded, plain_of}
-use Rattle.fl_serde.specs.ReadShapes.{IsOfShape}
+use Rattle.fl_serde.specs.TypeAndLength.{HasTypeAndLength}
 use Rattle.fl_serde.specs.Reading.{Child, bitpacked_over, blocked_over, chunk_offsets_in, decoded_offsets, delta_over, fitting, for_chunked_over, for_over, found_children, made, parts_over, patches_found, patches_over, plain_patches, read_children, read_node, reading, rle_over, scalar_over, validity_over}
 use Rattle.fl_serde.proofs.NestedAgain.{none_otherwise}
-use Rattle.fl_serde.proofs.ShapesRead.{HaveShapes, Says, accepted_is, as_many, children_have, let_through, message_says, passes, same_ok, shape_read, shapes_read, step}
+use Rattle.fl_serde.proofs.TypesRead.{AreAsExpected, Says, accepted_is, all_typed_read, as_many, children_have, info_says, let_through, passes, same_ok, step, typed_read}
 
 -- ---- children
 -- the column that stands where no child does
@@ -71,14 +71,14 @@ get_map [] k t h = absurd cc
 get_map (x ∷ trees) zero t h = ap (λ o. option_map column o) h
 get_map (x ∷ trees) (suc k) t h = get_map trees k t h
 
--- the columns have the shapes of the arrays
-shapes_are : (shapes : List Shape) (trees : List Tree) → HaveShapes shapes trees → map shape_of (map column trees) ≡ shapes
-shapes_are [] [] h = refl
-shapes_are [] (t ∷ trees) h = absurd h
-shapes_are (shape ∷ shapes) [] h = absurd h
-shapes_are (shape ∷ shapes) (t ∷ trees) h =
-    let first : shape_of (column t) ≡ shape = ap (λ d. let s : Shape = record { dtype = d; len = length (column t).items } in s) h.0.typed ∙ ap (λ n. let s : Shape = record { dtype = shape.dtype; len = n } in s) h.0.long in
-    ap (λ s. s ∷ map shape_of (map column trees)) first ∙ ap (λ ss. shape ∷ ss) (shapes_are shapes trees h.1)
+-- the columns are as expected where the arrays are
+expected_are : (expected : List ExpectedChild) (trees : List Tree) → AreAsExpected expected trees → map expected_of (map column trees) ≡ expected
+expected_are [] [] h = refl
+expected_are [] (t ∷ trees) h = absurd h
+expected_are (asked ∷ expected) [] h = absurd h
+expected_are (asked ∷ expected) (t ∷ trees) h =
+    let first : expected_of (column t) ≡ asked = ap (λ d. let s : ExpectedChild = record { dtype = d; len = length (column t).items } in s) h.0.typed ∙ ap (λ n. let s : ExpectedChild = record { dtype = asked.dtype; len = n } in s) h.0.long in
+    ap (λ s. s ∷ map expected_of (map column trees)) first ∙ ap (λ ss. asked ∷ ss) (expected_are expected trees h.1)
 
 -- an array of booleans without nulls is a boolean one
 abbrev IsPlainlyTrue : Tree → Type 0
@@ -88,19 +88,19 @@ abbrev AllPlainlyTrue : List Tree → Type 0
 AllPlainlyTrue [] = Unit {0}
 AllPlainlyTrue (t ∷ trees) = IsPlainlyTrue t × AllPlainlyTrue trees
 
--- an array among others of shapes
-record IsAmong (trees : List Tree) (k : ℕ) (shape : Shape) : Type 0 where
+-- an array among others that are as expected
+record IsAmong (trees : List Tree) (k : ℕ) (asked : ExpectedChild) : Type 0 where
   array : Tree
   there : slice_get trees k ≡ Some array
-  is : IsOfShape array shape.dtype shape.len
+  is : HasTypeAndLength array asked.dtype asked.len
   plainly : IsPlainlyTrue array
 
-among : (front : List Shape) (shape : Shape) (back : List Shape) (trees : List Tree) → HaveShapes (front ++ shape ∷ back) trees → AllPlainlyTrue trees → IsAmong trees (length front) shape
-among [] shape back [] h all = absurd h
-among [] shape back (t ∷ trees) h all = record { array = t; there = refl; is = h.0; plainly = all.0 }
-among (first ∷ front) shape back [] h all = absurd h
-among (first ∷ front) shape back (t ∷ trees) h all =
-    let rest = among front shape back trees h.1 all.1 in
+among : (front : List ExpectedChild) (asked : ExpectedChild) (back : List ExpectedChild) (trees : List Tree) → AreAsExpected (front ++ asked ∷ back) trees → AllPlainlyTrue trees → IsAmong trees (length front) asked
+among [] asked back [] h all = absurd h
+among [] asked back (t ∷ trees) h all = record { array = t; there = refl; is = h.0; plainly = all.0 }
+among (first ∷ front) asked back [] h all = absurd h
+among (first ∷ front) asked back (t ∷ trees) h all =
+    let rest = among front asked back trees h.1 all.1 in
     record { array = rest.array; there = rest.there; is = rest.is; plainly = rest.plainly }
 
 -- ---- validities
@@ -115,21 +115,21 @@ full_valid NonNullable i = refl
 full_valid Nullable i = refl
 
 -- a validity as it is read says what its column does
-valid_same : (head : Head) (m : Message) (trees : List Tree) (i : ℕ) → HaveShapes (child_shapes head m (length trees)) trees → AllPlainlyTrue trees → is_valid_at (validity_over head m trees) i ≡ is_valid_by (validity_column head m (map column trees)) i
+valid_same : (head : Head) (m : NodeInfo) (trees : List Tree) (i : ℕ) → AreAsExpected (expected_children head m (length trees)) trees → AllPlainlyTrue trees → is_valid_at (validity_over head m trees) i ≡ is_valid_by (validity_column head m (map column trees)) i
 valid_same head m trees i shaped all = cases (has_validity head m (length trees)) refl
   where
     cases : (b : Bool) → has_validity head m (length trees) ≡ b → is_valid_at (validity_over head m trees) i ≡ is_valid_by (validity_column head m (map column trees)) i
     cases false e = rw (length-map trees column, e) (full_valid _ i)
     cases true e =
-        let shapes : HaveShapes (front_shapes head m ++ validity_shape head.len ∷ back_shapes head m) trees = subst (λ b. HaveShapes (front_shapes head m ++ ((if b then validity_shape head.len ∷ [] else []) ++ back_shapes head m)) trees) e shaped in
-        let found = among (front_shapes head m) (validity_shape head.len) (back_shapes head m) trees shapes all in
+        let expected : AreAsExpected (front_children head m ++ validity_child head.len ∷ back_children head m) trees = subst (λ b. AreAsExpected (front_children head m ++ ((if b then validity_child head.len ∷ [] else []) ++ back_children head m)) trees) e shaped in
+        let found = among (front_children head m) (validity_child head.len) (back_children head m) trees expected all in
         let bools = found.plainly found.is.typed in
-        let there : slice_get trees (length (front_shapes head m)) ≡ Some (tree.Bool (record { bits = bools.0; validity = valid.NonNullable })) = found.there ∙ ap (λ t. Some t) bools.1 in
-        rw (length-map trees column, e, there, get_map trees (length (front_shapes head m)) _ there) (sym (bits_say bools.0 i))
+        let there : slice_get trees (length (front_children head m)) ≡ Some (tree.Bool (record { bits = bools.0; validity = valid.NonNullable })) = found.there ∙ ap (λ t. Some t) bools.1 in
+        rw (length-map trees column, e, there, get_map trees (length (front_children head m)) _ there) (sym (bits_say bools.0 i))
 
 -- ---- the items of each kind
 -- a column whose items are a node's
-as_said : (c : Column) (head : Head) (m : Message) (columns : List Column) → c.dtype ≡ head.dtype → length c.items ≡ head.len → ((i : ℕ) → i < head.len → get_or c.items i None ≡ item_said head m columns i)
+as_said : (c : Column) (head : Head) (m : NodeInfo) (columns : List Column) → c.dtype ≡ head.dtype → length c.items ≡ head.len → ((i : ℕ) → i < head.len → get_or c.items i None ≡ item_said head m columns i)
     → c ≡ record { dtype = head.dtype; items = table (item_said head m columns) head.len }
 as_said c head m columns typed long each =
     ap (λ d. let x : Column = record { dtype = d; items = c.items } in x) typed ∙ ap (λ items. let x : Column = record { dtype = head.dtype; items = items } in x) (fill_by_all (item_said head m columns) c.items head.len None long each)
@@ -138,30 +138,30 @@ as_said c head m columns typed long each =
 valid_item : (a b : Bool) (x y : ℤ) → a ≡ b → x ≡ y → cond a (Some x) None ≡ cond b (Some y) None
 valid_item a b x y e f = rw (e, f) refl
 
-primitive_items : (head : Head) (p : PType) (trees : List Tree) (t : Tree) (i : ℕ) → i < head.len → is_valid_at (validity_over head (says.Primitive p) trees) i ≡ is_valid_by (validity_column head (says.Primitive p) (map column trees)) i
-    → made head (says.Primitive p) trees ≡ Ok t → get_or (column t).items i None ≡ item_said head (says.Primitive p) (map column trees) i
+primitive_items : (head : Head) (p : PType) (trees : List Tree) (t : Tree) (i : ℕ) → i < head.len → is_valid_at (validity_over head (infos.Primitive p) trees) i ≡ is_valid_by (validity_column head (infos.Primitive p) (map column trees)) i
+    → made head (infos.Primitive p) trees ≡ Ok t → get_or (column t).items i None ≡ item_said head (infos.Primitive p) (map column trees) i
 primitive_items head p trees t i lt valids h =
-    let v = validity_over head (says.Primitive p) trees in
+    let v = validity_over head (infos.Primitive p) trees in
     let slots = slots_of_bytes p (own_bytes head) head.len in
     let s = step (new_primitive p slots v) _ t h in
     let parts = let_through (covers v (length slots)) (record { ptype = p; slots = slots; validity = v }) s.value ValidityLength s.made in
-    subst (λ x. get_or (column x).items i None ≡ item_said head (says.Primitive p) (map column trees) i) (ap tree.Primitive parts.1 ∙ same_ok _ t s.rest)
+    subst (λ x. get_or (column x).items i None ≡ item_said head (infos.Primitive p) (map column trees) i) (ap tree.Primitive parts.1 ∙ same_ok _ t s.rest)
     (get_or-items_of v slots i (pos 0) parts.0 (rw (length-table (slot_at p (own_bytes head)) head.len) lt) ∙ valid_item _ _ _ _ valids (get_or-table (slot_at p (own_bytes head)) head.len i (pos 0) lt))
 
 bool_item : (b : Bool) (x : Bool) → option_map bool_number (cond b (Some x) None) ≡ cond b (Some (bool_number x)) None
 bool_item true x = refl
 bool_item false x = refl
 
-bool_items : (head : Head) (trees : List Tree) (t : Tree) (i : ℕ) → i < head.len → is_valid_at (validity_over head says.Bool trees) i ≡ is_valid_by (validity_column head says.Bool (map column trees)) i
-    → made head says.Bool trees ≡ Ok t → get_or (column t).items i None ≡ item_said head says.Bool (map column trees) i
+bool_items : (head : Head) (trees : List Tree) (t : Tree) (i : ℕ) → i < head.len → is_valid_at (validity_over head infos.Bool trees) i ≡ is_valid_by (validity_column head infos.Bool (map column trees)) i
+    → made head infos.Bool trees ≡ Ok t → get_or (column t).items i None ≡ item_said head infos.Bool (map column trees) i
 bool_items head trees t i lt valids h =
-    let v = validity_over head says.Bool trees in
+    let v = validity_over head infos.Bool trees in
     let bits = bits_of_bytes (own_bytes head) head.len in
     let s = step (new_bools bits v) _ t h in
     let parts = let_through (covers v (length bits)) (record { bits = bits; validity = v }) s.value ValidityLength s.made in
     let here : i < length bits = rw (length-table (bit_of_bytes (own_bytes head)) head.len) lt in
     let within : i < length (items_of v bits) = rw (length-items_of v bits parts.0) here in
-    subst (λ x. get_or (column x).items i None ≡ item_said head says.Bool (map column trees) i) (ap tree.Bool parts.1 ∙ same_ok _ t s.rest)
+    subst (λ x. get_or (column x).items i None ≡ item_said head infos.Bool (map column trees) i) (ap tree.Bool parts.1 ∙ same_ok _ t s.rest)
     (get_or-map (option_map bool_number) (items_of v bits) i None None within
     ∙ ap (option_map bool_number) (get_or-items_of v bits i false parts.0 here)
     ∙ bool_item (is_valid_at v i) (get_or bits i false)
@@ -308,59 +308,59 @@ rle_items values indices offsets others window t i lt h =
     (get_or-table (λ i. run_item (integers_in (column values)) (column indices).items (numbers_of (column offsets)) (window.offset + i)) window.len i None lt)
 
 -- ---- any node
--- a length that a shape says
+-- a length that is expected
 long_as : (encoded : Tree) (len : ℕ) (i : ℕ) → length (column encoded).items ≡ len → i < len → i < length (column encoded).items
 long_as encoded len i e lt = rw e lt
 
-made_items : (head : Head) (m : Message) (trees : List Tree) (t : Tree) (i : ℕ) → i < head.len → Says m head.dtype → HaveShapes (child_shapes head m (length trees)) trees → AllPlainlyTrue trees → made head m trees ≡ Ok t
+made_items : (head : Head) (m : NodeInfo) (trees : List Tree) (t : Tree) (i : ℕ) → i < head.len → Says m head.dtype → AreAsExpected (expected_children head m (length trees)) trees → AllPlainlyTrue trees → made head m trees ≡ Ok t
     → get_or (column t).items i None ≡ item_said head m (map column trees) i
-made_items head (says.Primitive p) trees t i lt typed shapes plainly h = primitive_items head p trees t i lt (valid_same head (says.Primitive p) trees i shapes plainly) h
-made_items head (says.Constant p value) trees t i lt typed shapes plainly h = constant_items head p _ value t i lt h
-made_items head says.Bool trees t i lt typed shapes plainly h = bool_items head trees t i lt (valid_same head says.Bool trees i shapes plainly) h
-made_items head (says.BitPacked p m) trees t i lt typed shapes plainly h =
-    let v = validity_over head (says.BitPacked p m) trees in
+made_items head (infos.Primitive p) trees t i lt typed expected plainly h = primitive_items head p trees t i lt (valid_same head (infos.Primitive p) trees i expected plainly) h
+made_items head (infos.Constant p value) trees t i lt typed expected plainly h = constant_items head p _ value t i lt h
+made_items head infos.Bool trees t i lt typed expected plainly h = bool_items head trees t i lt (valid_same head infos.Bool trees i expected plainly) h
+made_items head (infos.BitPacked p m) trees t i lt typed expected plainly h =
+    let v = validity_over head (infos.BitPacked p m) trees in
     let s = step (patches_found head.len m.patches trees) _ t h in
     let parts = parts_over head p v s.value m.offset in
     packed_items parts (GlobalWidth m.bit_width) t i lt s.rest
-    ∙ item_is parts (global_blocks m.bit_width) i _ _ (valid_same head (says.BitPacked p m) trees i shapes plainly) (patches_items head.len m.patches trees s.value i s.made)
-made_items head (says.BitPackedBlocked p m) trees t i lt typed shapes plainly h =
-    let v = validity_over head (says.BitPackedBlocked p m) trees in
+    ∙ item_is parts (global_blocks m.bit_width) i _ _ (valid_same head (infos.BitPacked p m) trees i expected plainly) (patches_items head.len m.patches trees s.value i s.made)
+made_items head (infos.BitPackedBlocked p m) trees t i lt typed expected plainly h =
+    let v = validity_over head (infos.BitPackedBlocked p m) trees in
     let s = step (patches_found head.len m.patches trees) _ t h in
     let parts = parts_over head p v s.value m.offset in
     blocked_items parts trees t i lt s.rest
-    ∙ item_is parts _ i _ _ (valid_same head (says.BitPackedBlocked p m) trees i shapes plainly) (patches_items head.len m.patches trees s.value i s.made)
-made_items head (says.FoR p value) [] t i lt typed shapes plainly h = absurd cc
-made_items head (says.FoR p value) (encoded ∷ others) t i lt typed shapes plainly h =
-    for_items encoded others p NonNullable value t i (ptype_is (column encoded) head.dtype p typed.0 shapes.0.typed typed.1) (long_as encoded head.len i shapes.0.long lt) h
-made_items head (says.FoRChunked p m) [] t i lt typed shapes plainly h = absurd cc
-made_items head (says.FoRChunked p m) (encoded ∷ []) t i lt typed shapes plainly h = absurd cc
-made_items head (says.FoRChunked p m) (encoded ∷ references ∷ others) t i lt typed shapes plainly h =
-    for_chunked_items encoded references others m.offset p t i (ptype_is (column encoded) head.dtype p typed.0 shapes.0.typed typed.1) (long_as encoded head.len i shapes.0.long lt)
-    (shapes.1.0.long ∙ ap (λ n. chunk_count (m.offset + n)) (sym shapes.0.long)) h
-made_items head (says.Delta p m) [] t i lt typed shapes plainly h = absurd cc
-made_items head (says.Delta p m) (bases ∷ []) t i lt typed shapes plainly h = absurd cc
-made_items head (says.Delta p m) (bases ∷ deltas ∷ others) t i lt typed shapes plainly h =
+    ∙ item_is parts _ i _ _ (valid_same head (infos.BitPackedBlocked p m) trees i expected plainly) (patches_items head.len m.patches trees s.value i s.made)
+made_items head (infos.FoR p value) [] t i lt typed expected plainly h = absurd cc
+made_items head (infos.FoR p value) (encoded ∷ others) t i lt typed expected plainly h =
+    for_items encoded others p NonNullable value t i (ptype_is (column encoded) head.dtype p typed.0 expected.0.typed typed.1) (long_as encoded head.len i expected.0.long lt) h
+made_items head (infos.FoRChunked p m) [] t i lt typed expected plainly h = absurd cc
+made_items head (infos.FoRChunked p m) (encoded ∷ []) t i lt typed expected plainly h = absurd cc
+made_items head (infos.FoRChunked p m) (encoded ∷ references ∷ others) t i lt typed expected plainly h =
+    for_chunked_items encoded references others m.offset p t i (ptype_is (column encoded) head.dtype p typed.0 expected.0.typed typed.1) (long_as encoded head.len i expected.0.long lt)
+    (expected.1.0.long ∙ ap (λ n. chunk_count (m.offset + n)) (sym expected.0.long)) h
+made_items head (infos.Delta p m) [] t i lt typed expected plainly h = absurd cc
+made_items head (infos.Delta p m) (bases ∷ []) t i lt typed expected plainly h = absurd cc
+made_items head (infos.Delta p m) (bases ∷ deltas ∷ others) t i lt typed expected plainly h =
     let trees : List Tree = bases ∷ deltas ∷ others in
-    delta_items_are bases deltas others (record { validity = validity_over head (says.Delta p m) trees; offset = m.offset; len = head.len }) p t i _ (ptype_is (column bases) (dtypes.Primitive p NonNullable) p NonNullable shapes.0.typed refl) lt
-    (valid_same head (says.Delta p m) trees i shapes plainly) h
-made_items head (says.RLE p m) [] t i lt typed shapes plainly h = absurd cc
-made_items head (says.RLE p m) (values ∷ []) t i lt typed shapes plainly h = absurd cc
-made_items head (says.RLE p m) (values ∷ indices ∷ []) t i lt typed shapes plainly h = absurd cc
-made_items head (says.RLE p m) (values ∷ indices ∷ offsets ∷ others) t i lt typed shapes plainly h = rle_items values indices offsets others (record { offset = m.offset; len = head.len }) t i lt h
+    delta_items_are bases deltas others (record { validity = validity_over head (infos.Delta p m) trees; offset = m.offset; len = head.len }) p t i _ (ptype_is (column bases) (dtypes.Primitive p NonNullable) p NonNullable expected.0.typed refl) lt
+    (valid_same head (infos.Delta p m) trees i expected plainly) h
+made_items head (infos.RLE p m) [] t i lt typed expected plainly h = absurd cc
+made_items head (infos.RLE p m) (values ∷ []) t i lt typed expected plainly h = absurd cc
+made_items head (infos.RLE p m) (values ∷ indices ∷ []) t i lt typed expected plainly h = absurd cc
+made_items head (infos.RLE p m) (values ∷ indices ∷ offsets ∷ others) t i lt typed expected plainly h = rle_items values indices offsets others (record { offset = m.offset; len = head.len }) t i lt h
 
 -- ---- what is read of a node
 -- as many children are asked for as there are
-all_asked : (head : Head) (m : Message) (count : ℕ) → count_refusal head m count ≡ None → length (child_shapes head m count) ≡ count
+all_asked : (head : Head) (m : NodeInfo) (count : ℕ) → count_refusal head m count ≡ None → length (expected_children head m count) ≡ count
 all_asked head m count fine = cases (has_validity head m count) refl
   where
-    cases : (b : Bool) → has_validity head m count ≡ b → length (child_shapes head m count) ≡ count
+    cases : (b : Bool) → has_validity head m count ≡ b → length (expected_children head m count) ≡ count
     cases true e =
         let counted : count ≡ child_count head m + 1 = eqb-true _ _ e in
-        let front : length (front_shapes head m ++ validity_shape head.len ∷ back_shapes head m) ≡ length (front_shapes head m) + length (validity_shape head.len ∷ back_shapes head m) = length-append (front_shapes head m) (validity_shape head.len ∷ back_shapes head m) in
+        let front : length (front_children head m ++ validity_child head.len ∷ back_children head m) ≡ length (front_children head m) + length (validity_child head.len ∷ back_children head m) = length-append (front_children head m) (validity_child head.len ∷ back_children head m) in
         rw e (omega (arith, counted, front))
     cases false e =
         let all : (count == child_count head m) ≡ true = counted_all (count == child_count head m) (has_validity head m count) (takes_validity m && is_nullable head.dtype) e (passes _ _ fine) in
-        rw e (length-append (front_shapes head m) (back_shapes head m) ∙ sym (eqb-true _ _ all))
+        rw e (length-append (front_children head m) (back_children head m) ∙ sym (eqb-true _ _ all))
       where
         counted_all : (a b c : Bool) → b ≡ false → (a || (b && c)) ≡ true → a ≡ true
         counted_all true b c f h = refl
@@ -369,27 +369,27 @@ all_asked head m count fine = cases (has_validity head m count) refl
 
 -- what a node that is read says, and the arrays of its children
 record IsReadOver (head : Head) (children : List Child) (t : Tree) : Type 0 where
-  message : Message
+  info : NodeInfo
   trees : List Tree
-  said : checked head (length children) ≡ Ok message
-  typed : Says message head.dtype
-  counted : count_refusal head message (length children) ≡ None
-  read : read_children (child_shapes head message (length children)) children ≡ Ok trees
-  result : made head message trees ≡ Ok t
+  said : checked head (length children) ≡ Ok info
+  typed : Says info head.dtype
+  counted : count_refusal head info (length children) ≡ None
+  read : read_children (expected_children head info (length children)) children ≡ Ok trees
+  result : made head info trees ≡ Ok t
 
 read_over : (head : Head) (children : List Child) (t : Tree) → read_node head children ≡ Ok t → IsReadOver head children t
 read_over head children t h =
     let check = step (checked head (length children)) _ t h in
-    let rest = step (read_children (child_shapes head check.value (length children)) children) _ t check.rest in
-    let said = step (message_of head) _ check.value check.made in
+    let rest = step (read_children (expected_children head check.value (length children)) children) _ t check.rest in
+    let said = step (info_of head) _ check.value check.made in
     let fine = accepted_is said.value check.value (node_refusal head said.value (length children)) said.rest in
     let none : node_refusal head check.value (length children) ≡ None = ap (λ m. node_refusal head m (length children)) (sym fine.1) ∙ fine.0 in
     let counted = none_otherwise (count_refusal head check.value (length children)) _ (none_otherwise (buffers_refusal head check.value) _ none).1 in
     record {
-      message = check.value;
+      info = check.value;
       trees = rest.value;
       said = check.made;
-      typed = message_says head check.value (said.made ∙ ap (λ m. Ok m) fine.1);
+      typed = info_says head check.value (said.made ∙ ap (λ m. Ok m) fine.1);
       counted = counted.0;
       read = rest.made;
       result = rest.rest;
@@ -411,17 +411,17 @@ no_nulls (valid.Array bits) h = absurd cc
 bool_nulls : (a b : Nullability) → dtypes.Bool a ≡ dtypes.Bool b → a ≡ b
 bool_nulls a b h = cc
 
-made_plainly : (head : Head) (m : Message) (trees : List Tree) (t : Tree) → Says m head.dtype → (column t).dtype ≡ head.dtype → made head m trees ≡ Ok t → IsPlainlyTrue t
-made_plainly head (says.Primitive p) trees t typed is h = never_bool t head.dtype p typed.0 is typed.1
-made_plainly head (says.Constant p value) trees t typed is h = never_bool t head.dtype p typed.0 is typed.1
-made_plainly head (says.BitPacked p m) trees t typed is h = never_bool t head.dtype p typed.0 is typed.1
-made_plainly head (says.BitPackedBlocked p m) trees t typed is h = never_bool t head.dtype p typed.0 is typed.1
-made_plainly head (says.FoR p value) trees t typed is h = never_bool t head.dtype p typed.0 is typed.1
-made_plainly head (says.FoRChunked p m) trees t typed is h = never_bool t head.dtype p typed.0 is typed.1
-made_plainly head (says.Delta p m) trees t typed is h = never_bool t head.dtype p typed.0 is typed.1
-made_plainly head (says.RLE p m) trees t typed is h = never_bool t head.dtype p typed.0 is typed.1
-made_plainly head says.Bool trees t typed is h =
-    let v = validity_over head says.Bool trees in
+made_plainly : (head : Head) (m : NodeInfo) (trees : List Tree) (t : Tree) → Says m head.dtype → (column t).dtype ≡ head.dtype → made head m trees ≡ Ok t → IsPlainlyTrue t
+made_plainly head (infos.Primitive p) trees t typed is h = never_bool t head.dtype p typed.0 is typed.1
+made_plainly head (infos.Constant p value) trees t typed is h = never_bool t head.dtype p typed.0 is typed.1
+made_plainly head (infos.BitPacked p m) trees t typed is h = never_bool t head.dtype p typed.0 is typed.1
+made_plainly head (infos.BitPackedBlocked p m) trees t typed is h = never_bool t head.dtype p typed.0 is typed.1
+made_plainly head (infos.FoR p value) trees t typed is h = never_bool t head.dtype p typed.0 is typed.1
+made_plainly head (infos.FoRChunked p m) trees t typed is h = never_bool t head.dtype p typed.0 is typed.1
+made_plainly head (infos.Delta p m) trees t typed is h = never_bool t head.dtype p typed.0 is typed.1
+made_plainly head (infos.RLE p m) trees t typed is h = never_bool t head.dtype p typed.0 is typed.1
+made_plainly head infos.Bool trees t typed is h =
+    let v = validity_over head infos.Bool trees in
     let bits = bits_of_bytes (own_bytes head) head.len in
     let s = step (new_bools bits v) _ t h in
     let parts = let_through (covers v (length bits)) (record { bits = bits; validity = v }) s.value ValidityLength s.made in
@@ -433,56 +433,56 @@ made_plainly head says.Bool trees t typed is h =
 plainly_read : (node : Node) (t : Tree) → reading node ≡ Ok t → IsPlainlyTrue t
 plainly_read (Of head children) t h =
     let over = read_over head (found_children children) t h in
-    made_plainly head over.message over.trees t over.typed (shape_read (Of head children) t h).typed over.result
+    made_plainly head over.info over.trees t over.typed (typed_read (Of head children) t h).typed over.result
 
 -- the array of a child
-child_read : (shape : Shape) (child : Child) (t : Tree) → fitting shape child ≡ Ok t → child.tree ≡ Ok t
-child_read shape child t h = cases (same_dtype shape.dtype child.dtype && (shape.len == child.len)) h
+child_read : (asked : ExpectedChild) (child : Child) (t : Tree) → fitting asked child ≡ Ok t → child.tree ≡ Ok t
+child_read asked child t h = cases (same_dtype asked.dtype child.dtype && (asked.len == child.len)) h
   where
     cases : (b : Bool) → (if b then child.tree else Err ChildMismatch) ≡ Ok t → child.tree ≡ Ok t
     cases true h = h
     cases false h = absurd cc
 
-all_plainly : (nodes : Nodes) (shapes : List Shape) (trees : List Tree) → read_children shapes (found_children nodes) ≡ Ok trees → AllPlainlyTrue trees
+all_plainly : (nodes : Nodes) (expected : List ExpectedChild) (trees : List Tree) → read_children expected (found_children nodes) ≡ Ok trees → AllPlainlyTrue trees
 all_plainly nodes [] trees h = subst AllPlainlyTrue (same_ok [] trees h) tt
-all_plainly NoMore (shape ∷ shapes) trees h = absurd cc
-all_plainly (And node nodes) (shape ∷ shapes) trees h =
+all_plainly NoMore (asked ∷ expected) trees h = absurd cc
+all_plainly (And node nodes) (asked ∷ expected) trees h =
     let child : Child = record { dtype = (head_of node).dtype; len = (head_of node).len; tree = reading node } in
-    let first = step (fitting shape child) _ trees h in
-    let rest = step (read_children shapes (found_children nodes)) _ trees first.rest in
-    subst AllPlainlyTrue (same_ok _ trees rest.rest) (plainly_read node first.value (child_read shape child first.value first.made), all_plainly nodes shapes rest.value rest.made)
+    let first = step (fitting asked child) _ trees h in
+    let rest = step (read_children expected (found_children nodes)) _ trees first.rest in
+    subst AllPlainlyTrue (same_ok _ trees rest.rest) (plainly_read node first.value (child_read asked child first.value first.made), all_plainly nodes expected rest.value rest.made)
 
 -- a node has the column of the array that is read of it
-has_column : (head : Head) (children : Nodes) (t : Tree) (over : IsReadOver head (found_children children) t) → IsOfShape t head.dtype head.len → HasColumn head (map column over.trees) (column t)
+has_column : (head : Head) (children : Nodes) (t : Tree) (over : IsReadOver head (found_children children) t) → HasTypeAndLength t head.dtype head.len → HasColumn head (map column over.trees) (column t)
 has_column head children t over is =
-    let shapes = children_have (child_shapes head over.message (length (found_children children))) (found_children children) over.trees (shapes_read children) over.read in
-    let all : length over.trees ≡ length (found_children children) = as_many _ over.trees shapes ∙ all_asked head over.message (length (found_children children)) over.counted in
+    let expected = children_have (expected_children head over.info (length (found_children children))) (found_children children) over.trees (all_typed_read children) over.read in
+    let all : length over.trees ≡ length (found_children children) = as_many _ over.trees expected ∙ all_asked head over.info (length (found_children children)) over.counted in
     let count : length (map column over.trees) ≡ length (found_children children) = length-map over.trees column ∙ all in
-    let here : HaveShapes (child_shapes head over.message (length over.trees)) over.trees = subst (λ n. HaveShapes (child_shapes head over.message n) over.trees) (sym all) shapes in
+    let here : AreAsExpected (expected_children head over.info (length over.trees)) over.trees = subst (λ n. AreAsExpected (expected_children head over.info n) over.trees) (sym all) expected in
     record {
-      message = over.message;
-      said = subst (λ n. checked head n ≡ Ok over.message) (sym count) over.said;
-      shaped = shapes_are _ over.trees shapes ∙ ap (child_shapes head over.message) (sym count);
-      items = as_said (column t) head over.message (map column over.trees) is.typed is.long (λ i lt. made_items head over.message over.trees t i lt over.typed here (all_plainly children _ over.trees over.read) over.result);
+      info = over.info;
+      said = subst (λ n. checked head n ≡ Ok over.info) (sym count) over.said;
+      expected = expected_are _ over.trees expected ∙ ap (expected_children head over.info) (sym count);
+      items = as_said (column t) head over.info (map column over.trees) is.typed is.long (λ i lt. made_items head over.info over.trees t i lt over.typed here (all_plainly children _ over.trees over.read) over.result);
     }
 
 mutual
   pub stands_read : (node : Node) (t : Tree) → reading node ≡ Ok t → StandsFor node (column t)
   stands_read (Of head children) t h =
       let over = read_over head (found_children children) t h in
-      let counted = all_asked head over.message (length (found_children children)) over.counted in
-      (map column over.trees, each_stands children _ over.trees counted over.read, has_column head children t over (shape_read (Of head children) t h))
+      let counted = all_asked head over.info (length (found_children children)) over.counted in
+      (map column over.trees, each_stands children _ over.trees counted over.read, has_column head children t over (typed_read (Of head children) t h))
 
-  each_stands : (nodes : Nodes) (shapes : List Shape) (trees : List Tree) → length shapes ≡ length (found_children nodes) → read_children shapes (found_children nodes) ≡ Ok trees → StandForEach nodes (map column trees)
+  each_stands : (nodes : Nodes) (expected : List ExpectedChild) (trees : List Tree) → length expected ≡ length (found_children nodes) → read_children expected (found_children nodes) ≡ Ok trees → StandForEach nodes (map column trees)
   each_stands NoMore [] trees e h = subst (λ ts. StandForEach NoMore (map column ts)) (same_ok [] trees h) tt
-  each_stands NoMore (shape ∷ shapes) trees e h = absurd cc
+  each_stands NoMore (asked ∷ expected) trees e h = absurd cc
   each_stands (And node nodes) [] trees e h = absurd (omega (arith, e))
-  each_stands (And node nodes) (shape ∷ shapes) trees e h =
+  each_stands (And node nodes) (asked ∷ expected) trees e h =
       let child : Child = record { dtype = (head_of node).dtype; len = (head_of node).len; tree = reading node } in
-      let first = step (fitting shape child) _ trees h in
-      let rest = step (read_children shapes (found_children nodes)) _ trees first.rest in
+      let first = step (fitting asked child) _ trees h in
+      let rest = step (read_children expected (found_children nodes)) _ trees first.rest in
       subst (λ ts. StandForEach (And node nodes) (map column ts)) (same_ok _ trees rest.rest)
-      (stands_read node first.value (child_read shape child first.value first.made), each_stands nodes shapes rest.value (omega (arith, e)) rest.made)
+      (stands_read node first.value (child_read asked child first.value first.made), each_stands nodes expected rest.value (omega (arith, e)) rest.made)
 
 -- what a call answers that reads a node
 pub answer_stands : (r : Result Tree FastLanesError) (node : Node) → Answers (λ a. a) r (reading node) → IfOk r (λ a. StandsFor node (column a))

@@ -4,19 +4,19 @@ use Rattle.fl_types.specs.declared.error.FastLanesError.{FastLanesError}
 use Rattle.fl_types.specs.Bits.{table}
 use Rattle.fl_column.specs.Columns.{Column}
 use Rattle.fl_serialized.specs.Nodes.{And, Head, NoMore, Node, Nodes, Of}
-use Rattle.fl_serde.specs.declared.messages.Message.{Message}
+use Rattle.fl_serde.specs.declared.node_info.NodeInfo.{NodeInfo}
 use Rattle.fl_serde.specs.Checks.{checked}
 use Rattle.fl_serde.specs.NodeColumns.{HasColumn, StandForEach, StandsFor, item_said}
 
-one_message : (m n : Message) → (let r : Result Message FastLanesError = Ok m in r) ≡ Ok n → m ≡ n
-one_message m n h = cc
+one_info : (m n : NodeInfo) → (let r : Result NodeInfo FastLanesError = Ok m in r) ≡ Ok n → m ≡ n
+one_info m n h = cc
 
 one_said : (head : Head) (cs ds : List Column) (c d : Column) → cs ≡ ds → HasColumn head cs c → HasColumn head ds d → c ≡ d
 one_said head cs ds c d e h k =
-    let message = one_message h.message k.message (sym h.said ∙ ap (λ xs. checked head (length xs)) e ∙ k.said) in
+    let info = one_info h.info k.info (sym h.said ∙ ap (λ xs. checked head (length xs)) e ∙ k.said) in
     h.items
-    ∙ ap (λ m. let x : Column = record { dtype = head.dtype; items = table (item_said head m cs) head.len } in x) message
-    ∙ ap (λ xs. let x : Column = record { dtype = head.dtype; items = table (item_said head k.message xs) head.len } in x) e
+    ∙ ap (λ m. let x : Column = record { dtype = head.dtype; items = table (item_said head m cs) head.len } in x) info
+    ∙ ap (λ xs. let x : Column = record { dtype = head.dtype; items = table (item_said head k.info xs) head.len } in x) e
     ∙ sym k.items
 
 mutual

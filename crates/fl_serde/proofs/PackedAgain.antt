@@ -26,10 +26,10 @@ use Rattle.fl_metadata.specs.WireReading.{fields_of, fields_up_to}
 use Rattle.fl_metadata.specs.Messages.{bit_packed_blocked_of, bit_packed_blocked_slots, bit_packed_of, bit_packed_slots}
 use Rattle.fl_metadata.specs.WrittenText.{message_text}
 use Rattle.fl_array.specs.Trees.{BitPackedBlocked, BitPackedGlobal, Primitive, Tree, column}
-use Rattle.fl_serde.specs.declared.messages.Message.{Message}
-use Rattle.fl_serde.specs.declared.messages.Message.TheVariants as says
-use Rattle.fl_serde.specs.declared.shapes.Shape.{Shape}
-use Rattle.fl_serde.specs.Shapes.{chunk_offset_shapes, numbers, patch_shapes}
+use Rattle.fl_serde.specs.declared.node_info.NodeInfo.{NodeInfo}
+use Rattle.fl_serde.specs.declared.node_info.NodeInfo.TheVariants as infos
+use Rattle.fl_serde.specs.declared.children.ExpectedChild.{ExpectedChild}
+use Rattle.fl_serde.specs.Children.{chunk_offset_children, numbers, patch_children}
 use Rattle.fl_serde.specs.Plain.{plain_of}
 use Rattle.fl_serde.specs.Reading.{patches_found, reading}
 use Rattle.fl_serde.specs.RoundTrip.{ArePatchesOfTypes, read_back, read_parts, read_patches, read_slots}
@@ -71,12 +71,12 @@ patches_even q none =
     let lengths = none_else (not (patch_lengths_fit q)) PatchLength _ types.1 in
     eqb-true _ _ (and_first (eqb (length q.indices.slots) (length q.values.slots)) _ (holds _ lengths.0))
 
-reads_chunks : (c : Option PrimitiveParts) → option_all (λ o. list_all (fits o.ptype) o.slots) c ≡ true → Reads (chunk_offset_shapes (option_map (λ o. o.ptype) c) (unwrap_or (option_map (λ o. length o.slots) c) 0)) (chunk_offset_nodes c) (chunk_trees c)
+reads_chunks : (c : Option PrimitiveParts) → option_all (λ o. list_all (fits o.ptype) o.slots) c ≡ true → Reads (chunk_offset_children (option_map (λ o. o.ptype) c) (unwrap_or (option_map (λ o. length o.slots) c) 0)) (chunk_offset_nodes c) (chunk_trees c)
 reads_chunks None all = tt
 reads_chunks (Some c) all = (fit (numbers c.ptype (length c.slots)) (numbers_node c) (Primitive (record { ptype = c.ptype; slots = c.slots; validity = valid.NonNullable })) refl refl (numbers_node_again c all), tt)
 
 reads_patches : (p : PType) (n : Nullability) (patches : Option PatchesParts) → IfSome patches ArePatchesOfTypes → option_all (λ q. same_ptype q.values.ptype p) patches ≡ true
-    → Reads (patch_shapes (dtypes.Primitive p n) (option_map patches_message patches)) (patch_nodes (dtypes.Primitive p n) patches) (patch_trees n patches)
+    → Reads (patch_children (dtypes.Primitive p n) (option_map patches_message patches)) (patch_nodes (dtypes.Primitive p n) patches) (patch_trees n patches)
 reads_patches p n None fitting typed = tt
 reads_patches p n (Some q) fitting typed =
     let same : dtypes.Primitive p n ≡ dtypes.Primitive q.values.ptype n = ap (λ x. dtypes.Primitive x n) (sym (code_once q.values.ptype p typed)) in
@@ -219,7 +219,7 @@ global_node : (parts : BitPackedParts) (width : ℕ) → Sound parts → IfSome 
 global_node parts width is fitting made_it message =
     let t : Tree = BitPackedGlobal parts width in
     let n = nullability_of parts.validity in
-    let m : Message = says.BitPacked parts.ptype (record { bit_width = width; offset = parts.offset; patches = option_map patches_message parts.patches }) in
+    let m : NodeInfo = infos.BitPacked parts.ptype (record { bit_width = width; offset = parts.offset; patches = option_map patches_message parts.patches }) in
     let long : item_count t ≡ parts.len = length-table _ parts.len in
     let front = patch_nodes (dtypes.Primitive parts.ptype n) parts.patches in
     let vn = validity_nodes parts.len parts.validity in
@@ -252,13 +252,13 @@ blocked_node : (parts : BitPackedParts) (boundaries : Tree) (o : PType) → Soun
 blocked_node parts boundaries o is fitting made_it typed counted near message reads =
     let t : Tree = BitPackedBlocked parts boundaries in
     let n = nullability_of parts.validity in
-    let m : Message = says.BitPackedBlocked parts.ptype (record { offset = parts.offset; block_offsets = o; patches = option_map patches_message parts.patches }) in
+    let m : NodeInfo = infos.BitPackedBlocked parts.ptype (record { offset = parts.offset; block_offsets = o; patches = option_map patches_message parts.patches }) in
     let long : item_count t ≡ parts.len = length-table _ parts.len in
     let front = patch_nodes (dtypes.Primitive parts.ptype n) parts.patches in
     let vn = validity_nodes parts.len parts.validity in
     let vt = validity_trees parts.len parts.validity in
     let trees = patch_trees n parts.patches ++ (vt ++ read_back boundaries ∷ []) in
-    let last : Shape = numbers o (chunk_count (parts.offset + item_count t) + 1) in
+    let last : ExpectedChild = numbers o (chunk_count (parts.offset + item_count t) + 1) in
     let behind = fit_written last boundaries (read_back boundaries) (sym typed) (rw long (sym counted)) reads in
     let w = with_validity (head_written t) m parts.len parts.validity front (written boundaries ∷ []) (patch_trees n parts.patches) (read_back boundaries ∷ []) refl refl long is.covered (reads_patches parts.ptype n parts.patches fitting is.typed) (behind, tt) in
     let children : (front ++ vn) ++ written boundaries ∷ [] ≡ front ++ (vn ++ written boundaries ∷ []) = append_assoc front vn (written boundaries ∷ []) in

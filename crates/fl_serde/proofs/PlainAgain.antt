@@ -19,9 +19,9 @@ use Rattle.fl_metadata.specs.WrittenText.{message_text}
 use Rattle.fl_array.specs.Trees.{Constant, Primitive, Tree}
 use Rattle.fl_array.specs.Trees as tree
 use Rattle.fl_serialized.specs.Nodes.{Head}
-use Rattle.fl_serde.specs.declared.messages.Message.{Message}
-use Rattle.fl_serde.specs.declared.messages.Message.TheVariants as says
-use Rattle.fl_serde.specs.Checks.{bounds_refusal, buffers_refusal, count_refusal, message_of, node_refusal}
+use Rattle.fl_serde.specs.declared.node_info.NodeInfo.{NodeInfo}
+use Rattle.fl_serde.specs.declared.node_info.NodeInfo.TheVariants as infos
+use Rattle.fl_serde.specs.Checks.{bounds_refusal, buffers_refusal, count_refusal, info_of, node_refusal}
 use Rattle.fl_serde.specs.Reading.{reading}
 use Rattle.fl_serde.specs.RoundTrip.{read_back}
 use Rattle.fl_serde.specs.Writing.{head_written, item_count, validity_nodes, written}
@@ -35,18 +35,18 @@ pub append_none : {A : Type 0} (xs : List A) → xs ++ [] ≡ xs
 append_none [] = refl
 append_none (x ∷ xs) = ap (λ l. x ∷ l) (append_none xs)
 
-pub none_of_three : (head : Head) (m : Message) (n : ℕ) → buffers_refusal head m ≡ None → count_refusal head m n ≡ None → bounds_refusal head m ≡ None → node_refusal head m n ≡ None
+pub none_of_three : (head : Head) (m : NodeInfo) (n : ℕ) → buffers_refusal head m ≡ None → count_refusal head m n ≡ None → bounds_refusal head m ≡ None → node_refusal head m n ≡ None
 none_of_three head m n buffers count bounds = rw (buffers, count, bounds) refl
 
 -- ---- stored integers
-primitive_message : (p : PrimitiveParts) → message_of (head_written (Primitive p)) ≡ Ok (says.Primitive p.ptype)
+primitive_message : (p : PrimitiveParts) → info_of (head_written (Primitive p)) ≡ Ok (infos.Primitive p.ptype)
 unfolding fields_of fields_up_to
 primitive_message p = refl
 
 pub primitive_back : (p : PrimitiveParts) → IsTrue (covers p.validity (length p.slots)) → list_all (fits p.ptype) p.slots ≡ true → reading (written (Primitive p)) ≡ Ok (read_back (Primitive p))
 primitive_back p covered all =
     let t : Tree = Primitive p in
-    let m : Message = says.Primitive p.ptype in
+    let m : NodeInfo = infos.Primitive p.ptype in
     let long : item_count t ≡ length p.slots = length-items_of p.validity p.slots covered in
     let w = with_validity (head_written t) m (length p.slots) p.validity [] [] [] [] refl refl long covered tt tt in
     let nodes : validity_nodes (length p.slots) p.validity ++ [] ≡ validity_nodes (length p.slots) p.validity = append_none (validity_nodes (length p.slots) p.validity) in
@@ -56,19 +56,19 @@ primitive_back p covered all =
     (rw (w.validity, long, slots_again p.ptype p.slots all, read_covers p.validity (length p.slots) covered) refl))
 
 -- ---- booleans
-bool_message : (b : BoolParts) → message_of (head_written (tree.Bool b)) ≡ Ok says.Bool
+bool_info : (b : BoolParts) → info_of (head_written (tree.Bool b)) ≡ Ok infos.Bool
 unfolding fields_of fields_up_to
-bool_message b = refl
+bool_info b = refl
 
 pub bool_back : (b : BoolParts) → IsTrue (covers b.validity (length b.bits)) → reading (written (tree.Bool b)) ≡ Ok (read_back (tree.Bool b))
 bool_back b covered =
     let t : Tree = tree.Bool b in
     let long : item_count t ≡ length b.bits = length-map (items_of b.validity b.bits) (option_map bool_number) ∙ length-items_of b.validity b.bits covered in
-    let w = with_validity (head_written t) says.Bool (length b.bits) b.validity [] [] [] [] refl refl long covered tt tt in
+    let w = with_validity (head_written t) infos.Bool (length b.bits) b.validity [] [] [] [] refl refl long covered tt tt in
     let nodes : validity_nodes (length b.bits) b.validity ++ [] ≡ validity_nodes (length b.bits) b.validity = append_none (validity_nodes (length b.bits) b.validity) in
-    let sized : buffers_refusal (head_written t) says.Bool ≡ None = rw (long, eq-eqb _ _ (bits_sized b.bits)) refl in
-    rw (← nodes) (node_read t (read_back t) (validity_nodes (length b.bits) b.validity ++ []) says.Bool (validity_trees (length b.bits) b.validity ++ []) (bool_message b)
-    (none_of_three (head_written t) says.Bool (length (validity_nodes (length b.bits) b.validity ++ [])) sized w.counted refl) w.reads
+    let sized : buffers_refusal (head_written t) infos.Bool ≡ None = rw (long, eq-eqb _ _ (bits_sized b.bits)) refl in
+    rw (← nodes) (node_read t (read_back t) (validity_nodes (length b.bits) b.validity ++ []) infos.Bool (validity_trees (length b.bits) b.validity ++ []) (bool_info b)
+    (none_of_three (head_written t) infos.Bool (length (validity_nodes (length b.bits) b.validity ++ [])) sized w.counted refl) w.reads
     (rw (w.validity, long, bits_again b.bits, read_covers b.validity (length b.bits) covered) refl))
 
 -- ---- constants

@@ -25,13 +25,13 @@ use Rattle.fl_array.specs.FoRArrays.{new_for, new_for_chunked, tree_of_for}
 use Rattle.fl_array.specs.Reads.{bools_in}
 use Rattle.fl_array.specs.RLEArrays.{new_rle, tree_of_rle}
 use Rattle.fl_serialized.specs.Nodes.{And, Head, NoMore, Node, Nodes, Of, head_of}
-use Rattle.fl_serde.specs.declared.messages.Message.{Message}
-use Rattle.fl_serde.specs.declared.messages.Message.TheVariants as says
-use Rattle.fl_serde.specs.declared.shapes.Shape.{Shape}
+use Rattle.fl_serde.specs.declared.node_info.NodeInfo.{NodeInfo}
+use Rattle.fl_serde.specs.declared.node_info.NodeInfo.TheVariants as infos
+use Rattle.fl_serde.specs.declared.children.ExpectedChild.{ExpectedChild}
 use Rattle.fl_serde.specs.Checks.{checked, own_bytes}
 use Rattle.fl_serde.specs.Leaves.{bits_of_bytes, slots_of_bytes}
 use Rattle.fl_serde.specs.Plain.{decoded}
-use Rattle.fl_serde.specs.Shapes.{child_shapes, front_shapes, has_validity, same_dtype}
+use Rattle.fl_serde.specs.Children.{expected_children, front_children, has_validity, same_dtype}
 
 -- ---- children, one after the other
 -- a child as it is found: the type and the length that its node says, and the array that it is read as
@@ -40,15 +40,15 @@ pub record Child : Type 0 where
   pub len : ℕ
   pub tree : Result Tree FastLanesError
 
--- the array of a child that is of the shape
-abbrev pub fitting : Shape → Child → Result Tree FastLanesError
-fitting shape child = if same_dtype shape.dtype child.dtype && (shape.len == child.len) then child.tree else Err ChildMismatch
+-- the array of a child that is as expected
+abbrev pub fitting : ExpectedChild → Child → Result Tree FastLanesError
+fitting asked child = if same_dtype asked.dtype child.dtype && (asked.len == child.len) then child.tree else Err ChildMismatch
 
--- the arrays of the first children, which are of these shapes
-abbrev pub read_children : List Shape → List Child → Result (List Tree) FastLanesError
+-- the arrays of the first children, which are as expected
+abbrev pub read_children : List ExpectedChild → List Child → Result (List Tree) FastLanesError
 read_children [] children = Ok []
-read_children (shape ∷ shapes) [] = Err ChildCount
-read_children (shape ∷ shapes) (child ∷ children) = fitting shape child >>= λ tree. read_children shapes children >>= λ trees. Ok (tree ∷ trees)
+read_children (asked ∷ expected) [] = Err ChildCount
+read_children (asked ∷ expected) (child ∷ children) = fitting asked child >>= λ tree. read_children expected children >>= λ trees. Ok (tree ∷ trees)
 
 -- the validity that a boolean array says
 abbrev pub validity_of : Tree → Validity
@@ -59,9 +59,9 @@ abbrev pub validity_at : ℕ → List Tree → Validity
 validity_at i trees = unwrap_or (option_map validity_of (slice_get trees i)) (valid.Array [])
 
 -- the validity of a node over the arrays of its children: there is no null where none of them is the validity
-abbrev pub validity_over : Head → Message → List Tree → Validity
+abbrev pub validity_over : Head → NodeInfo → List Tree → Validity
 validity_over head m trees =
-    if has_validity head m (length trees) then validity_at (length (front_shapes head m)) trees
+    if has_validity head m (length trees) then validity_at (length (front_children head m)) trees
     else full_validity (nullability_in head.dtype)
 
 -- ---- what is made of them
@@ -138,25 +138,25 @@ abbrev pub parts_over : Head → PType → Validity → Option PatchesParts → 
 parts_over head ptype validity patches offset = record { packed = own_bytes head; ptype = ptype; validity = validity; patches = patches; offset = offset; len = head.len }
 
 -- the array of a node over those of its children: patches first, then what the kind's constructor makes
-abbrev pub made : Head → Message → List Tree → Result Tree FastLanesError
-made head (says.Primitive ptype) trees = new_primitive ptype (slots_of_bytes ptype (own_bytes head) head.len) (validity_over head (says.Primitive ptype) trees) >>= λ p. Ok (tree.Primitive p)
-made head (says.Constant ptype value) trees = new_constant (scalar_over ptype (nullability_in head.dtype) value) head.len >>= λ c. Ok (tree.Constant c)
-made head says.Bool trees = new_bools (bits_of_bytes (own_bytes head) head.len) (validity_over head says.Bool trees) >>= λ b. Ok (tree.Bool b)
-made head (says.BitPacked ptype m) trees =
-    patches_found head.len m.patches trees >>= λ patches. bitpacked_over (parts_over head ptype (validity_over head (says.BitPacked ptype m) trees) patches m.offset) (GlobalWidth m.bit_width)
-made head (says.BitPackedBlocked ptype m) trees =
-    patches_found head.len m.patches trees >>= λ patches. blocked_over (parts_over head ptype (validity_over head (says.BitPackedBlocked ptype m) trees) patches m.offset) (slice_get trees (length trees - 1))
-made head (says.FoR ptype value) trees = for_over (scalar_over ptype NonNullable value) trees
-made head (says.FoRChunked ptype m) trees = for_chunked_over m.offset trees
-made head (says.Delta ptype m) trees = delta_over (record { validity = validity_over head (says.Delta ptype m) trees; offset = m.offset; len = head.len }) trees
-made head (says.RLE ptype m) trees = rle_over (record { offset = m.offset; len = head.len }) trees
+abbrev pub made : Head → NodeInfo → List Tree → Result Tree FastLanesError
+made head (infos.Primitive ptype) trees = new_primitive ptype (slots_of_bytes ptype (own_bytes head) head.len) (validity_over head (infos.Primitive ptype) trees) >>= λ p. Ok (tree.Primitive p)
+made head (infos.Constant ptype value) trees = new_constant (scalar_over ptype (nullability_in head.dtype) value) head.len >>= λ c. Ok (tree.Constant c)
+made head infos.Bool trees = new_bools (bits_of_bytes (own_bytes head) head.len) (validity_over head infos.Bool trees) >>= λ b. Ok (tree.Bool b)
+made head (infos.BitPacked ptype m) trees =
+    patches_found head.len m.patches trees >>= λ patches. bitpacked_over (parts_over head ptype (validity_over head (infos.BitPacked ptype m) trees) patches m.offset) (GlobalWidth m.bit_width)
+made head (infos.BitPackedBlocked ptype m) trees =
+    patches_found head.len m.patches trees >>= λ patches. blocked_over (parts_over head ptype (validity_over head (infos.BitPackedBlocked ptype m) trees) patches m.offset) (slice_get trees (length trees - 1))
+made head (infos.FoR ptype value) trees = for_over (scalar_over ptype NonNullable value) trees
+made head (infos.FoRChunked ptype m) trees = for_chunked_over m.offset trees
+made head (infos.Delta ptype m) trees = delta_over (record { validity = validity_over head (infos.Delta ptype m) trees; offset = m.offset; len = head.len }) trees
+made head (infos.RLE ptype m) trees = rle_over (record { offset = m.offset; len = head.len }) trees
 
 -- ---- any node
 -- the array of a node over its children as they are found
 abbrev pub read_node : Head → List Child → Result Tree FastLanesError
 read_node head children = do
   m ← checked head (length children)
-  trees ← read_children (child_shapes head m (length children)) children
+  trees ← read_children (expected_children head m (length children)) children
   made head m trees
 
 abbrev mutual

@@ -93,17 +93,17 @@ patch_nodes dtype (Some p) = numbers_node p.indices ∷ slots_node dtype p.value
 
 -- ---- arrays
 -- the bytes of a scalar, under the tag of its type's sign; none of a null
-abbrev pub scalar_text : ScalarParts → List ℕ
-scalar_text scalar = message_text (scalar_slots (unwrap_or (integer_type scalar.dtype) U8) scalar.value)
+abbrev pub scalar_bytes : ScalarParts → List ℕ
+scalar_bytes scalar = message_text (scalar_slots (unwrap_or (integer_type scalar.dtype) U8) scalar.value)
 
 -- the metadata of an array
 abbrev pub metadata_of : Tree → List ℕ
 metadata_of (Primitive p) = []
-metadata_of (Constant c) = scalar_text c.scalar
+metadata_of (Constant c) = scalar_bytes c.scalar
 metadata_of (tree.Bool b) = []
 metadata_of (BitPackedGlobal parts width) = message_text (bit_packed_slots (record { bit_width = width; offset = parts.offset; patches = option_map patches_message parts.patches }))
 metadata_of (BitPackedBlocked parts boundaries) = message_text (bit_packed_blocked_slots (record { offset = parts.offset; block_offsets = ptype_of_column (column boundaries); patches = option_map patches_message parts.patches }))
-metadata_of (FoRGlobal encoded reference) = scalar_text reference
+metadata_of (FoRGlobal encoded reference) = scalar_bytes reference
 metadata_of (FoRChunked encoded references offset) = message_text (for_chunked_slots (record { offset = offset }))
 metadata_of (Delta bases deltas parts) = message_text (delta_slots (record { deltas_len = item_count deltas; offset = parts.offset }))
 metadata_of (RLE values indices offsets window) = message_text (rle_slots (record {

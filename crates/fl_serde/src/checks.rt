@@ -6,8 +6,8 @@ ghost use Rattle.fl_serialized.specs.Nodes.{children_of, head_of, listed};
 ghost use Rattle.fl_serde.specs.Checks.{IsChecked, bounds_refusal, buffer_count, buffer_size, buffers_refusal, checked, count_refusal, own_bytes};
 ghost use Rattle.fl_serde.specs.Leaves.{bits_size, slots_size};
 
-use crate::messages::{Message, message_of};
-use crate::shapes::{child_count, has_validity, takes_validity};
+use crate::children::{child_count, has_validity, takes_validity};
+use crate::node_info::{NodeInfo, info_of};
 use fastlanes::FL_CHUNK_SIZE;
 use fl_bitpacking::refusals::positions_refusal;
 use fl_column::{FastLanesError, Nullability, PType};
@@ -24,12 +24,12 @@ pub fn own_bytes(node: &SerializedArray) -> &[u8]
 }
 
 /// How many buffers a node has.
-fn buffer_count(message: &Message) -> usize
-    ensures { result ≡ buffer_count message.now }
+fn buffer_count(info: &NodeInfo) -> usize
+    ensures { result ≡ buffer_count info.now }
 {
-    match message {
-        Message::Primitive(_) | Message::Bool => 1,
-        Message::BitPacked(_, _) | Message::BitPackedBlocked(_, _) => 1,
+    match info {
+        NodeInfo::Primitive(_) | NodeInfo::Bool => 1,
+        NodeInfo::BitPacked(_, _) | NodeInfo::BitPackedBlocked(_, _) => 1,
         _ => 0,
     }
 }
@@ -42,55 +42,55 @@ fn are_slots(bytes: &[u8], ptype: PType, len: usize) -> bool
 }
 
 /// Whether the buffer of a leaf has the length that its items take; whether there is one, of others.
-fn is_sized(node: &SerializedArray, message: &Message) -> bool
-    ensures { result ≡ option_all (λ size. length (own_bytes (head_of node.now)) == size) (buffer_size message.now (head_of node.now).len) }
+fn is_sized(node: &SerializedArray, info: &NodeInfo) -> bool
+    ensures { result ≡ option_all (λ size. length (own_bytes (head_of node.now)) == size) (buffer_size info.now (head_of node.now).len) }
 {
-    match message {
-        Message::Primitive(ptype) => are_slots(own_bytes(node), *ptype, node.len()),
-        Message::Bool => own_bytes(node).len() == node.len().div_ceil(8),
+    match info {
+        NodeInfo::Primitive(ptype) => are_slots(own_bytes(node), *ptype, node.len()),
+        NodeInfo::Bool => own_bytes(node).len() == node.len().div_ceil(8),
         _ => true,
     }
 }
 
 /// Why buffers are not those of a node, if they are not.
-fn buffers_refusal(node: &SerializedArray, message: &Message) -> Option<FastLanesError>
-    ensures { result ≡ buffers_refusal (head_of node.now) message.now }
+fn buffers_refusal(node: &SerializedArray, info: &NodeInfo) -> Option<FastLanesError>
+    ensures { result ≡ buffers_refusal (head_of node.now) info.now }
 {
-    if node.buffers().len() != buffer_count(message) {
+    if node.buffers().len() != buffer_count(info) {
         return Some(FastLanesError::BufferCount);
     }
-    if !is_sized(node, message) {
+    if !is_sized(node, info) {
         return Some(FastLanesError::PackedLength);
     }
     None
 }
 
 /// Why a node has not so many children, if it has not.
-fn count_refusal(node: &SerializedArray, message: &Message, count: usize) -> Option<FastLanesError>
-    ensures { result ≡ count_refusal (head_of node.now) message.now count }
+fn count_refusal(node: &SerializedArray, info: &NodeInfo, count: usize) -> Option<FastLanesError>
+    ensures { result ≡ count_refusal (head_of node.now) info.now count }
 {
-    if count == child_count(node, message) {
+    if count == child_count(node, info) {
         return None;
     }
     let nullable = node.dtype().nullability() == Nullability::Nullable;
-    if has_validity(node, message, count) && takes_validity(message) && nullable {
+    if has_validity(node, info, count) && takes_validity(info) && nullable {
         return None;
     }
     Some(FastLanesError::ChildCount)
 }
 
 /// Why the lengths of children can't be said, if they can't.
-fn bounds_refusal(node: &SerializedArray, message: &Message) -> Option<FastLanesError>
-    ensures { result ≡ bounds_refusal (head_of node.now) message.now }
+fn bounds_refusal(node: &SerializedArray, info: &NodeInfo) -> Option<FastLanesError>
+    ensures { result ≡ bounds_refusal (head_of node.now) info.now }
 {
-    match message {
-        Message::BitPackedBlocked(_, metadata) => {
+    match info {
+        NodeInfo::BitPackedBlocked(_, metadata) => {
             positions_refusal(metadata.offset as usize, node.len())
         }
-        Message::FoRChunked(_, metadata) => {
+        NodeInfo::FoRChunked(_, metadata) => {
             positions_refusal(metadata.offset as usize, node.len())
         }
-        Message::Delta(_, metadata) => {
+        NodeInfo::Delta(_, metadata) => {
             if metadata.deltas_len as usize % FL_CHUNK_SIZE == 0 {
                 None
             } else {
@@ -104,23 +104,23 @@ fn bounds_refusal(node: &SerializedArray, message: &Message) -> Option<FastLanes
 /// What a node says, unless it is refused before its children are read.
 ///
 /// # Errors
-/// Those of `message_of`; then `BufferCount`; `PackedLength` where the buffer of a primitive or boolean node has
+/// Those of `info_of`; then `BufferCount`; `PackedLength` where the buffer of a primitive or boolean node has
 /// another length than its items take; `ChildCount`, also where a node without nulls has a validity; and for the
 /// lengths of the children `OffsetTooLarge`, then `LengthOverflow` (blocked or chunked), and `ChildLength`
 /// where the deltas are not whole blocks.
-pub fn check(node: &SerializedArray) -> Result<Message, FastLanesError>
-    ensures message { result ≡ checked (head_of node.now) (length (listed (children_of node.now))) }
+pub fn check(node: &SerializedArray) -> Result<NodeInfo, FastLanesError>
+    ensures info { result ≡ checked (head_of node.now) (length (listed (children_of node.now))) }
     ensures sound { IfOk result (λ m. IsChecked (head_of node.now) m (length (listed (children_of node.now)))) }
 {
-    let message = message_of(node)?;
-    if let Some(refusal) = buffers_refusal(node, &message) {
+    let info = info_of(node)?;
+    if let Some(refusal) = buffers_refusal(node, &info) {
         return Err(refusal);
     }
-    if let Some(refusal) = count_refusal(node, &message, node.children().len()) {
+    if let Some(refusal) = count_refusal(node, &info, node.children().len()) {
         return Err(refusal);
     }
-    if let Some(refusal) = bounds_refusal(node, &message) {
+    if let Some(refusal) = bounds_refusal(node, &info) {
         return Err(refusal);
     }
-    Ok(message)
+    Ok(info)
 }

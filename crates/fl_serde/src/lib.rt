@@ -6,26 +6,26 @@
 
 pub mod bit_bytes;
 pub mod checks;
+pub mod children;
+pub mod encodings;
 pub mod kinds;
 pub mod laws;
-pub mod messages;
+pub mod node_info;
 mod nodes;
 mod patches;
 mod plain;
-pub mod plugins;
 pub mod reading;
 pub mod scalars;
-pub mod shapes;
 pub mod slot_bytes;
 mod views;
 pub mod writing;
 
 pub use crate::checks::check;
+pub use crate::children::ExpectedChild;
+pub use crate::encodings::{ArrayForm, BitPackedPlugin, FoRPlugin};
 pub use crate::kinds::NodeKind;
-pub use crate::messages::Message;
-pub use crate::plugins::{ArrayForm, BitPackedPlugin, FoRPlugin};
+pub use crate::node_info::NodeInfo;
 pub use crate::reading::deserialize;
-pub use crate::shapes::Shape;
 pub use crate::writing::serialize;
 pub use fl_serialized::SerializedArray;
 pub use fl_serialized::ids::{bitpacked_v1_id, bitpacked_v2_id, for_v1_id, for_v2_id};

@@ -11,18 +11,18 @@ ghost use Rattle.fl_serialized.specs.Nodes.{head_of};
 ghost use Rattle.fl_serde.specs.Leaves.{bits_size, slots_size};
 ghost use Rattle.fl_serde.specs.Firsts.{IsFirstTwo};
 ghost use Rattle.fl_serde.specs.NodeColumns.{StandsFor};
-ghost use Rattle.fl_serde.specs.ReadShapes.{IsOfShape};
+ghost use Rattle.fl_serde.specs.TypeAndLength.{HasTypeAndLength};
 ghost use Rattle.fl_serde.specs.Checks.{IsChecked, own_bytes};
 ghost use Rattle.fl_serde.specs.Reading.{bitpacked_over, delta_over, for_chunked_over, for_over, made, reading, rle_over, scalar_over, validity_at, validity_of, validity_over};
-ghost use Rattle.fl_serde.specs.declared.messages.Message.TheVariants as says;
+ghost use Rattle.fl_serde.specs.declared.node_info.NodeInfo.TheVariants as infos;
 
 use crate::bit_bytes::bits_of_bytes;
 use crate::checks::own_bytes;
+use crate::children::{expected_children, front_count, has_validity};
 use crate::patches::patches_found;
 use crate::scalars::value_of;
-use crate::shapes::{child_shapes, front_count, has_validity};
 use crate::slot_bytes::array_of_bytes;
-use crate::{Message, check};
+use crate::{NodeInfo, check};
 use bytes::Bytes;
 use fl_array::bitpacking::BitPacked;
 use fl_array::delta::Delta;
@@ -61,13 +61,13 @@ fn validity_at(alloc: Global, i: usize, trees: &[ArrayRef]) -> Result<Validity, 
 fn validity_over(
     alloc: Global,
     node: &SerializedArray,
-    message: &Message,
+    info: &NodeInfo,
     trees: &[ArrayRef],
 ) -> Result<Validity, FastLanesError>
-    ensures { Answers (λ v. v) result (Ok (validity_over (head_of node.now) message.now trees.now)) }
+    ensures { Answers (λ v. v) result (Ok (validity_over (head_of node.now) info.now trees.now)) }
 {
-    if has_validity(node, message, trees.len()) {
-        validity_at(alloc, front_count(node, message), trees)
+    if has_validity(node, info, trees.len()) {
+        validity_at(alloc, front_count(node, info), trees)
     } else {
         Ok(Validity::from(node.dtype().nullability()))
     }
@@ -102,9 +102,9 @@ fn make_primitive(
     trees: &[ArrayRef],
 ) -> Result<ArrayRef, FastLanesError>
     requires { length (own_bytes (head_of node.now)) ≡ slots_size ptype (head_of node.now).len }
-    ensures { Answers (λ a. a) result (made (head_of node.now) (says.Primitive ptype) trees.now) }
+    ensures { Answers (λ a. a) result (made (head_of node.now) (infos.Primitive ptype) trees.now) }
 {
-    let validity = validity_over(alloc, node, &Message::Primitive(ptype), trees)?;
+    let validity = validity_over(alloc, node, &NodeInfo::Primitive(ptype), trees)?;
     let array = array_of_bytes(alloc, ptype, own_bytes(node), node.len(), validity)?;
     Ok(array.into_array())
 }
@@ -116,7 +116,7 @@ fn make_constant(
     value: Option<i128>,
 ) -> Result<ArrayRef, FastLanesError>
     requires { IfSome value (FitsIn ptype) }
-    ensures { result ≡ made (head_of node.now) (says.Constant ptype value) [] }
+    ensures { result ≡ made (head_of node.now) (infos.Constant ptype value) [] }
 {
     let scalar = scalar_over(ptype, node.dtype().nullability(), value);
     Ok(ConstantArray::new(scalar, node.len())?.into_array())
@@ -129,9 +129,9 @@ fn make_bools(
     trees: &[ArrayRef],
 ) -> Result<ArrayRef, FastLanesError>
     requires { length (own_bytes (head_of node.now)) ≡ bits_size (head_of node.now).len }
-    ensures { Answers (λ a. a) result (made (head_of node.now) says.Bool trees.now) }
+    ensures { Answers (λ a. a) result (made (head_of node.now) infos.Bool trees.now) }
 {
-    let validity = validity_over(alloc, node, &Message::Bool, trees)?;
+    let validity = validity_over(alloc, node, &NodeInfo::Bool, trees)?;
     let bits = bits_of_bytes(alloc, own_bytes(node), node.len())?;
     Ok(BoolArray::new(bits, validity)?.into_array())
 }
@@ -179,11 +179,11 @@ fn make_global(
     metadata: &BitPackedMetadata,
     trees: &[ArrayRef],
 ) -> Result<ArrayRef, FastLanesError>
-    ensures { Answers (λ a. a) result (made (head_of node.now) (says.BitPacked ptype metadata.now) trees.now) }
+    ensures { Answers (λ a. a) result (made (head_of node.now) (infos.BitPacked ptype metadata.now) trees.now) }
 {
-    let message = Message::BitPacked(ptype, *metadata);
+    let info = NodeInfo::BitPacked(ptype, *metadata);
     let patches = patches_found(alloc, node.len(), &metadata.patches, trees)?;
-    let validity = validity_over(alloc, node, &message, trees)?;
+    let validity = validity_over(alloc, node, &info, trees)?;
     let packed = shared_bytes(node)?;
     let (width, offset) = (metadata.bit_width, metadata.offset);
     global_over(packed, ptype, validity, patches, width, offset, node.len())
@@ -224,11 +224,11 @@ fn make_blocked(
     metadata: &BitPackedBlockedMetadata,
     trees: Vec<ArrayRef>,
 ) -> Result<ArrayRef, FastLanesError>
-    ensures { Answers (λ a. a) result (made (head_of node.now) (says.BitPackedBlocked ptype metadata.now) trees.items) }
+    ensures { Answers (λ a. a) result (made (head_of node.now) (infos.BitPackedBlocked ptype metadata.now) trees.items) }
 {
-    let message = Message::BitPackedBlocked(ptype, *metadata);
+    let info = NodeInfo::BitPackedBlocked(ptype, *metadata);
     let patches = patches_found(alloc, node.len(), &metadata.patches, &trees)?;
-    let validity = validity_over(alloc, node, &message, &trees)?;
+    let validity = validity_over(alloc, node, &info, &trees)?;
     let packed = shared_bytes(node)?;
     match last_of(trees) {
         None => Err(FastLanesError::ChildCount),
@@ -306,10 +306,10 @@ fn make_delta(
     metadata: &DeltaMetadata,
     trees: Vec<ArrayRef>,
 ) -> Result<ArrayRef, FastLanesError>
-    ensures { Answers (λ a. a) result (made (head_of node.now) (says.Delta ptype metadata.now) trees.items) }
+    ensures { Answers (λ a. a) result (made (head_of node.now) (infos.Delta ptype metadata.now) trees.items) }
 {
-    let message = Message::Delta(ptype, *metadata);
-    let validity = validity_over(alloc, node, &message, &trees)?;
+    let info = NodeInfo::Delta(ptype, *metadata);
+    let validity = validity_over(alloc, node, &info, &trees)?;
     delta_over(alloc, validity, metadata.offset as usize, node.len(), trees)
 }
 
@@ -347,28 +347,28 @@ fn rle_over(
 fn make(
     alloc: Global,
     node: &SerializedArray,
-    message: &Message,
+    info: &NodeInfo,
     count: usize,
     trees: Vec<ArrayRef>,
 ) -> Result<ArrayRef, FastLanesError>
-    requires { IsChecked (head_of node.now) message.now count }
-    ensures { Answers (λ a. a) result (made (head_of node.now) message.now trees.items) }
+    requires { IsChecked (head_of node.now) info.now count }
+    ensures { Answers (λ a. a) result (made (head_of node.now) info.now trees.items) }
 {
-    match message {
-        Message::Primitive(ptype) => make_primitive(alloc, node, *ptype, &trees),
-        Message::Constant(ptype, value) => make_constant(node, *ptype, *value),
-        Message::Bool => make_bools(alloc, node, &trees),
-        Message::BitPacked(ptype, metadata) => make_global(alloc, node, *ptype, metadata, &trees),
-        Message::BitPackedBlocked(ptype, metadata) => {
+    match info {
+        NodeInfo::Primitive(ptype) => make_primitive(alloc, node, *ptype, &trees),
+        NodeInfo::Constant(ptype, value) => make_constant(node, *ptype, *value),
+        NodeInfo::Bool => make_bools(alloc, node, &trees),
+        NodeInfo::BitPacked(ptype, metadata) => make_global(alloc, node, *ptype, metadata, &trees),
+        NodeInfo::BitPackedBlocked(ptype, metadata) => {
             make_blocked(alloc, node, *ptype, metadata, trees)
         }
-        Message::FoR(ptype, value) => {
+        NodeInfo::FoR(ptype, value) => {
             let reference = scalar_over(*ptype, Nullability::NonNullable, *value);
             for_over(alloc, reference, trees)
         }
-        Message::FoRChunked(_, metadata) => for_chunked_over(alloc, metadata.offset, trees),
-        Message::Delta(ptype, metadata) => make_delta(alloc, node, *ptype, metadata, trees),
-        Message::RLE(_, metadata) => {
+        NodeInfo::FoRChunked(_, metadata) => for_chunked_over(alloc, metadata.offset, trees),
+        NodeInfo::Delta(ptype, metadata) => make_delta(alloc, node, *ptype, metadata, trees),
+        NodeInfo::RLE(_, metadata) => {
             rle_over(alloc, metadata.offset as usize, node.len(), trees)
         }
     }
@@ -378,21 +378,21 @@ fn make(
 fn read(alloc: Global, node: &SerializedArray) -> Result<ArrayRef, FastLanesError>
     ensures { Answers (λ a. a) result (reading node.now) }
 {
-    let message = check(node)?;
+    let info = check(node)?;
     let children = node.children();
-    let shapes = child_shapes(alloc, node, &message, children.len())?;
+    let expected = expected_children(alloc, node, &info, children.len())?;
     let mut trees = Vec::new(alloc);
-    for i in 0..shapes.len() {
+    for i in 0..expected.len() {
         if i >= children.len() {
             return Err(FastLanesError::ChildCount);
         }
         let child = &children[i];
-        if !shapes[i].is_of(child) {
+        if !expected[i].matches(child) {
             return Err(FastLanesError::ChildMismatch);
         }
         trees.push(read(alloc, child)?)?;
     }
-    make(alloc, node, &message, children.len(), trees)
+    make(alloc, node, &info, children.len(), trees)
 }
 
 /// The array that a node is read as, of the node's type and length and of the column for which the node stands, with
@@ -404,10 +404,10 @@ fn read(alloc: Global, node: &SerializedArray) -> Result<ArrayRef, FastLanesErro
 /// The first that holds: those of `check`; then for each child in order `ChildMismatch`, where its type or its
 /// length isn't the one that is asked of it, else its own; then `PatchType`, `PatchLength` and `PatchContent`;
 /// then those of the kind's constructor.
-#[tactic(auto, using(crate::proofs::ShapesRead::answer_shape, crate::proofs::NodesStand::answer_stands))]
+#[tactic(auto, using(crate::proofs::TypesRead::answer_typed, crate::proofs::NodesStand::answer_stands))]
 pub fn deserialize(alloc: Global, node: &SerializedArray) -> Result<ArrayRef, FastLanesError>
     ensures array { Answers (λ a. a) result (reading node.now) }
-    ensures shape { IfOk result (λ a. IsOfShape a (head_of node.now).dtype (head_of node.now).len) }
+    ensures typed { IfOk result (λ a. HasTypeAndLength a (head_of node.now).dtype (head_of node.now).len) }
     ensures column { IfOk result (λ a. StandsFor node.now (column a)) }
 {
     read(alloc, node)

@@ -13,7 +13,7 @@ ghost use Rattle.fl_array.specs.FoRArrays.{tree_of_for};
 ghost use Rattle.fl_array.specs.DeltaArrays.{tree_of_delta};
 ghost use Rattle.fl_array.specs.RLEArrays.{tree_of_rle};
 ghost use Rattle.fl_serde.specs.NodeColumns.{StandsFor};
-ghost use Rattle.fl_serde.specs.Writing.{buffers_of, head_written, metadata_of, node_kind, node_over, packed_nodes, scalar_text, validity_nodes, written};
+ghost use Rattle.fl_serde.specs.Writing.{buffers_of, head_written, metadata_of, node_kind, node_over, packed_nodes, scalar_bytes, validity_nodes, written};
 
 use crate::NodeKind;
 use crate::bit_bytes::bytes_of_bits;
@@ -66,9 +66,9 @@ fn ptype_or_u8(dtype: DType) -> PType
 }
 
 /// The bytes of a scalar of an integer type.
-fn scalar_text(alloc: Global, scalar: Scalar) -> Result<Vec<u8>, FastLanesError>
+fn scalar_bytes(alloc: Global, scalar: Scalar) -> Result<Vec<u8>, FastLanesError>
     requires { IsTrue (is_integer (scalar_parts scalar).dtype) }
-    ensures { Answers (λ v. v.items) result (Ok (scalar_text (scalar_parts scalar))) }
+    ensures { Answers (λ v. v.items) result (Ok (scalar_bytes (scalar_parts scalar))) }
 {
     match scalar {
         Scalar::Integer(value, _) => {
@@ -85,7 +85,7 @@ fn constant_metadata(alloc: Global, array: &ConstantArray) -> Result<Vec<u8>, Fa
     ensures { Answers (λ v. v.items) result (Ok (metadata_of (tree.Constant array.now))) }
 {
     let _ptype = array.ptype();
-    scalar_text(alloc, array.scalar())
+    scalar_bytes(alloc, array.scalar())
 }
 
 /// The metadata of a bit-packed array of one width.
@@ -138,7 +138,7 @@ fn for_metadata(alloc: Global, array: &FoRArray) -> Result<Vec<u8>, FastLanesErr
 {
     array.prove_well_formed();
     match array.references() {
-        FoRReferences::Global(reference) => scalar_text(alloc, *reference),
+        FoRReferences::Global(reference) => scalar_bytes(alloc, *reference),
         FoRReferences::Blocked(_) => {
             let metadata = FoRChunkedMetadata {
                 offset: array.offset() as u32,

@@ -5,4 +5,4 @@ use Rattle.fl_serde.proofs.reading.+read.Given as goal
 
 -- what is read of the children, by those that are still to be read
 abbrev pub invariant-loop-i : goal.invariant-loop-i
-invariant-loop-i l = read_children l.shapes.items (map child_of l.children) ≡ remaining l.shapes.items (map child_of l.children) l.i l.trees.items
+invariant-loop-i l = read_children l.expected.items (map child_of l.children) ≡ remaining l.expected.items (map child_of l.children) l.i l.trees.items

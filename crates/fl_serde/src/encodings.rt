@@ -6,7 +6,7 @@ ghost use Rattle.fl_array.specs.Trees.{column};
 ghost use Rattle.fl_serialized.specs.Nodes.{bitpacked_v1_id, bitpacked_v2_id, delta_id, for_v1_id, for_v2_id, rle_id};
 ghost use Rattle.fl_serde.specs.declared.kinds.NodeKind.{NodeKind};
 ghost use Rattle.fl_serde.specs.NodeColumns.{StandsFor};
-ghost use Rattle.fl_serde.specs.Plugins.{is_bitpacked, is_delta, is_for, is_rle, reading_under, written_under};
+ghost use Rattle.fl_serde.specs.Encodings.{is_bitpacked, is_delta, is_for, is_rle, reading_under, written_under};
 
 use crate::NodeKind;
 use crate::reading::deserialize;

@@ -5,7 +5,7 @@ ghost use Rattle.fl_types.specs.Integers.{FitsIn};
 ghost use Rattle.fl_metadata.specs.Scalars.{scalar_of};
 ghost use Rattle.fl_metadata.specs.WireReading.{fields_of};
 ghost use Rattle.fl_serialized.specs.Nodes.{head_of};
-ghost use Rattle.fl_serde.specs.Checks.{HasFittingValue, any_message, bool_message, constant_message, integer_message, message_of};
+ghost use Rattle.fl_serde.specs.Checks.{HasFittingValue, bool_info, constant_info, info_of, integer_info, leaf_info};
 
 use crate::kinds::NodeKind;
 use fl_column::{DType, FastLanesError, Nullability, PType};
@@ -16,9 +16,9 @@ use fl_metadata::{
 use fl_serialized::SerializedArray;
 
 /// What a node says by its id, its type and its metadata: the kind of its array, the integer type, and the
-/// message of the kind.
+/// kind's own message.
 #[derive(Clone, Copy)]
-pub enum Message {
+pub enum NodeInfo {
     /// A primitive array.
     Primitive(PType),
     /// A constant array of an integer or a null.
@@ -48,13 +48,13 @@ fn has_fields(metadata: &[u8]) -> bool
     is_message(metadata)
 }
 
-/// The message of a leaf, whose metadata may be any message.
-fn any_message(message: Message, metadata: &[u8]) -> Result<Message, FastLanesError>
-    ensures message { result ≡ any_message message metadata.now }
-    ensures same { IfOk result (λ m. m ≡ message) }
+/// The info of a leaf, whose metadata may be any message.
+fn leaf_info(info: NodeInfo, metadata: &[u8]) -> Result<NodeInfo, FastLanesError>
+    ensures info { result ≡ leaf_info info metadata.now }
+    ensures same { IfOk result (λ m. m ≡ info) }
 {
     if has_fields(metadata) {
-        Ok(message)
+        Ok(info)
     } else {
         Err(FastLanesError::BadMetadata)
     }
@@ -69,55 +69,55 @@ fn scalar_of(ptype: PType, metadata: &[u8]) -> Result<Option<i128>, FastLanesErr
     decode_scalar(ptype, metadata)
 }
 
-/// The message of a constant of a type.
-fn constant_message(ptype: PType, node: &SerializedArray) -> Result<Message, FastLanesError>
-    ensures message { result ≡ constant_message ptype (head_of node.now) }
+/// The info of a constant of a type.
+fn constant_info(ptype: PType, node: &SerializedArray) -> Result<NodeInfo, FastLanesError>
+    ensures info { result ≡ constant_info ptype (head_of node.now) }
     ensures fits { IfOk result HasFittingValue }
 {
     let value = scalar_of(ptype, node.metadata())?;
     if value.is_none() && node.dtype().nullability() == Nullability::NonNullable {
         Err(FastLanesError::BadMetadata)
     } else {
-        Ok(Message::Constant(ptype, value))
+        Ok(NodeInfo::Constant(ptype, value))
     }
 }
 
-/// The message of a node of integers.
-fn integer_message(
+/// The info of a node of integers.
+fn integer_info(
     kind: NodeKind,
     ptype: PType,
     node: &SerializedArray,
-) -> Result<Message, FastLanesError>
-    ensures message { result ≡ integer_message kind ptype (head_of node.now) }
+) -> Result<NodeInfo, FastLanesError>
+    ensures info { result ≡ integer_info kind ptype (head_of node.now) }
     ensures fits { IfOk result HasFittingValue }
 {
     let metadata = node.metadata();
     match kind {
-        NodeKind::Primitive => any_message(Message::Primitive(ptype), metadata),
-        NodeKind::Constant => constant_message(ptype, node),
+        NodeKind::Primitive => leaf_info(NodeInfo::Primitive(ptype), metadata),
+        NodeKind::Constant => constant_info(ptype, node),
         NodeKind::Bool => Err(FastLanesError::TypeMismatch),
-        NodeKind::BitPacked => Ok(Message::BitPacked(ptype, BitPackedMetadata::decode(metadata)?)),
-        NodeKind::BitPackedBlocked => Ok(Message::BitPackedBlocked(
+        NodeKind::BitPacked => Ok(NodeInfo::BitPacked(ptype, BitPackedMetadata::decode(metadata)?)),
+        NodeKind::BitPackedBlocked => Ok(NodeInfo::BitPackedBlocked(
             ptype,
             BitPackedBlockedMetadata::decode(metadata)?,
         )),
-        NodeKind::FoR => Ok(Message::FoR(ptype, scalar_of(ptype, metadata)?)),
-        NodeKind::FoRChunked => Ok(Message::FoRChunked(
+        NodeKind::FoR => Ok(NodeInfo::FoR(ptype, scalar_of(ptype, metadata)?)),
+        NodeKind::FoRChunked => Ok(NodeInfo::FoRChunked(
             ptype,
             FoRChunkedMetadata::decode(metadata)?,
         )),
-        NodeKind::Delta => Ok(Message::Delta(ptype, DeltaMetadata::decode(metadata)?)),
-        NodeKind::RLE => Ok(Message::RLE(ptype, RLEMetadata::decode(metadata)?)),
+        NodeKind::Delta => Ok(NodeInfo::Delta(ptype, DeltaMetadata::decode(metadata)?)),
+        NodeKind::RLE => Ok(NodeInfo::RLE(ptype, RLEMetadata::decode(metadata)?)),
     }
 }
 
-/// The message of a node of booleans.
-fn bool_message(kind: NodeKind, node: &SerializedArray) -> Result<Message, FastLanesError>
-    ensures message { result ≡ bool_message kind (head_of node.now) }
+/// The info of a node of booleans.
+fn bool_info(kind: NodeKind, node: &SerializedArray) -> Result<NodeInfo, FastLanesError>
+    ensures info { result ≡ bool_info kind (head_of node.now) }
     ensures fits { IfOk result HasFittingValue }
 {
     match kind {
-        NodeKind::Bool => any_message(Message::Bool, node.metadata()),
+        NodeKind::Bool => leaf_info(NodeInfo::Bool, node.metadata()),
         _ => Err(FastLanesError::NotInteger),
     }
 }
@@ -128,15 +128,15 @@ fn bool_message(kind: NodeKind, node: &SerializedArray) -> Result<Message, FastL
 /// `UnknownId`; then `NotInteger` of booleans under any id but that of boolean arrays, and `TypeMismatch` of
 /// integers under that one; then `BadMetadata`, also where the scalar of a constant array that has no nulls is
 /// null; then `UnknownType`.
-pub fn message_of(node: &SerializedArray) -> Result<Message, FastLanesError>
-    ensures message { result ≡ message_of (head_of node.now) }
+pub fn info_of(node: &SerializedArray) -> Result<NodeInfo, FastLanesError>
+    ensures info { result ≡ info_of (head_of node.now) }
     ensures fits { IfOk result HasFittingValue }
 {
     let Some(kind) = NodeKind::of_id(node.id()) else {
         return Err(FastLanesError::UnknownId);
     };
     match node.dtype() {
-        DType::Primitive(ptype, _) => integer_message(kind, ptype, node),
-        DType::Bool(_) => bool_message(kind, node),
+        DType::Primitive(ptype, _) => integer_info(kind, ptype, node),
+        DType::Bool(_) => bool_info(kind, node),
     }
 }
