@@ -1,6 +1,5 @@
 pub mod LeafLaws
 pub mod NodeLaws
-pub mod ViewLaws
 pub mod ReadLaws
 pub mod PlainLaws
 pub mod EarlyLaws

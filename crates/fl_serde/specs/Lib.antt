@@ -2,7 +2,6 @@ pub mod Leaves
 pub mod Kinds
 pub mod Children
 pub mod Checks
-pub mod Views
 pub mod Writing
 pub mod Plain
 pub mod Reading

@@ -17,7 +17,7 @@ ghost use Rattle.fl_array.specs.DeltaArrays.{tree_of_delta};
 ghost use Rattle.fl_array.specs.FoRArrays.{ChunkReferences, GlobalReference, offset_of_references, tree_of_for};
 ghost use Rattle.fl_array.specs.Kinds.{kind};
 ghost use Rattle.fl_array.specs.RLEArrays.{tree_of_rle};
-ghost use Rattle.fl_serialized.specs.Nodes.{Node};
+ghost use Rattle.fl_serialized.specs.Nodes as nodes;
 ghost use Rattle.fl_serde.specs.NodeColumns.{StandsFor};
 ghost use Rattle.fl_serde.specs.RoundTrip.{ArePatchesOfTypes, HasFittingInteger, IsReadBack, read_back};
 ghost use Rattle.fl_serde.specs.Writing.{patches_message};
@@ -26,13 +26,12 @@ pub use crate::laws::blocked_nodes::written_blocked;
 use crate::nodes::patches_message;
 use crate::reading::deserialize;
 use crate::scalars::prove_in_range;
-use crate::views::{ArrayView, view};
 use crate::writing::serialize;
-use fl_array::ArrayRef;
 use fl_array::bitpacking::{BitPackedArray, BitWidthsView};
 use fl_array::delta::DeltaArray;
 use fl_array::for_::{FoRArray, FoRReferences};
 use fl_array::rle::RLEArray;
+use fl_array::{ArrayRef, Node};
 use fl_column::{BoolArray, ConstantArray, FastLanesError, PrimitiveArray, Scalar};
 use fl_metadata::{PatchesMetadata, written_is_read};
 use fl_patches::Patches;
@@ -60,7 +59,7 @@ fn prove_few(array: &ArrayRef)
 /// A node stands for at most one column.
 #[tactic(auto, using(crate::proofs::OneColumn::one_column))]
 pub fn node_has_one_column()
-    ensures { (node : Node) → (c d : Column) → StandsFor node c → StandsFor node d → c ≡ d }
+    ensures { (node : nodes.Node) → (c d : Column) → StandsFor node c → StandsFor node d → c ≡ d }
 {}
 
 /// The integer of a scalar is one of its type.
@@ -220,18 +219,18 @@ fn prove_rle(array: &RLEArray)
 pub fn prove_read_back(array: &ArrayRef)
     ensures { IsReadBack array.now }
 {
-    match view(array) {
-        ArrayView::Primitive(a) => prove_primitive(a),
-        ArrayView::Constant(a) => prove_constant(a),
-        ArrayView::Bool(a) => prove_bools(a),
-        ArrayView::BitPacked(a) => match a.bit_widths() {
+    match array.node() {
+        Node::Primitive(a) => prove_primitive(a),
+        Node::Constant(a) => prove_constant(a),
+        Node::Bool(a) => prove_bools(a),
+        Node::BitPacked(a) => match a.bit_widths() {
             BitWidthsView::Global(width) => prove_global(a, width),
             BitWidthsView::Blocked(boundaries) => {
                 prove_read_back(boundaries);
                 prove_blocked(a, boundaries);
             }
         },
-        ArrayView::FoR(a) => {
+        Node::FoR(a) => {
             prove_read_back(a.encoded());
             match a.references() {
                 FoRReferences::Global(reference) => prove_for(a, reference),
@@ -241,12 +240,12 @@ pub fn prove_read_back(array: &ArrayRef)
                 }
             }
         }
-        ArrayView::Delta(a) => {
+        Node::Delta(a) => {
             prove_read_back(a.bases());
             prove_read_back(a.deltas());
             prove_delta(a);
         }
-        ArrayView::RLE(a) => {
+        Node::RLE(a) => {
             prove_read_back(a.values());
             prove_read_back(a.indices());
             prove_read_back(a.offsets());

@@ -17,7 +17,6 @@ mod plain;
 pub mod reading;
 pub mod scalars;
 pub mod slot_bytes;
-mod views;
 pub mod writing;
 
 pub use crate::checks::check;

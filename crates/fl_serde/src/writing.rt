@@ -21,13 +21,12 @@ use crate::laws::prove_read_back;
 use crate::nodes::{one_node, packed_nodes, patches_message, validity_nodes};
 use crate::scalars::prove_in_range;
 use crate::slot_bytes::bytes_of_slots;
-use crate::views::{ArrayView, view};
 use bytes::Bytes;
-use fl_array::ArrayRef;
 use fl_array::bitpacking::{BitPackedArray, BitWidthsView};
 use fl_array::delta::DeltaArray;
 use fl_array::for_::{FoRArray, FoRReferences};
 use fl_array::rle::RLEArray;
+use fl_array::{ArrayRef, Node};
 use fl_bitpacking::packed_data::PackedData;
 use fl_column::{ConstantArray, DType, FastLanesError, PType, Scalar, Validity};
 use fl_metadata::{
@@ -41,20 +40,20 @@ use std::alloc::Global;
 pub fn node_kind(array: &ArrayRef) -> NodeKind
     ensures { result ≡ node_kind array.now }
 {
-    match view(array) {
-        ArrayView::Primitive(_) => NodeKind::Primitive,
-        ArrayView::Constant(_) => NodeKind::Constant,
-        ArrayView::Bool(_) => NodeKind::Bool,
-        ArrayView::BitPacked(a) => match a.bit_widths() {
+    match array.node() {
+        Node::Primitive(_) => NodeKind::Primitive,
+        Node::Constant(_) => NodeKind::Constant,
+        Node::Bool(_) => NodeKind::Bool,
+        Node::BitPacked(a) => match a.bit_widths() {
             BitWidthsView::Global(_) => NodeKind::BitPacked,
             BitWidthsView::Blocked(_) => NodeKind::BitPackedBlocked,
         },
-        ArrayView::FoR(a) => match a.references() {
+        Node::FoR(a) => match a.references() {
             FoRReferences::Global(_) => NodeKind::FoR,
             FoRReferences::Blocked(_) => NodeKind::FoRChunked,
         },
-        ArrayView::Delta(_) => NodeKind::Delta,
-        ArrayView::RLE(_) => NodeKind::RLE,
+        Node::Delta(_) => NodeKind::Delta,
+        Node::RLE(_) => NodeKind::RLE,
     }
 }
 
@@ -180,13 +179,13 @@ fn rle_metadata(alloc: Global, array: &RLEArray) -> Result<Vec<u8>, FastLanesErr
 fn metadata_of(alloc: Global, array: &ArrayRef) -> Result<Vec<u8>, FastLanesError>
     ensures { Answers (λ v. v.items) result (Ok (metadata_of array.now)) }
 {
-    match view(array) {
-        ArrayView::Primitive(_) | ArrayView::Bool(_) => Ok(Vec::new(alloc)),
-        ArrayView::Constant(a) => constant_metadata(alloc, a),
-        ArrayView::BitPacked(a) => bitpacked_metadata(alloc, a),
-        ArrayView::FoR(a) => for_metadata(alloc, a),
-        ArrayView::Delta(a) => delta_metadata(alloc, a),
-        ArrayView::RLE(a) => rle_metadata(alloc, a),
+    match array.node() {
+        Node::Primitive(_) | Node::Bool(_) => Ok(Vec::new(alloc)),
+        Node::Constant(a) => constant_metadata(alloc, a),
+        Node::BitPacked(a) => bitpacked_metadata(alloc, a),
+        Node::FoR(a) => for_metadata(alloc, a),
+        Node::Delta(a) => delta_metadata(alloc, a),
+        Node::RLE(a) => rle_metadata(alloc, a),
     }
 }
 
@@ -215,25 +214,25 @@ fn packed_buffer(alloc: Global, array: &BitPackedArray) -> Result<Vec<Bytes>, Fa
 fn buffers_of(alloc: Global, array: &ArrayRef) -> Result<Vec<Bytes>, FastLanesError>
     ensures { Answers (λ v. v.items) result (Ok (buffers_of array.now)) }
 {
-    match view(array) {
-        ArrayView::Primitive(a) => {
+    match array.node() {
+        Node::Primitive(a) => {
             let bytes = bytes_of_slots(alloc, a)?;
             one_buffer(alloc, bytes)
         }
-        ArrayView::Bool(a) => {
+        Node::Bool(a) => {
             let bytes = bytes_of_bits(alloc, a.bits())?;
             one_buffer(alloc, bytes)
         }
-        ArrayView::BitPacked(a) => packed_buffer(alloc, a),
-        ArrayView::FoR(a) => match a.references() {
+        Node::BitPacked(a) => packed_buffer(alloc, a),
+        Node::FoR(a) => match a.references() {
             FoRReferences::Global(_) => Ok(Vec::new(alloc)),
             FoRReferences::Blocked(_) => Ok(Vec::new(alloc)),
         },
-        ArrayView::Constant(_) | ArrayView::Delta(_) | ArrayView::RLE(_) => Ok(Vec::new(alloc)),
+        Node::Constant(_) | Node::Delta(_) | Node::RLE(_) => Ok(Vec::new(alloc)),
     }
 }
 
-/// The node of an array over these children.
+/// The node of an array over a list of children.
 fn node_over(
     alloc: Global,
     array: &ArrayRef,
@@ -297,31 +296,16 @@ fn over_boundaries(
     node_over(alloc, array, children)
 }
 
-/// The node of an array over one child.
-fn over_one(
+/// The node of an array over these children.
+fn with_children<const N: usize>(
     alloc: Global,
     array: &ArrayRef,
-    child: SerializedArray,
+    children: [SerializedArray; N],
 ) -> Result<SerializedArray, FastLanesError>
-    requires { written array.now ≡ node_over array.now (child ∷ []) }
+    requires { written array.now ≡ node_over array.now children }
     ensures { Answers (λ node. node) result (Ok (written array.now)) }
 {
-    let children = one_node(alloc, child)?;
-    node_over(alloc, array, children)
-}
-
-/// The node of an array over two children.
-fn over_two(
-    alloc: Global,
-    array: &ArrayRef,
-    first: SerializedArray,
-    second: SerializedArray,
-) -> Result<SerializedArray, FastLanesError>
-    requires { written array.now ≡ node_over array.now (first ∷ second ∷ []) }
-    ensures { Answers (λ node. node) result (Ok (written array.now)) }
-{
-    let mut children = one_node(alloc, first)?;
-    children.push(second)?;
+    let children = Vec::from_array(alloc, children)?;
     node_over(alloc, array, children)
 }
 
@@ -343,58 +327,41 @@ fn over_deltas(
     node_over(alloc, array, children)
 }
 
-/// The node of an array over three children.
-fn over_three(
-    alloc: Global,
-    array: &ArrayRef,
-    first: SerializedArray,
-    second: SerializedArray,
-    third: SerializedArray,
-) -> Result<SerializedArray, FastLanesError>
-    requires { written array.now ≡ node_over array.now (first ∷ second ∷ third ∷ []) }
-    ensures { Answers (λ node. node) result (Ok (written array.now)) }
-{
-    let mut children = one_node(alloc, first)?;
-    children.push(second)?;
-    children.push(third)?;
-    node_over(alloc, array, children)
-}
-
 /// The node of an array.
 fn write(alloc: Global, array: &ArrayRef) -> Result<SerializedArray, FastLanesError>
     ensures { Answers (λ node. node) result (Ok (written array.now)) }
 {
-    match view(array) {
-        ArrayView::Primitive(a) => over_validity(alloc, array, a.validity(), a.len()),
-        ArrayView::Constant(_) => node_over(alloc, array, Vec::new(alloc)),
-        ArrayView::Bool(a) => over_validity(alloc, array, a.validity(), a.len()),
-        ArrayView::BitPacked(a) => match a.bit_widths() {
+    match array.node() {
+        Node::Primitive(a) => over_validity(alloc, array, a.validity(), a.len()),
+        Node::Constant(_) => node_over(alloc, array, Vec::new(alloc)),
+        Node::Bool(a) => over_validity(alloc, array, a.validity(), a.len()),
+        Node::BitPacked(a) => match a.bit_widths() {
             BitWidthsView::Global(_) => over_packed(alloc, array, a.packed_data()),
             BitWidthsView::Blocked(boundaries) => {
                 let boundaries = write(alloc, boundaries)?;
                 over_boundaries(alloc, array, a.packed_data(), boundaries)
             }
         },
-        ArrayView::FoR(a) => {
+        Node::FoR(a) => {
             let encoded = write(alloc, a.encoded())?;
             match a.references() {
-                FoRReferences::Global(_) => over_one(alloc, array, encoded),
+                FoRReferences::Global(_) => with_children(alloc, array, [encoded]),
                 FoRReferences::Blocked(references) => {
                     let references = write(alloc, references)?;
-                    over_two(alloc, array, encoded, references)
+                    with_children(alloc, array, [encoded, references])
                 }
             }
         }
-        ArrayView::Delta(a) => {
+        Node::Delta(a) => {
             let bases = write(alloc, a.bases())?;
             let deltas = write(alloc, a.deltas())?;
             over_deltas(alloc, array, a, bases, deltas)
         }
-        ArrayView::RLE(a) => {
+        Node::RLE(a) => {
             let values = write(alloc, a.values())?;
             let indices = write(alloc, a.indices())?;
             let offsets = write(alloc, a.offsets())?;
-            over_three(alloc, array, values, indices, offsets)
+            with_children(alloc, array, [values, indices, offsets])
         }
     }
 }
