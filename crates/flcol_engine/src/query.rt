@@ -3,7 +3,7 @@
 ghost use Rattle.std.specs.Prelude.{◌≡◌, Ok};
 ghost use Rattle.fl_types.specs.Refusals.{Answers};
 ghost use Rattle.fl_array.specs.ToBlocked.{to_blocked_tree};
-ghost use Rattle.fl_plugin.specs.Writing.{id_of};
+ghost use Rattle.fl_serde.specs.Writing.{id_of};
 ghost use Rattle.flcol_engine.specs.Command.{parts_of_run};
 ghost use Rattle.flcol_engine.specs.Outputs.{IsAnswer, IsArray, IsRunOutput, IsStored, Meets};
 ghost use Rattle.flcol_engine.specs.Printing.{line};
@@ -16,9 +16,9 @@ use bytes::Bytes;
 use fl_array::ArrayRef;
 use fl_column::FastLanesError;
 use fl_ops::apply_all;
-use fl_plugin::laws::prove_read_back;
-use fl_plugin::writing::node_kind;
-use fl_plugin::{deserialize, serialize};
+use fl_serde::laws::prove_read_back;
+use fl_serde::writing::node_kind;
+use fl_serde::{deserialize, serialize};
 use flcol_container::{read_container, write_container};
 use std::alloc::Global;
 
