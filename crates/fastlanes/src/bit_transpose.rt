@@ -6,7 +6,7 @@ ghost use Rattle.fastlanes.specs.Layout.{place, row_of, lane_of};
 ghost use Rattle.fastlanes.specs.Compared.{is_bit_set, has_bit};
 ghost use Rattle.fastlanes.specs.Deinterleaved.{deinterleaved};
 
-use crate::facts::prove_bytes_fit;
+use crate::proof_support::prove_bytes_fit;
 use crate::widths::bits;
 use crate::words::FastLanes;
 use std::simd::{u8x16, u8x64};

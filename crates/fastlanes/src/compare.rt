@@ -7,7 +7,7 @@ ghost use Rattle.fastlanes.specs.Rows.{IsGroup, item_of_row};
 ghost use Rattle.fastlanes.specs.Compared.{is_bit_set, has_bit, IsAnswer, Compares};
 
 use crate::counts::Work;
-use crate::facts::prove_bytes_fit;
+use crate::proof_support::prove_bytes_fit;
 use crate::storage::{AsBytes, AsWords, Storage};
 use crate::unpacking::items_of_row;
 use crate::widths::{at_eight, bits, lanes};
@@ -106,8 +106,8 @@ fn compare_16<
     W: FastLanes,
     S: Storage<W>,
     F: Fn(W, W) -> bool,
-    const FIRST: usize,
-    const MORE: usize,
+    const WIDTH_BASE: usize,
+    const WIDTH_STEP: usize,
     const FROM: usize,
 >(width: usize, words: &[S::Unit], cmp: &F, rhs: W, g: usize, answers: Simd<W, 16>) -> Simd<W, 16>
     requires row { FROM + 16 ≤ W.T }
@@ -125,8 +125,8 @@ fn compare_32<
     W: FastLanes,
     S: Storage<W>,
     F: Fn(W, W) -> bool,
-    const FIRST: usize,
-    const MORE: usize,
+    const WIDTH_BASE: usize,
+    const WIDTH_STEP: usize,
 >(width: usize, words: &[S::Unit], cmp: &F, rhs: W, g: usize, answers: Simd<W, 16>) -> Simd<W, 16>
     requires row { 32 ≤ W.T }
     requires group { IsGroup W.T W.LANES width (S.count (length words.now)) g }
@@ -134,8 +134,10 @@ fn compare_32<
     requires answers { Compares W.pattern (F.post cmp.now) rhs (item_of_row W.T W.LANES width (S.word words.now)) g 0 (W.lane answers) }
     ensures answers { Compares W.pattern (F.post cmp.now) rhs (item_of_row W.T W.LANES width (S.word words.now)) g 32 (W.lane result) }
 {
-    let answers = compare_16::<W, S, F, FIRST, MORE, 0>(width, words, cmp, rhs, g, answers);
-    compare_16::<W, S, F, FIRST, MORE, 16>(width, words, cmp, rhs, g, answers)
+    let answers = compare_16::<W, S, F, WIDTH_BASE, WIDTH_STEP, 0>(
+        width, words, cmp, rhs, g, answers,
+    );
+    compare_16::<W, S, F, WIDTH_BASE, WIDTH_STEP, 16>(width, words, cmp, rhs, g, answers)
 }
 
 /// The answers for the 64 rows of the lanes of group `g`.
@@ -143,8 +145,8 @@ fn compare_64<
     W: FastLanes,
     S: Storage<W>,
     F: Fn(W, W) -> bool,
-    const FIRST: usize,
-    const MORE: usize,
+    const WIDTH_BASE: usize,
+    const WIDTH_STEP: usize,
 >(width: usize, words: &[S::Unit], cmp: &F, rhs: W, g: usize, answers: Simd<W, 16>) -> Simd<W, 16>
     requires row { 64 ≤ W.T }
     requires group { IsGroup W.T W.LANES width (S.count (length words.now)) g }
@@ -152,10 +154,16 @@ fn compare_64<
     requires answers { Compares W.pattern (F.post cmp.now) rhs (item_of_row W.T W.LANES width (S.word words.now)) g 0 (W.lane answers) }
     ensures answers { Compares W.pattern (F.post cmp.now) rhs (item_of_row W.T W.LANES width (S.word words.now)) g 64 (W.lane result) }
 {
-    let answers = compare_16::<W, S, F, FIRST, MORE, 0>(width, words, cmp, rhs, g, answers);
-    let answers = compare_16::<W, S, F, FIRST, MORE, 16>(width, words, cmp, rhs, g, answers);
-    let answers = compare_16::<W, S, F, FIRST, MORE, 32>(width, words, cmp, rhs, g, answers);
-    compare_16::<W, S, F, FIRST, MORE, 48>(width, words, cmp, rhs, g, answers)
+    let answers = compare_16::<W, S, F, WIDTH_BASE, WIDTH_STEP, 0>(
+        width, words, cmp, rhs, g, answers,
+    );
+    let answers = compare_16::<W, S, F, WIDTH_BASE, WIDTH_STEP, 16>(
+        width, words, cmp, rhs, g, answers,
+    );
+    let answers = compare_16::<W, S, F, WIDTH_BASE, WIDTH_STEP, 32>(
+        width, words, cmp, rhs, g, answers,
+    );
+    compare_16::<W, S, F, WIDTH_BASE, WIDTH_STEP, 48>(width, words, cmp, rhs, g, answers)
 }
 
 /// No answer yet.
@@ -173,8 +181,8 @@ fn compare_group<
     W: FastLanes,
     S: Storage<W>,
     F: Fn(W, W) -> bool,
-    const FIRST: usize,
-    const MORE: usize,
+    const WIDTH_BASE: usize,
+    const WIDTH_STEP: usize,
 >(width: usize, words: &[S::Unit], cmp: &F, rhs: W, g: usize) -> Simd<W, 16>
     requires group { IsGroup W.T W.LANES width (S.count (length words.now)) g }
     requires callable { F.IsAlwaysCallable cmp.now }
@@ -185,11 +193,11 @@ fn compare_group<
     if t == 8 {
         compare_8::<W, S, F>(width, words, cmp, rhs, 0, g, answers)
     } else if t == 16 {
-        compare_16::<W, S, F, FIRST, MORE, 0>(width, words, cmp, rhs, g, answers)
+        compare_16::<W, S, F, WIDTH_BASE, WIDTH_STEP, 0>(width, words, cmp, rhs, g, answers)
     } else if t == 32 {
-        compare_32::<W, S, F, FIRST, MORE>(width, words, cmp, rhs, g, answers)
+        compare_32::<W, S, F, WIDTH_BASE, WIDTH_STEP>(width, words, cmp, rhs, g, answers)
     } else {
-        compare_64::<W, S, F, FIRST, MORE>(width, words, cmp, rhs, g, answers)
+        compare_64::<W, S, F, WIDTH_BASE, WIDTH_STEP>(width, words, cmp, rhs, g, answers)
     }
 }
 
@@ -210,13 +218,13 @@ fn write_group<W: FastLanes>(answers: Simd<W, 16>, g: usize, bytes: &mut [u8; 12
 
 /// Sets bit `r` of word `l` of these bytes where `cmp` holds of the item at row `r` of lane `l` and `rhs`.
 ///
-/// `FIRST` and `MORE` give each width a function of its own, in which the compiler knows it.
+/// `WIDTH_BASE` and `WIDTH_STEP` give each width a function of its own, in which the compiler knows it.
 fn compare_groups<
     W: FastLanes,
     S: Storage<W>,
     F: Fn(W, W) -> bool,
-    const FIRST: usize,
-    const MORE: usize,
+    const WIDTH_BASE: usize,
+    const WIDTH_STEP: usize,
 >(width: usize, words: &[S::Unit], cmp: &F, rhs: W, bytes: &mut [u8; 128])
     requires width { width ≤ W.T }
     requires block { S.count (length words.now) ≡ width * W.LANES }
@@ -226,49 +234,55 @@ fn compare_groups<
     W::prove_in_memory();
     for g in 0..lanes::<W>() / 16 {
         write_group::<W>(
-            compare_group::<W, S, F, FIRST, MORE>(width, words, cmp, rhs, g),
+            compare_group::<W, S, F, WIDTH_BASE, WIDTH_STEP>(width, words, cmp, rhs, g),
             g,
             bytes,
         );
     }
 }
 
-/// Compares at a width that is a constant: `FIRST` bits and `MORE`.
+/// Compares at a width that is a constant: `WIDTH_BASE` bits and `WIDTH_STEP`.
 #[inline(never)]
 fn compare_at<
     W: FastLanes,
     S: Storage<W>,
     F: Fn(W, W) -> bool,
-    const FIRST: usize,
-    const MORE: usize,
+    const WIDTH_BASE: usize,
+    const WIDTH_STEP: usize,
 >(words: &[S::Unit], cmp: &F, rhs: W, bytes: &mut [u8; 128])
-    requires width { FIRST + MORE ≤ W.T }
-    requires block { S.count (length words.now) ≡ (FIRST + MORE) * W.LANES }
+    requires width { WIDTH_BASE + WIDTH_STEP ≤ W.T }
+    requires block { S.count (length words.now) ≡ (WIDTH_BASE + WIDTH_STEP) * W.LANES }
     requires callable { F.IsAlwaysCallable cmp.now }
-    ensures set { (r l : ℕ) → r < W.T → l < W.LANES → IsAnswer W.pattern (F.post cmp.now) rhs (item_of_row W.T W.LANES (FIRST + MORE) (S.word words.now) r l) (is_bit_set (word_at W.T bytes.new l) r) }
+    ensures set { (r l : ℕ) → r < W.T → l < W.LANES → IsAnswer W.pattern (F.post cmp.now) rhs (item_of_row W.T W.LANES (WIDTH_BASE + WIDTH_STEP) (S.word words.now) r l) (is_bit_set (word_at W.T bytes.new l) r) }
 {
-    compare_groups::<W, S, F, FIRST, MORE>(FIRST + MORE, words, cmp, rhs, bytes);
+    compare_groups::<W, S, F, WIDTH_BASE, WIDTH_STEP>(
+        WIDTH_BASE + WIDTH_STEP,
+        words,
+        cmp,
+        rhs,
+        bytes,
+    );
 }
 
-/// Compares at one of the eight widths from `FIRST` on.
-fn compare_eight<W: FastLanes, S: Storage<W>, F: Fn(W, W) -> bool, const FIRST: usize>(
+/// Compares at one of the eight widths from `WIDTH_BASE` on.
+fn compare_eight<W: FastLanes, S: Storage<W>, F: Fn(W, W) -> bool, const WIDTH_BASE: usize>(
     width: usize,
     words: &[S::Unit],
     cmp: &F,
     rhs: W,
     bytes: &mut [u8; 128],
 )
-    requires first { FIRST ≤ width }
-    requires below { width < FIRST + 8 }
+    requires first { WIDTH_BASE ≤ width }
+    requires below { width < WIDTH_BASE + 8 }
     requires width { width ≤ W.T }
     requires block { S.count (length words.now) ≡ width * W.LANES }
     requires callable { F.IsAlwaysCallable cmp.now }
     ensures set { (r l : ℕ) → r < W.T → l < W.LANES → IsAnswer W.pattern (F.post cmp.now) rhs (item_of_row W.T W.LANES width (S.word words.now) r l) (is_bit_set (word_at W.T bytes.new l) r) }
 {
     at_eight!(
-        width - FIRST,
+        width - WIDTH_BASE,
         compare_at,
-        [W, S, F, FIRST],
+        [W, S, F, WIDTH_BASE],
         (words, cmp, rhs, bytes)
     )
 }

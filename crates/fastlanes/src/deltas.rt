@@ -6,8 +6,8 @@ ghost use Rattle.fastlanes.specs.Layout.{place, pattern_at};
 ghost use Rattle.fastlanes.specs.Delta.{item_before, item_delta, summed_before, summed_item};
 ghost use Rattle.fastlanes.specs.Rows.{WritesRows};
 
-use crate::facts::prove_whole_block;
 use crate::layout::{FL_CHUNK_SIZE, pos};
+use crate::proof_support::prove_whole_block;
 use crate::widths::{bits, lanes};
 use crate::words::FastLanes;
 use std::simd::Simd;
@@ -31,7 +31,7 @@ fn delta_row<W: FastLanes>(
 {
     let at = pos(r, 16 * g);
     let row = W::load(items, at);
-    W::store(W::subtract(row, before), deltas, at);
+    W::store(W::sub(row, before), deltas, at);
     row
 }
 

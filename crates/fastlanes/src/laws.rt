@@ -1,6 +1,9 @@
 //! What holds of every word type and every block: each law is the contract of a small function.
 #![tactic(auto)]
 
+pub mod kernels;
+pub mod round_trips;
+
 ghost use Rattle.std.specs.Prelude.{◌≡◌, ◌≢◌, ℕ, ◌+◌, ◌-◌, ◌*◌, ◌/◌, ◌%◌, ◌^◌, ◌<◌, ◌≤◌, length};
 ghost use Rattle.fastlanes.specs.Layout.{place, row_of, lane_of, segment, segment_row, segment_lane, Packed, word_at, unpacked_item};
 

@@ -7,7 +7,7 @@ ghost use Rattle.fastlanes.specs.Rows.{WritesRows, IsGroup, packed_word, word_in
 
 use crate::layout::{FL_CHUNK_SIZE, pos};
 use crate::storage::{AsBytes, AsWords, Storage};
-use crate::widths::{at_eight, begin, bits, group_at, lanes};
+use crate::widths::{at_eight, bits, group_start, lanes, row_start};
 use crate::words::FastLanes;
 use std::simd::Simd;
 
@@ -28,14 +28,14 @@ fn pack_row<W: FastLanes, S: Storage<W>>(
     ensures begun { (j : ℕ) → j < 16 → W.lane result j ≡ begun_word W.T width (pattern_at W.pattern items.now) ((r + 1) * width) (16 * g + j) }
     ensures words { WritesRows width W.LANES (word_index W.LANES) (packed_word W.T width (pattern_at W.pattern items.now)) g (r * width / W.T) ((r + 1) * width / W.T) (S.word packed.old) (S.word packed.new) }
 {
-    let (k, shift) = begin::<W>(width, r);
+    let (k, shift) = row_start::<W>(width, r);
     let t = bits::<W>();
     let row = W::and(W::load(items, pos(r, 16 * g)), W::low_mask(width));
     let both = W::or(begun, W::shift_left(row, shift));
     if shift + width < t {
         return both;
     }
-    S::store(both, packed, group_at::<W>(width, k, g));
+    S::store(both, packed, group_start::<W>(width, k, g));
     if shift + width == t {
         W::splat(W::zero())
     } else {
@@ -88,7 +88,13 @@ fn pack_8<W: FastLanes, S: Storage<W>>(
 }
 
 /// Adds the items at the sixteen rows from `FROM` on to the words in progress.
-fn pack_16<W: FastLanes, S: Storage<W>, const FIRST: usize, const MORE: usize, const FROM: usize>(
+fn pack_16<
+    W: FastLanes,
+    S: Storage<W>,
+    const WIDTH_BASE: usize,
+    const WIDTH_STEP: usize,
+    const FROM: usize,
+>(
     width: usize,
     items: &[W; FL_CHUNK_SIZE],
     g: usize,
@@ -107,7 +113,7 @@ fn pack_16<W: FastLanes, S: Storage<W>, const FIRST: usize, const MORE: usize, c
 }
 
 /// Adds the items at the 32 rows to the words in progress.
-fn pack_32<W: FastLanes, S: Storage<W>, const FIRST: usize, const MORE: usize>(
+fn pack_32<W: FastLanes, S: Storage<W>, const WIDTH_BASE: usize, const WIDTH_STEP: usize>(
     width: usize,
     items: &[W; FL_CHUNK_SIZE],
     g: usize,
@@ -121,12 +127,12 @@ fn pack_32<W: FastLanes, S: Storage<W>, const FIRST: usize, const MORE: usize>(
     ensures begun { (j : ℕ) → j < 16 → W.lane result j ≡ begun_word W.T width (pattern_at W.pattern items.now) (32 * width) (16 * g + j) }
     ensures words { WritesRows width W.LANES (word_index W.LANES) (packed_word W.T width (pattern_at W.pattern items.now)) g (0 * width / W.T) (32 * width / W.T) (S.word packed.old) (S.word packed.new) }
 {
-    let begun = pack_16::<W, S, FIRST, MORE, 0>(width, items, g, begun, packed);
-    pack_16::<W, S, FIRST, MORE, 16>(width, items, g, begun, packed)
+    let begun = pack_16::<W, S, WIDTH_BASE, WIDTH_STEP, 0>(width, items, g, begun, packed);
+    pack_16::<W, S, WIDTH_BASE, WIDTH_STEP, 16>(width, items, g, begun, packed)
 }
 
 /// Adds the items at the 64 rows to the words in progress.
-fn pack_64<W: FastLanes, S: Storage<W>, const FIRST: usize, const MORE: usize>(
+fn pack_64<W: FastLanes, S: Storage<W>, const WIDTH_BASE: usize, const WIDTH_STEP: usize>(
     width: usize,
     items: &[W; FL_CHUNK_SIZE],
     g: usize,
@@ -140,10 +146,10 @@ fn pack_64<W: FastLanes, S: Storage<W>, const FIRST: usize, const MORE: usize>(
     ensures begun { (j : ℕ) → j < 16 → W.lane result j ≡ begun_word W.T width (pattern_at W.pattern items.now) (64 * width) (16 * g + j) }
     ensures words { WritesRows width W.LANES (word_index W.LANES) (packed_word W.T width (pattern_at W.pattern items.now)) g (0 * width / W.T) (64 * width / W.T) (S.word packed.old) (S.word packed.new) }
 {
-    let begun = pack_16::<W, S, FIRST, MORE, 0>(width, items, g, begun, packed);
-    let begun = pack_16::<W, S, FIRST, MORE, 16>(width, items, g, begun, packed);
-    let begun = pack_16::<W, S, FIRST, MORE, 32>(width, items, g, begun, packed);
-    pack_16::<W, S, FIRST, MORE, 48>(width, items, g, begun, packed)
+    let begun = pack_16::<W, S, WIDTH_BASE, WIDTH_STEP, 0>(width, items, g, begun, packed);
+    let begun = pack_16::<W, S, WIDTH_BASE, WIDTH_STEP, 16>(width, items, g, begun, packed);
+    let begun = pack_16::<W, S, WIDTH_BASE, WIDTH_STEP, 32>(width, items, g, begun, packed);
+    pack_16::<W, S, WIDTH_BASE, WIDTH_STEP, 48>(width, items, g, begun, packed)
 }
 
 /// The words in progress before row 0: they have no bits yet.
@@ -157,7 +163,7 @@ fn nothing_begun<W: FastLanes>(width: usize, items: &[W; FL_CHUNK_SIZE], g: usiz
 /// Packs the items of the lanes of group `g`.
 #[inline(always)]
 #[tactic(auto, using(crate::proofs::RowWrites::has_64_rows))]
-fn pack_group<W: FastLanes, S: Storage<W>, const FIRST: usize, const MORE: usize>(
+fn pack_group<W: FastLanes, S: Storage<W>, const WIDTH_BASE: usize, const WIDTH_STEP: usize>(
     width: usize,
     items: &[W; FL_CHUNK_SIZE],
     g: usize,
@@ -172,11 +178,11 @@ fn pack_group<W: FastLanes, S: Storage<W>, const FIRST: usize, const MORE: usize
     if t == 8 {
         pack_8::<W, S>(width, items, 0, g, begun, packed);
     } else if t == 16 {
-        pack_16::<W, S, FIRST, MORE, 0>(width, items, g, begun, packed);
+        pack_16::<W, S, WIDTH_BASE, WIDTH_STEP, 0>(width, items, g, begun, packed);
     } else if t == 32 {
-        pack_32::<W, S, FIRST, MORE>(width, items, g, begun, packed);
+        pack_32::<W, S, WIDTH_BASE, WIDTH_STEP>(width, items, g, begun, packed);
     } else {
-        pack_64::<W, S, FIRST, MORE>(width, items, g, begun, packed);
+        pack_64::<W, S, WIDTH_BASE, WIDTH_STEP>(width, items, g, begun, packed);
     }
 }
 
@@ -193,8 +199,8 @@ fn copy_items<W: FastLanes, S: Storage<W>>(items: &[W; FL_CHUNK_SIZE], packed: &
 
 /// Packs the low `width` bits of the items of a block.
 ///
-/// `FIRST` and `MORE` give each width a function of its own, in which the compiler knows it.
-fn pack_groups<W: FastLanes, S: Storage<W>, const FIRST: usize, const MORE: usize>(
+/// `WIDTH_BASE` and `WIDTH_STEP` give each width a function of its own, in which the compiler knows it.
+fn pack_groups<W: FastLanes, S: Storage<W>, const WIDTH_BASE: usize, const WIDTH_STEP: usize>(
     width: usize,
     items: &[W; FL_CHUNK_SIZE],
     packed: &mut [S::Unit],
@@ -211,36 +217,41 @@ fn pack_groups<W: FastLanes, S: Storage<W>, const FIRST: usize, const MORE: usiz
         return;
     }
     for g in 0..lanes::<W>() / 16 {
-        pack_group::<W, S, FIRST, MORE>(width, items, g, packed);
+        pack_group::<W, S, WIDTH_BASE, WIDTH_STEP>(width, items, g, packed);
     }
 }
 
-/// Packs at a width that is a constant: `FIRST` bits and `MORE`.
+/// Packs at a width that is a constant: `WIDTH_BASE` bits and `WIDTH_STEP`.
 #[inline(never)]
-fn pack_at<W: FastLanes, S: Storage<W>, const FIRST: usize, const MORE: usize>(
+fn pack_at<W: FastLanes, S: Storage<W>, const WIDTH_BASE: usize, const WIDTH_STEP: usize>(
     items: &[W; FL_CHUNK_SIZE],
     packed: &mut [S::Unit],
 )
-    requires width { FIRST + MORE ≤ W.T }
-    requires room { S.count (length packed.old) ≡ (FIRST + MORE) * W.LANES }
-    ensures { Packed W.T W.LANES (FIRST + MORE) (pattern_at W.pattern items.now) (S.word packed.new) }
+    requires width { WIDTH_BASE + WIDTH_STEP ≤ W.T }
+    requires room { S.count (length packed.old) ≡ (WIDTH_BASE + WIDTH_STEP) * W.LANES }
+    ensures { Packed W.T W.LANES (WIDTH_BASE + WIDTH_STEP) (pattern_at W.pattern items.now) (S.word packed.new) }
 {
-    pack_groups::<W, S, FIRST, MORE>(FIRST + MORE, items, packed);
+    pack_groups::<W, S, WIDTH_BASE, WIDTH_STEP>(WIDTH_BASE + WIDTH_STEP, items, packed);
 }
 
-/// Packs at one of the eight widths from `FIRST` on.
-fn pack_eight<W: FastLanes, S: Storage<W>, const FIRST: usize>(
+/// Packs at one of the eight widths from `WIDTH_BASE` on.
+fn pack_eight<W: FastLanes, S: Storage<W>, const WIDTH_BASE: usize>(
     width: usize,
     items: &[W; FL_CHUNK_SIZE],
     packed: &mut [S::Unit],
 )
-    requires first { FIRST ≤ width }
-    requires below { width < FIRST + 8 }
+    requires first { WIDTH_BASE ≤ width }
+    requires below { width < WIDTH_BASE + 8 }
     requires width { width ≤ W.T }
     requires room { S.count (length packed.old) ≡ width * W.LANES }
     ensures { Packed W.T W.LANES width (pattern_at W.pattern items.now) (S.word packed.new) }
 {
-    at_eight!(width - FIRST, pack_at, [W, S, FIRST], (items, packed))
+    at_eight!(
+        width - WIDTH_BASE,
+        pack_at,
+        [W, S, WIDTH_BASE],
+        (items, packed)
+    )
 }
 
 /// Packs at a width below 32 bits.

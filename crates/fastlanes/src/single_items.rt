@@ -6,9 +6,9 @@ ghost use Rattle.fastlanes.specs.Layout.{place, row_of, lane_of, Packed, word_at
 ghost use Rattle.fastlanes.specs.SingleItems.{words_at, words_of_items};
 
 use crate::counts::Work;
-use crate::facts::prove_count_fits;
 use crate::layout::row;
-use crate::widths::{begin, bits, lanes};
+use crate::proof_support::prove_count_fits;
+use crate::widths::{bits, lanes, row_start};
 use crate::words::FastLanes;
 
 /// The row and the lane of position `index`.
@@ -63,7 +63,7 @@ pub fn unpack_single<W: FastLanes>(width: usize, bytes: &[u8], index: usize, wor
         return W::zero();
     }
     let (r, l) = row_and_lane::<W>(index);
-    let (k, shift) = begin::<W>(width, r);
+    let (k, shift) = row_start::<W>(width, r);
     let low: W = word_of_bytes(width, bytes, k, l, work);
     if shift + width <= bits::<W>() {
         low.bits_from(shift, width)
@@ -107,7 +107,7 @@ fn item_of_words<W: FastLanes>(width: usize, words: &[W], index: usize, work: &m
         return W::zero();
     }
     let (r, l) = row_and_lane::<W>(index);
-    let (k, shift) = begin::<W>(width, r);
+    let (k, shift) = row_start::<W>(width, r);
     let low = word_of_words(width, words, k, l, work);
     if shift + width <= bits::<W>() {
         low.bits_from(shift, width)

@@ -6,10 +6,10 @@ ghost use Rattle.fastlanes.specs.Layout.{place, pattern_at, unpacked_item, word_
 ghost use Rattle.fastlanes.specs.Rows.{WritesRows, IsGroup, IsReference, item_of_row, item_with_reference};
 
 use crate::counts::Work;
-use crate::facts::prove_whole_block;
 use crate::layout::{FL_CHUNK_SIZE, pos};
+use crate::proof_support::prove_whole_block;
 use crate::storage::{AsBytes, AsWords, Storage};
-use crate::widths::{at_eight, begin, bits, group_at, lanes};
+use crate::widths::{at_eight, bits, group_start, lanes, row_start};
 use crate::words::FastLanes;
 use std::simd::Simd;
 
@@ -28,13 +28,13 @@ pub(crate) fn items_of_row<W: FastLanes, S: Storage<W>>(
     if width == 0 {
         return W::splat(W::zero());
     }
-    let (k, shift) = begin::<W>(width, r);
-    let begun = W::shift_right(S::load(words, group_at::<W>(width, k, g)), shift);
+    let (k, shift) = row_start::<W>(width, r);
+    let begun = W::shift_right(S::load(words, group_start::<W>(width, k, g)), shift);
     let t = bits::<W>();
     if shift + width <= t {
         W::and(begun, W::low_mask(width))
     } else {
-        let rest = W::shift_left(S::load(words, group_at::<W>(width, k + 1, g)), t - shift);
+        let rest = W::shift_left(S::load(words, group_start::<W>(width, k + 1, g)), t - shift);
         W::and(W::or(begun, rest), W::low_mask(width))
     }
 }
@@ -108,8 +108,8 @@ fn unpack_16<
     W: FastLanes,
     S: Storage<W>,
     const ADDS_REFERENCE: bool,
-    const FIRST: usize,
-    const MORE: usize,
+    const WIDTH_BASE: usize,
+    const WIDTH_STEP: usize,
     const FROM: usize,
 >(width: usize, words: &[S::Unit], reference: Simd<W, 16>, g: usize, items: &mut [W; FL_CHUNK_SIZE])
     requires reference { IsReference ADDS_REFERENCE (W.lane reference) }
@@ -126,16 +126,18 @@ fn unpack_32<
     W: FastLanes,
     S: Storage<W>,
     const ADDS_REFERENCE: bool,
-    const FIRST: usize,
-    const MORE: usize,
+    const WIDTH_BASE: usize,
+    const WIDTH_STEP: usize,
 >(width: usize, words: &[S::Unit], reference: Simd<W, 16>, g: usize, items: &mut [W; FL_CHUNK_SIZE])
     requires reference { IsReference ADDS_REFERENCE (W.lane reference) }
     requires row { 32 ≤ W.T }
     requires group { IsGroup W.T W.LANES width (S.count (length words.now)) g }
     ensures written { WritesRows W.T W.LANES place (item_with_reference W.T W.LANES width (S.word words.now) (W.lane reference)) g 0 32 (pattern_at W.pattern items.old) (pattern_at W.pattern items.new) }
 {
-    unpack_16::<W, S, ADDS_REFERENCE, FIRST, MORE, 0>(width, words, reference, g, items);
-    unpack_16::<W, S, ADDS_REFERENCE, FIRST, MORE, 16>(width, words, reference, g, items);
+    unpack_16::<W, S, ADDS_REFERENCE, WIDTH_BASE, WIDTH_STEP, 0>(width, words, reference, g, items);
+    unpack_16::<W, S, ADDS_REFERENCE, WIDTH_BASE, WIDTH_STEP, 16>(
+        width, words, reference, g, items,
+    );
 }
 
 /// Writes the items at the 64 rows of the lanes of group `g`, plus the reference.
@@ -143,18 +145,24 @@ fn unpack_64<
     W: FastLanes,
     S: Storage<W>,
     const ADDS_REFERENCE: bool,
-    const FIRST: usize,
-    const MORE: usize,
+    const WIDTH_BASE: usize,
+    const WIDTH_STEP: usize,
 >(width: usize, words: &[S::Unit], reference: Simd<W, 16>, g: usize, items: &mut [W; FL_CHUNK_SIZE])
     requires reference { IsReference ADDS_REFERENCE (W.lane reference) }
     requires row { 64 ≤ W.T }
     requires group { IsGroup W.T W.LANES width (S.count (length words.now)) g }
     ensures written { WritesRows W.T W.LANES place (item_with_reference W.T W.LANES width (S.word words.now) (W.lane reference)) g 0 64 (pattern_at W.pattern items.old) (pattern_at W.pattern items.new) }
 {
-    unpack_16::<W, S, ADDS_REFERENCE, FIRST, MORE, 0>(width, words, reference, g, items);
-    unpack_16::<W, S, ADDS_REFERENCE, FIRST, MORE, 16>(width, words, reference, g, items);
-    unpack_16::<W, S, ADDS_REFERENCE, FIRST, MORE, 32>(width, words, reference, g, items);
-    unpack_16::<W, S, ADDS_REFERENCE, FIRST, MORE, 48>(width, words, reference, g, items);
+    unpack_16::<W, S, ADDS_REFERENCE, WIDTH_BASE, WIDTH_STEP, 0>(width, words, reference, g, items);
+    unpack_16::<W, S, ADDS_REFERENCE, WIDTH_BASE, WIDTH_STEP, 16>(
+        width, words, reference, g, items,
+    );
+    unpack_16::<W, S, ADDS_REFERENCE, WIDTH_BASE, WIDTH_STEP, 32>(
+        width, words, reference, g, items,
+    );
+    unpack_16::<W, S, ADDS_REFERENCE, WIDTH_BASE, WIDTH_STEP, 48>(
+        width, words, reference, g, items,
+    );
 }
 
 /// Writes the items at all rows of the lanes of group `g`, plus the reference.
@@ -164,8 +172,8 @@ fn unpack_group<
     W: FastLanes,
     S: Storage<W>,
     const ADDS_REFERENCE: bool,
-    const FIRST: usize,
-    const MORE: usize,
+    const WIDTH_BASE: usize,
+    const WIDTH_STEP: usize,
 >(width: usize, words: &[S::Unit], reference: Simd<W, 16>, g: usize, items: &mut [W; FL_CHUNK_SIZE])
     requires reference { IsReference ADDS_REFERENCE (W.lane reference) }
     requires group { IsGroup W.T W.LANES width (S.count (length words.now)) g }
@@ -175,11 +183,17 @@ fn unpack_group<
     if t == 8 {
         unpack_8::<W, S, ADDS_REFERENCE>(width, words, reference, 0, g, items);
     } else if t == 16 {
-        unpack_16::<W, S, ADDS_REFERENCE, FIRST, MORE, 0>(width, words, reference, g, items);
+        unpack_16::<W, S, ADDS_REFERENCE, WIDTH_BASE, WIDTH_STEP, 0>(
+            width, words, reference, g, items,
+        );
     } else if t == 32 {
-        unpack_32::<W, S, ADDS_REFERENCE, FIRST, MORE>(width, words, reference, g, items);
+        unpack_32::<W, S, ADDS_REFERENCE, WIDTH_BASE, WIDTH_STEP>(
+            width, words, reference, g, items,
+        );
     } else {
-        unpack_64::<W, S, ADDS_REFERENCE, FIRST, MORE>(width, words, reference, g, items);
+        unpack_64::<W, S, ADDS_REFERENCE, WIDTH_BASE, WIDTH_STEP>(
+            width, words, reference, g, items,
+        );
     }
 }
 
@@ -220,13 +234,13 @@ fn copy_words<W: FastLanes, S: Storage<W>>(words: &[S::Unit], items: &mut [W; FL
 
 /// Writes the items of a block, plus the reference.
 ///
-/// `FIRST` and `MORE` give each width a function of its own, in which the compiler knows it.
+/// `WIDTH_BASE` and `WIDTH_STEP` give each width a function of its own, in which the compiler knows it.
 fn unpack_groups<
     W: FastLanes,
     S: Storage<W>,
     const ADDS_REFERENCE: bool,
-    const FIRST: usize,
-    const MORE: usize,
+    const WIDTH_BASE: usize,
+    const WIDTH_STEP: usize,
 >(width: usize, words: &[S::Unit], reference: W, items: &mut [W; FL_CHUNK_SIZE])
     requires width { width ≤ W.T }
     requires block { S.count (length words.now) ≡ width * W.LANES }
@@ -245,45 +259,52 @@ fn unpack_groups<
     }
     let reference = splat_reference::<W, ADDS_REFERENCE>(reference);
     for g in 0..lanes::<W>() / 16 {
-        unpack_group::<W, S, ADDS_REFERENCE, FIRST, MORE>(width, words, reference, g, items);
+        unpack_group::<W, S, ADDS_REFERENCE, WIDTH_BASE, WIDTH_STEP>(
+            width, words, reference, g, items,
+        );
     }
 }
 
-/// Unpacks at a width that is a constant: `FIRST` bits and `MORE`.
+/// Unpacks at a width that is a constant: `WIDTH_BASE` bits and `WIDTH_STEP`.
 #[inline(never)]
 fn unpack_at<
     W: FastLanes,
     S: Storage<W>,
     const ADDS_REFERENCE: bool,
-    const FIRST: usize,
-    const MORE: usize,
+    const WIDTH_BASE: usize,
+    const WIDTH_STEP: usize,
 >(words: &[S::Unit], reference: W, items: &mut [W; FL_CHUNK_SIZE])
-    requires width { FIRST + MORE ≤ W.T }
-    requires block { S.count (length words.now) ≡ (FIRST + MORE) * W.LANES }
+    requires width { WIDTH_BASE + WIDTH_STEP ≤ W.T }
+    requires block { S.count (length words.now) ≡ (WIDTH_BASE + WIDTH_STEP) * W.LANES }
     requires reference { ADDS_REFERENCE ≡ false → W.pattern reference ≡ 0 }
-    ensures items { (i : ℕ) → i < 1024 → pattern_at W.pattern items.new i ≡ (unpacked_item W.T W.LANES (FIRST + MORE) (S.word words.now) i + W.pattern reference) % 2 ^ W.T }
+    ensures items { (i : ℕ) → i < 1024 → pattern_at W.pattern items.new i ≡ (unpacked_item W.T W.LANES (WIDTH_BASE + WIDTH_STEP) (S.word words.now) i + W.pattern reference) % 2 ^ W.T }
 {
-    unpack_groups::<W, S, ADDS_REFERENCE, FIRST, MORE>(FIRST + MORE, words, reference, items);
+    unpack_groups::<W, S, ADDS_REFERENCE, WIDTH_BASE, WIDTH_STEP>(
+        WIDTH_BASE + WIDTH_STEP,
+        words,
+        reference,
+        items,
+    );
 }
 
-/// Unpacks at one of the eight widths from `FIRST` on.
-fn unpack_eight<W: FastLanes, S: Storage<W>, const ADDS_REFERENCE: bool, const FIRST: usize>(
+/// Unpacks at one of the eight widths from `WIDTH_BASE` on.
+fn unpack_eight<W: FastLanes, S: Storage<W>, const ADDS_REFERENCE: bool, const WIDTH_BASE: usize>(
     width: usize,
     words: &[S::Unit],
     reference: W,
     items: &mut [W; FL_CHUNK_SIZE],
 )
-    requires first { FIRST ≤ width }
-    requires below { width < FIRST + 8 }
+    requires first { WIDTH_BASE ≤ width }
+    requires below { width < WIDTH_BASE + 8 }
     requires width { width ≤ W.T }
     requires block { S.count (length words.now) ≡ width * W.LANES }
     requires reference { ADDS_REFERENCE ≡ false → W.pattern reference ≡ 0 }
     ensures items { (i : ℕ) → i < 1024 → pattern_at W.pattern items.new i ≡ (unpacked_item W.T W.LANES width (S.word words.now) i + W.pattern reference) % 2 ^ W.T }
 {
     at_eight!(
-        width - FIRST,
+        width - WIDTH_BASE,
         unpack_at,
-        [W, S, ADDS_REFERENCE, FIRST],
+        [W, S, ADDS_REFERENCE, WIDTH_BASE],
         (words, reference, items)
     )
 }

@@ -24,7 +24,7 @@ pub(crate) fn lanes<W: FastLanes>() -> usize
 /// The word of a lane's stream in which row `r` begins, and the bit of this word.
 #[inline(always)]
 #[tactic(auto, using(crate::proofs::Streams::row_times_width, crate::proofs::Steps::begins))]
-pub(crate) fn begin<W: FastLanes>(width: usize, r: usize) -> (usize, usize)
+pub(crate) fn row_start<W: FastLanes>(width: usize, r: usize) -> (usize, usize)
     requires some { 0 < width }
     requires width { width ≤ W.T }
     requires row { r < W.T }
@@ -121,7 +121,7 @@ pub(crate) fn low_bits(width: usize) -> u64
 /// The index of word `k` of the first lane of group `g`, which those of its other lanes follow.
 #[inline(always)]
 #[tactic(auto, using(crate::proofs::Steps::group_fits))]
-pub(crate) fn group_at<W: FastLanes>(width: usize, k: usize, g: usize) -> usize
+pub(crate) fn group_start<W: FastLanes>(width: usize, k: usize, g: usize) -> usize
     requires width { width ≤ W.T }
     requires word { k < width }
     requires group { 16 * g + 16 ≤ W.LANES }

@@ -126,7 +126,7 @@ pub trait FastLanes: Copy {
         ensures lanes { (j : ℕ) → j < 16 → lane result j ≡ (lane vector j + lane other j) % 2 ^ T };
 
     /// The difference of the two words of each lane, modulo 2 to the number of bits.
-    fn subtract(vector: Simd<Self, 16>, other: Simd<Self, 16>) -> Simd<Self, 16>
+    fn sub(vector: Simd<Self, 16>, other: Simd<Self, 16>) -> Simd<Self, 16>
         ensures lanes { (j : ℕ) → j < 16 → lane result j ≡ (lane vector j + (2 ^ T - lane other j)) % 2 ^ T };
 
     /// A word takes at most eight bytes, so that arrays of words fit in memory. The call does nothing when it runs.
@@ -274,7 +274,7 @@ impl FastLanes for u8 {
     }
 
     #[inline(always)]
-    fn subtract(vector: u8x16, other: u8x16) -> u8x16
+    fn sub(vector: u8x16, other: u8x16) -> u8x16
         ensures lanes { (j : ℕ) → j < 16 → slice_index result j ≡ (slice_index vector j + (2 ^ 8 - slice_index other j)) % 2 ^ 8 }
     {
         vector - other
@@ -423,7 +423,7 @@ impl FastLanes for u16 {
     }
 
     #[inline(always)]
-    fn subtract(vector: u16x16, other: u16x16) -> u16x16
+    fn sub(vector: u16x16, other: u16x16) -> u16x16
         ensures lanes { (j : ℕ) → j < 16 → slice_index result j ≡ (slice_index vector j + (2 ^ 16 - slice_index other j)) % 2 ^ 16 }
     {
         vector - other
@@ -573,7 +573,7 @@ impl FastLanes for u32 {
     }
 
     #[inline(always)]
-    fn subtract(vector: u32x16, other: u32x16) -> u32x16
+    fn sub(vector: u32x16, other: u32x16) -> u32x16
         ensures lanes { (j : ℕ) → j < 16 → slice_index result j ≡ (slice_index vector j + (2 ^ 32 - slice_index other j)) % 2 ^ 32 }
     {
         vector - other
@@ -730,7 +730,7 @@ impl FastLanes for u64 {
     }
 
     #[inline(always)]
-    fn subtract(vector: u64x16, other: u64x16) -> u64x16
+    fn sub(vector: u64x16, other: u64x16) -> u64x16
         ensures lanes { (j : ℕ) → j < 16 → slice_index result j ≡ (slice_index vector j + (2 ^ 64 - slice_index other j)) % 2 ^ 64 }
     {
         vector - other

@@ -8,8 +8,8 @@ ghost use Rattle.fl_bitpacking.specs.Parts.{Fit, parts_of};
 
 use bytes::Bytes;
 use fastlanes::{FL_CHUNK_SIZE, Work};
-use fl_bitpacking::decoding::{PackedColumn, unpack_global};
-use fl_bitpacking::packing::{bitpack_into, bitpack_unchecked};
+use fl_bitpacking::bitpack_compress::{bitpack_into, bitpack_unchecked};
+use fl_bitpacking::bitpack_decompress::{PackedColumn, unpack_global};
 use fl_bitpacking::unpack_iter::{BitPacked, BitPackingStrategy, UnpackedChunks};
 use fl_column::{PrimitiveArray, chunk_count};
 use fl_types::{FastLanesError, NativePType, Validity};

@@ -11,7 +11,7 @@ use fl_array::bitpacking::bitpack_decompress::unpack_single;
 use fl_array::{ArrayRef, IntoArray};
 use fl_column::PrimitiveArray;
 use fl_ops::ArrayOps;
-use fl_plugin::{SerializedArray, deserialize, serialize};
+use fl_serde::{SerializedArray, deserialize, serialize};
 use fl_types::{
     BetweenOptions, BitList, CompareOperator, DType, FastLanesError, Mask, NativePType,
     Nullability, PType, PValue, Scalar, StrictComparison, match_each_integer_ptype,

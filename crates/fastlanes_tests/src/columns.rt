@@ -6,7 +6,7 @@ ghost use Rattle.fl_column.specs.Integers.{bits_of_type};
 
 use crate::kernels::hold;
 use fastlanes::{FL_CHUNK_SIZE, pack_bytes};
-use fl_bitpacking::word_packing::bitpack_primitive;
+use fl_bitpacking::bitpack_compress::word_packing::bitpack_primitive;
 use fl_column::PhysicalPType;
 use std::process::Abort;
 

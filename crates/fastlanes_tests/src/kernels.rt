@@ -2,7 +2,7 @@
 
 ghost use Rattle.std.specs.Prelude.{◌≡◌, ◌*◌, ◌≤◌, length};
 
-use fastlanes::round_trips::{delta_and_back, runs_and_back, undelta_and_back};
+use fastlanes::laws::round_trips::{delta_and_back, runs_and_back, undelta_and_back};
 use fastlanes::*;
 
 /// The number that a word stands for.

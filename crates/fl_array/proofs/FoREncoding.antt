@@ -9,7 +9,7 @@ use Rattle.fl_column.specs.Columns.{PrimitiveParts, column_of_primitive, integer
 use Rattle.fl_column.proofs.ItemLaws.{length-items_of}
 use Rattle.fl_codec.specs.Chunks.{chunks_of}
 use Rattle.fl_codec.specs.FoRColumns.{chunk_references, chunked_for, chunked_slots, common_reference, least_valid, minus_reference}
-use Rattle.fl_codec.specs.Parts.{ByChunk, FoRParts, Nulls, OneReference, encode_chunked, encode_global, items_of_primitive, less_chunk_leasts, less_common, less_least, less_reference, less_references, non_nullable, null_constant, reference_scalar}
+use Rattle.fl_codec.specs.Parts.{ByChunk, FoRParts, Nulls, OneReference, encode_chunked, encode_global, items_of_primitive, less_chunk_leasts, less_common, subtract_min, subtract_reference, less_references, non_nullable, null_constant, reference_scalar}
 use Rattle.fl_codec.specs.FoRValues.{column_of_for}
 use Rattle.fl_codec.proofs.ColumnParts.{integers_of_non_nullable}
 use Rattle.fl_codec.proofs.FirstRefusals.{is_same_ptype}
@@ -21,13 +21,13 @@ use Rattle.fl_array.specs.FoRArrays.{refusal_of_for, reference_refusal}
 
 -- ---- one reference
 -- a reference of the items' type
-one_accepted : (p : PrimitiveParts) (z : ℤ) → reference_refusal (column_of_primitive (less_reference p z).child).dtype (less_reference p z).reference ≡ None
+one_accepted : (p : PrimitiveParts) (z : ℤ) → reference_refusal (column_of_primitive (subtract_reference p z).child).dtype (subtract_reference p z).reference ≡ None
 one_accepted p z = rw (is_same_ptype p.ptype p.ptype refl) refl
 
-least_accepted : (p : PrimitiveParts) (least : Option ℤ) (parts : OneReference) → less_least p least ≡ Ok parts → reference_refusal (column_of_primitive parts.child).dtype parts.reference ≡ None
+least_accepted : (p : PrimitiveParts) (least : Option ℤ) (parts : OneReference) → subtract_min p least ≡ Ok parts → reference_refusal (column_of_primitive parts.child).dtype parts.reference ≡ None
 least_accepted p None parts e = cc
 least_accepted p (Some z) parts e =
-    let same : less_reference p z ≡ parts = cc in
+    let same : subtract_reference p z ≡ parts = cc in
     subst (λ (q : OneReference). reference_refusal (column_of_primitive q.child).dtype q.reference ≡ None) same (one_accepted p z)
 
 pub global_accepted : (p : PrimitiveParts) (parts : OneReference) → encode_global p ≡ Ok parts → reference_refusal (column_of_primitive parts.child).dtype parts.reference ≡ None

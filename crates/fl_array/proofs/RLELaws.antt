@@ -34,7 +34,7 @@ use Rattle.fl_codec.proofs.FirstRefusals.{neither}
 use Rattle.fl_codec.proofs.Tables.{get_or-table, length-table}
 use Rattle.fl_array.specs.RLEArrays.{RLEArrayParts, refusal_of_rle, tree_of_rle}
 use Rattle.fl_array.specs.Reads.{IsValidityOf}
-use Rattle.fl_array.specs.Trees.{Tree, Window, column, column_of_rle}
+use Rattle.fl_array.specs.Trees.{Tree, OffsetLen, column, column_of_rle}
 use Rattle.fl_array.proofs.BlockedLaws.{number_read}
 
 -- an item of the column
@@ -173,7 +173,7 @@ pub kept_refusal : (a : RLEArrayParts) (values indices offsets : Tree) (o start 
 kept_refusal a values indices offsets o start end h order range e f g k =
     rw k (same_refusal _ _ _ _ _ _ ((a.window.offset + start) % 1024) (end - start) e f g (run_slice_sound (column a.values) (column a.indices) (column a.offsets) a.window.offset a.window.len start end h order range))
 
-same_named : (v w i j o p : Column) (x : Window) → v ≡ w → i ≡ j → o ≡ p → column_of_rle v i o x ≡ column_of_rle w j p x
+same_named : (v w i j o p : Column) (x : OffsetLen) → v ≡ w → i ≡ j → o ≡ p → column_of_rle v i o x ≡ column_of_rle w j p x
 same_named v w i j o p x e f g = rw (e, f, g) refl
 
 pub kept_column : (a : RLEArrayParts) (values indices offsets : Tree) (o start end : ℕ) → refusal_of_rle a ≡ None → start ≤ end → end ≤ a.window.len
@@ -182,7 +182,7 @@ pub kept_column : (a : RLEArrayParts) (values indices offsets : Tree) (o start e
     → column offsets ≡ slice_of (first_chunk a.window.offset start) (end_chunk a.window.offset end) (column a.offsets)
     → o ≡ (a.window.offset + start) % 1024 → column_of_rle (column values) (column indices) (column offsets) (record { offset = o; len = end - start }) ≡ slice_of start end (column_of_rle (column a.values) (column a.indices) (column a.offsets) a.window)
 kept_column a values indices offsets o start end h order range e f g k =
-    let to_window : ℕ → Window = λ n. record { offset = n; len = end - start } in
+    let to_window : ℕ → OffsetLen = λ n. record { offset = n; len = end - start } in
     ap (λ (n : ℕ). column_of_rle (column values) (column indices) (column offsets) (to_window n)) k
     ∙ same_named _ _ _ _ _ _ (to_window ((a.window.offset + start) % 1024)) e f g
     ∙ ap (λ (xs : List (Option ℤ)). record { dtype = (column (tree_of_rle a)).dtype; items = xs }) (run_slice_items (column a.values) (column a.indices) (column a.offsets) a.window.offset a.window.len start end h order range)
@@ -260,9 +260,9 @@ offsets_unsigned a p h e =
 -- a null's type is nullable
 pub null_is_nullable : (s : Scalar) → is_none (scalar_parts s).value ≡ true → nullability_in (scalar_parts s).dtype ≡ Nullable
 null_is_nullable (scalars.Integer value nullability) h = cc
-null_is_nullable (scalars.Truth value nullability) h = cc
+null_is_nullable (scalars.Bool value nullability) h = cc
 null_is_nullable (scalars.NullInteger ptype) h = refl
-null_is_nullable scalars.NullTruth h = refl
+null_is_nullable scalars.NullBool h = refl
 
 pub none_is : {A : Type 0} (x : Option A) → is_none x ≡ true → x ≡ None
 none_is None h = refl

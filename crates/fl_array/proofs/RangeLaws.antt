@@ -12,7 +12,7 @@ use Rattle.fl_types.specs.declared.dtype.Nullability.{Nullability}
 use Rattle.fl_types.specs.declared.dtype.PType.{PType}
 use Rattle.fl_types.specs.declared.dtype.PType.TheVariants.{U8, U16, U32, U64, I8, I16, I32, I64}
 use Rattle.fl_types.specs.declared.validity.Validity.{Validity}
-use Rattle.fl_types.specs.Bits.{table}
+use Rattle.fl_types.specs.Bits.{tabulate}
 use Rattle.fl_types.specs.Integers.{fits, wrap}
 use Rattle.fl_types.specs.Types.{integer_type, is_integer, is_nullable, nullability_in}
 use Rattle.fl_types.specs.Validities.{is_valid_at, nullability_of}
@@ -68,10 +68,10 @@ got_fits p [] i h = zero_fits p
 got_fits p (z ∷ zs) zero h = and_first (fits p z) (list_all (fits p) zs) h
 got_fits p (z ∷ zs) (suc i) h = got_fits p zs i (and_second (fits p z) (list_all (fits p) zs) h)
 
-table_fits : (d : DType) (item : ℕ → Option ℤ) (n : ℕ) → ((i : ℕ) → option_all (fits_in d) (item i) ≡ true) → list_all (option_all (fits_in d)) (table item n) ≡ true
+table_fits : (d : DType) (item : ℕ → Option ℤ) (n : ℕ) → ((i : ℕ) → option_all (fits_in d) (item i) ≡ true) → list_all (option_all (fits_in d)) (tabulate item n) ≡ true
 table_fits d item n each =
-    let long : length (table item n) ≡ n = length-table item n in
-    all_from (option_all (fits_in d)) (table item n) None (λ i h. ap (option_all (fits_in d)) (get_or-table item n i None (omega (arith, long, h))) ∙ each i)
+    let long : length (tabulate item n) ≡ n = length-table item n in
+    all_from (option_all (fits_in d)) (tabulate item n) None (λ i h. ap (option_all (fits_in d)) (get_or-table item n i None (omega (arith, long, h))) ∙ each i)
 
 -- ---- plain arrays
 pub constant_fits : (d : DType) (value : Option ℤ) (n : ℕ) → option_all (fits_in d) value ≡ true → list_all (option_all (fits_in d)) (replicate n value) ≡ true
@@ -141,7 +141,7 @@ run_fits p values start None h = refl
 run_fits p values start (Some z) h = got_fits p values (start + unsigned_abs z) h
 
 pub runs_fit : (p : PType) (n : Nullability) (values : List ℤ) (indices : List (Option ℤ)) (offsets : List ℕ) (offset len : ℕ) → list_all (fits p) values ≡ true
-    → list_all (option_all (fits_in (dtypes.Primitive p n))) (table (λ i. run_item values indices offsets (offset + i)) len) ≡ true
+    → list_all (option_all (fits_in (dtypes.Primitive p n))) (tabulate (λ i. run_item values indices offsets (offset + i)) len) ≡ true
 runs_fit p n values indices offsets offset len h = table_fits (dtypes.Primitive p n) (λ i. run_item values indices offsets (offset + i)) len (λ i. run_fits p values (chunk_start offsets ((offset + i) / 1024)) (get_or indices (offset + i) None) h)
 
 -- ---- columns plus references

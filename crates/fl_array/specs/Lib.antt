@@ -5,7 +5,7 @@ pub mod FoRArrays
 pub mod DeltaArrays
 pub mod RLEArrays
 pub mod ArrayCodes
-pub mod Shown
+pub mod StoredParts
 pub mod Kinds
 pub mod Slices
 pub mod ToBlocked

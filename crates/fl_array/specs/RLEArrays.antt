@@ -5,7 +5,7 @@ use Rattle.fl_column.specs.Columns.{PrimitiveParts}
 use Rattle.fl_bitpacking.specs.Refusals.{accepted}
 use Rattle.fl_codec.specs.Parts.{encode_runs}
 use Rattle.fl_codec.specs.RunRefusals.{rle_refusal}
-use Rattle.fl_array.specs.Trees.{Tree, Window, Primitive, RLE, column}
+use Rattle.fl_array.specs.Trees.{Tree, OffsetLen, Primitive, RLE, column}
 use Rattle.fl_array.specs.Trees as tree
 
 -- a run-length encoded array
@@ -13,7 +13,7 @@ pub record RLEArrayParts : Type 0 where
   pub values : Tree
   pub indices : Tree
   pub offsets : Tree
-  pub window : Window
+  pub window : OffsetLen
 
 -- the array as a tree
 abbrev pub tree_of_rle : RLEArrayParts → Tree
@@ -29,7 +29,7 @@ abbrev pub refusal_of_rle : RLEArrayParts → Option FastLanesError
 refusal_of_rle a = rle_refusal (column a.values) (column a.indices) (column a.offsets) a.window.offset a.window.len
 
 -- the array of these run values, run indices and run offsets, or why there is none
-abbrev pub new_rle : Tree → Tree → Tree → Window → Result RLEArrayParts FastLanesError
+abbrev pub new_rle : Tree → Tree → Tree → OffsetLen → Result RLEArrayParts FastLanesError
 new_rle values indices offsets window =
     let a : RLEArrayParts = record { values = values; indices = indices; offsets = offsets; window = window } in
     accepted a (refusal_of_rle a)

@@ -19,6 +19,7 @@ ghost use Rattle.fl_array.specs.FoRArrays.{for_in, tree_of_for};
 ghost use Rattle.fl_array.specs.RLEArrays.{rle_in, tree_of_rle};
 ghost use Rattle.fl_array.specs.Kinds.{has_delta, kind, plain_kind};
 ghost use Rattle.fl_array.specs.Reads.{IsValidityOf, bools_in, constant_in, integer_column, primitive_in};
+ghost use Rattle.fl_array.specs.StoredParts.{tree_of};
 ghost use Rattle.fl_array.specs.Slices.{slice_tree};
 ghost use Rattle.fl_array.specs.ToBlocked.{has_global_bitpacked, to_blocked_tree};
 ghost use Rattle.fl_array.specs.WellFormed.{is_well_formed};
@@ -52,15 +53,23 @@ impl Drop for ArrayRef {
     }
 }
 
+/// An array by its kind.
 #[cycle(array)]
 #[derive(Drop)]
-enum Node {
+pub enum Node {
+    /// Integers, one by one.
     Primitive(PrimitiveArray),
+    /// One integer or null, repeated.
     Constant(ConstantArray),
+    /// Booleans, one by one.
     Bool(BoolArray),
+    /// Integers in packed blocks, at one width or each at its own, with patches.
     BitPacked(BitPackedArray),
+    /// An array of differences from one reference, or from a reference for each chunk.
     FoR(FoRArray),
+    /// Bases, and differences between items that follow each other in a lane.
     Delta(DeltaArray),
+    /// Run values, and for each item the index of its run.
     RLE(RLEArray),
 }
 
@@ -74,7 +83,7 @@ impl Model for ArrayRef {
 
     ghost coded = { coded_tree };
 
-    ghost use Rattle.fl_array.specs.Shown.{tree_of};
+    ghost use Rattle.fl_array.specs.StoredParts.{tree_of};
 
     ghost view = { λ a. tree_of a.node };
 
@@ -164,6 +173,13 @@ impl IntoArray for BoolArray {
 }
 
 impl ArrayRef {
+    /// The array by its kind.
+    pub fn node(&self) -> &Node
+        ensures { tree_of result.now ≡ self.now }
+    {
+        &self.node
+    }
+
     /// The array, and each array in it, is one that its constructor makes of its parts.
     pub fn prove_well_formed(&self)
         ensures { IsTrue (is_well_formed self.now) }

@@ -19,7 +19,7 @@ ghost use Rattle.fl_array.specs.FoRArrays.{ChunkReferences, FoRArrayParts, Globa
 ghost use Rattle.fl_array.specs.EncodedFoR.{encoded_for, encoded_for_chunked};
 ghost use Rattle.fl_array.specs.Kinds.{has_delta, kind};
 ghost use Rattle.fl_array.specs.Reads.{IsValidityOf, constant_in, integer_column};
-ghost use Rattle.fl_array.specs.Shown.{stored_references};
+ghost use Rattle.fl_array.specs.StoredParts.{stored_references};
 ghost use Rattle.fl_array.specs.Slices.{slice_tree};
 ghost use Rattle.fl_array.specs.Views.{HasLowerReferences, HasSmallerReferences, references_of_view, is_global};
 ghost use Rattle.fl_array.specs.EncodedFoR.{encoded_for, encoded_for_chunked};
@@ -84,7 +84,7 @@ impl Model for FoRArray {
 
     ghost coded = { coded_for };
 
-    ghost use Rattle.fl_array.specs.Shown.{stored_references};
+    ghost use Rattle.fl_array.specs.StoredParts.{stored_references};
 
     ghost view = { λ a. record { encoded = a.encoded.value; references = stored_references a.references } };
 

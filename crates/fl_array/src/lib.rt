@@ -12,4 +12,4 @@ mod to_blocked;
 mod validities;
 mod well_formed;
 
-pub use crate::array::{ArrayRef, IntoArray};
+pub use crate::array::{ArrayRef, IntoArray, Node};

@@ -10,7 +10,7 @@ use Rattle.fastlanes.specs.Layout.{IsWordWidth, pattern_at, unpacked_item, word_
 use Rattle.fastlanes.proofs.Patterns.{pattern_at_read}
 use Rattle.fl_types.specs.declared.dtype.PType.{PType}
 use Rattle.fl_types.specs.declared.error.FastLanesError.{FastLanesError}
-use Rattle.fl_types.specs.Bits.{between, table}
+use Rattle.fl_types.specs.Bits.{between, tabulate}
 use Rattle.fl_types.specs.Integers.{bits_of_type, is_unsigned, pattern_of, read_as, wrap}
 use Rattle.fl_types.specs.Refusals.{Answers}
 use Rattle.fl_types.specs.Validities.{covers, is_valid_at, items_of}
@@ -128,7 +128,7 @@ decoded_at true item (Some p) stored z e = ap (λ n. Some n) e
 
 items_decoded : {X : Type 0} (value : X → ℤ) (item : ℕ → ℤ → ℤ) (parts : BitPackedParts) (blocks : Blocks) (items : List X) → IsTrue (covers parts.validity parts.len) → length items ≡ parts.len
     → ((i : ℕ) → i < parts.len → value_at value items i ≡ unwrap_or (option_map (item ((parts.offset + i) / 1024)) (patched_in parts.patches i)) (item ((parts.offset + i) / 1024) (stored parts blocks i)))
-    → items_of parts.validity (map value items) ≡ table (λ i. option_map (item ((parts.offset + i) / 1024)) (packed_item parts blocks i)) parts.len
+    → items_of parts.validity (map value items) ≡ tabulate (λ i. option_map (item ((parts.offset + i) / 1024)) (packed_item parts blocks i)) parts.len
 unfolding value_at packed_item
 items_decoded value item parts blocks items covered long each =
     let size : length (map value items) ≡ parts.len = length-map items value ∙ long in
@@ -151,10 +151,10 @@ pub stored_by_type : (item : ℕ → ℤ → ℤ) (ptype : PType) (parts : BitPa
 unfolding decoded_item
 stored_by_type item ptype parts blocks i typed = ap (λ t. item ((parts.offset + i) / 1024) (item_of_blocks t blocks parts.packed (parts.offset + i))) (sym typed)
 
-map-table : {A B : Type 0} (g : A → B) (h : ℕ → A) (n : ℕ) (d : A) → map g (table h n) ≡ table (λ i. g (h i)) n
+map-table : {A B : Type 0} (g : A → B) (h : ℕ → A) (n : ℕ) (d : A) → map g (tabulate h n) ≡ tabulate (λ i. g (h i)) n
 map-table g h n d =
-    fill_by_all (λ i. g (h i)) (map g (table h n)) n (g d) (length-map (table h n) g ∙ length-table h n)
-    (λ i l. get_or-map g (table h n) i d (g d) (rw (length-table h n) l) ∙ ap g (get_or-table h n i d l))
+    fill_by_all (λ i. g (h i)) (map g (tabulate h n)) n (g d) (length-map (tabulate h n) g ∙ length-table h n)
+    (λ i l. get_or-map g (tabulate h n) i d (g d) (rw (length-table h n) l) ∙ ap g (get_or-table h n i d l))
 
 same_added : (item : ℤ → ℤ) (ptype : PType) (r : ℤ) → ((z : ℤ) → item z ≡ wrap ptype (z +ℤ r)) → (x : Option ℤ) → option_map item x ≡ plus_reference ptype r x
 same_added item ptype r each None = refl
@@ -177,11 +177,11 @@ pub block_sums : (item : ℕ → ℤ → ℤ) (ptype : PType) (references : List
 block_sums item ptype references parts blocks typed enough each =
     let items = packed_item parts blocks in
     let reference : ℕ → ℤ = λ i. get_or references ((parts.offset + i) / 1024) (pos 0) in
-    let sum : ℕ → Option ℤ = λ i. plus_reference parts.ptype (reference i) (get_or (table items parts.len) i None) in
+    let sum : ℕ → Option ℤ = λ i. plus_reference parts.ptype (reference i) (get_or (tabulate items parts.len) i None) in
     let same = same_tables (λ i. option_map (item ((parts.offset + i) / 1024)) (items i)) sum parts.len
     (λ i h.
     let inside : (parts.offset + i) / 1024 < length references = omega arith in
     same_added (item ((parts.offset + i) / 1024)) ptype (reference i) (λ z. each ((parts.offset + i) / 1024) z inside) (items i) ∙ (ap (λ t. plus_reference t (reference i) (items i)) (sym typed)
     ∙ ap (plus_reference parts.ptype (reference i)) (sym (get_or-table items parts.len i None h)))) in
     let with : List (Option ℤ) → Column = λ xs. record { dtype = (column_of_packed parts blocks).dtype; items = xs } in
-    ap with (same ∙ ap (λ n. table sum n) (sym (length-table items parts.len)))
+    ap with (same ∙ ap (λ n. tabulate sum n) (sym (length-table items parts.len)))

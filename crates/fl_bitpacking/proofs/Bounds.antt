@@ -5,17 +5,17 @@ use Rattle.std.proofs.lemmas.Bool.{le-leb}
 use Rattle.std.proofs.lemmas.List.{take_all}
 use Rattle.std.proofs.lemmas.List.FromFn.{get_or-map-range_with_len, length-map-range_with_len, map-range_with_len_more}
 use Rattle.std.proofs.lemmas.List.Sums.{sum_by_more, sum_by-take-le}
-use Rattle.fl_types.specs.Bits.{table}
+use Rattle.fl_types.specs.Bits.{tabulate}
 use Rattle.fl_column.proofs.ListLaws.{all_from}
-use Rattle.fl_bit_widths.specs.Widths.{Names, block_width}
-use Rattle.fl_bit_widths.specs.declared.widths.Widths.{Widths}
-use Rattle.fl_bit_widths.specs.declared.widths.Widths.TheVariants.{Global, Boundaries, PerBlock}
+use Rattle.fl_patches.specs.Widths.{Names, block_width}
+use Rattle.fl_patches.specs.declared.widths.Widths.{Widths}
+use Rattle.fl_patches.specs.declared.widths.Widths.TheVariants.{Global, Boundaries, PerBlock}
 use Rattle.fl_bitpacking.specs.Blocks.{AreJoined, AreWithin, blocks_of, boundary_blocks, boundaries_of}
 
-pub table_more : {A : Type 0} (f : ℕ → A) (n : ℕ) → table f (n + 1) ≡ table f n ++ f n ∷ []
+pub table_more : {A : Type 0} (f : ℕ → A) (n : ℕ) → tabulate f (n + 1) ≡ tabulate f n ++ f n ∷ []
 table_more f n = map-range_with_len_more f 0 n n (omega arith)
 
-pub one_more : {A : Type 0} (f : ℕ → A) (n : ℕ) (old new : List A) (x : A) → new ≡ old ++ x ∷ [] → old ≡ table f n → x ≡ f n → new ≡ table f (n + 1)
+pub one_more : {A : Type 0} (f : ℕ → A) (n : ℕ) (old new : List A) (x : A) → new ≡ old ++ x ∷ [] → old ≡ tabulate f n → x ≡ f n → new ≡ tabulate f (n + 1)
 one_more f n old new x added before is = rw (added, before, is) (sym (table_more f n))
 
 pub sum_more : (xs : List ℕ) (i : ℕ) → i < length xs → sum (take (i + 1) xs) ≡ sum (take i xs) + get_or xs i 0

@@ -5,7 +5,7 @@ use Rattle.std.proofs.lemmas.List.FromFn.{fill_by_all}
 use Rattle.fastlanes.specs.Layout.{Packed, word_at, IsWordWidth}
 use Rattle.fl_types.specs.declared.dtype.PType.{PType}
 use Rattle.fl_types.specs.declared.error.FastLanesError.{FastLanesError}
-use Rattle.fl_types.specs.Bits.{table}
+use Rattle.fl_types.specs.Bits.{tabulate}
 use Rattle.fl_types.specs.Integers.{bits_of_type, lanes_of_type}
 use Rattle.fl_types.specs.Refusals.{Answers}
 use Rattle.fl_types.specs.Validities.{covers, is_valid_at, items_of}
@@ -20,7 +20,7 @@ use Rattle.fl_bitpacking.proofs.Natives.{lanes_is}
 
 pub items_made : {X : Type 0} (value : X → ℤ) (parts : BitPackedParts) (blocks : Blocks) (items : List X) → IsTrue (covers parts.validity parts.len) → length items ≡ parts.len
     → ((i : ℕ) → i < parts.len → value_at value items i ≡ unwrap_or (patched_in parts.patches i) (stored parts blocks i))
-    → items_of parts.validity (map value items) ≡ table (packed_item parts blocks) parts.len
+    → items_of parts.validity (map value items) ≡ tabulate (packed_item parts blocks) parts.len
 unfolding value_at packed_item
 items_made value parts blocks items covered long each =
     let size : length (map value items) ≡ parts.len = length-map items value ∙ long in

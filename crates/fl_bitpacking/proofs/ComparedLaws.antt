@@ -18,7 +18,7 @@ use Rattle.fl_types.specs.declared.dtype.PType.{PType}
 use Rattle.fl_types.specs.declared.dtype.PType.TheVariants.{U8, U16, U32, U64, I8, I16, I32, I64}
 use Rattle.fl_types.specs.declared.error.FastLanesError.{FastLanesError}
 use Rattle.fl_types.specs.declared.validity.Validity.{Validity}
-use Rattle.fl_types.specs.Bits.{bit_of_word, bits_from, is_set, table, true_count}
+use Rattle.fl_types.specs.Bits.{bit_of_word, bits_from, is_set, tabulate, true_count}
 use Rattle.fl_types.specs.Integers.{bits_of_type, lanes_of_type, read_as}
 use Rattle.fl_types.specs.Refusals.{Answers}
 use Rattle.fl_types.specs.Validities.{covers, items_of, nullability_of}
@@ -164,6 +164,19 @@ pub undecided_none : (t : PType) (blocks : Blocks) (predicate : ℤ → Bool) �
 unfolding undecided_below
 undecided_none t blocks predicate = refl
 
+-- more blocks leave no fewer undecided
+pub undecided_within : (t : PType) (blocks : Blocks) (predicate : ℤ → Bool) (j n : ℕ) → j ≤ n → undecided_below t blocks predicate j ≤ undecided_below t blocks predicate n
+undecided_within t blocks predicate j zero h = let none : j ≡ 0 = omega arith in rw none (omega arith)
+undecided_within t blocks predicate j (suc n) h =
+    let one : suc n ≡ n + 1 = omega arith in
+    elim (cases_eq j (n + 1)) [
+      | inl same ↦ rw (one, same) (omega arith)
+      | inr other ↦
+          let step = undecided_more t blocks predicate n in
+          let within = undecided_within t blocks predicate j n (omega arith) in
+          rw one (omega arith)
+    ]
+
 -- ---- patches
 -- one more answer is put
 pub answer_more : (test : ℤ → Bool) (bits : List Bool) (was : ℕ → Bool) (slots : List ℤ) (xs : List ℕ) (offset k at : ℕ) (b : Bool) → is_rising xs ≡ true → k < length xs → get_or xs k 0 ≡ offset + at → at < length bits → b ≡ test (get_or slots k (pos 0))
@@ -188,24 +201,24 @@ slot : BitPackedParts → Blocks → ℕ → ℤ
 slot parts blocks i = unwrap_or (patched_in parts.patches i) (stored parts blocks i)
 
 bits_are : (test : ℤ → Bool) (parts : BitPackedParts) (blocks : Blocks) (bits : List Bool) → length bits ≡ parts.len
-    → ((i : ℕ) → i < parts.len → get_or bits i false ≡ test (unwrap_or (patched_in parts.patches i) (stored parts blocks i))) → bits ≡ map test (table (slot parts blocks) parts.len)
+    → ((i : ℕ) → i < parts.len → get_or bits i false ≡ test (unwrap_or (patched_in parts.patches i) (stored parts blocks i))) → bits ≡ map test (tabulate (slot parts blocks) parts.len)
 unfolding slot
 bits_are test parts blocks bits long each =
-    let size : length (table (slot parts blocks) parts.len) ≡ parts.len = length-map-range_with_len (slot parts blocks) 0 parts.len in
-    let whole : length (map test (table (slot parts blocks) parts.len)) ≡ parts.len = length-map (table (slot parts blocks) parts.len) test ∙ size in
-    same_lists bits (map test (table (slot parts blocks) parts.len)) (long ∙ sym whole)
+    let size : length (tabulate (slot parts blocks) parts.len) ≡ parts.len = length-map-range_with_len (slot parts blocks) 0 parts.len in
+    let whole : length (map test (tabulate (slot parts blocks) parts.len)) ≡ parts.len = length-map (tabulate (slot parts blocks) parts.len) test ∙ size in
+    same_lists bits (map test (tabulate (slot parts blocks) parts.len)) (long ∙ sym whole)
     (λ k d h.
     let inside : k < parts.len = omega arith in
     get_or_default bits k d false h ∙ (each k inside ∙ (ap test (sym (get_or-map-range_with_len (slot parts blocks) 0 parts.len k k (pos 0) inside (omega arith)))
-    ∙ sym (get_or-map test (table (slot parts blocks) parts.len) k (pos 0) d (rw size inside)))))
+    ∙ sym (get_or-map test (tabulate (slot parts blocks) parts.len) k (pos 0) d (rw size inside)))))
 
 map_same : (xs : List ℤ) → map (λ z. z) xs ≡ xs
 map_same [] = refl
 map_same (x ∷ xs) = ap (λ ys. x ∷ ys) (map_same xs)
 
-slot_there : (parts : BitPackedParts) (blocks : Blocks) (i : ℕ) → i < parts.len → value_at (λ z. z) (table (slot parts blocks) parts.len) i ≡ unwrap_or (patched_in parts.patches i) (stored parts blocks i)
+slot_there : (parts : BitPackedParts) (blocks : Blocks) (i : ℕ) → i < parts.len → value_at (λ z. z) (tabulate (slot parts blocks) parts.len) i ≡ unwrap_or (patched_in parts.patches i) (stored parts blocks i)
 unfolding value_at slot
-slot_there parts blocks i h = ap (λ xs. get_or xs i (pos 0)) (map_same (table (slot parts blocks) parts.len)) ∙ get_or-map-range_with_len (slot parts blocks) 0 parts.len i i (pos 0) h (omega arith)
+slot_there parts blocks i h = ap (λ xs. get_or xs i (pos 0)) (map_same (tabulate (slot parts blocks) parts.len)) ∙ get_or-map-range_with_len (slot parts blocks) 0 parts.len i i (pos 0) h (omega arith)
 
 pub column_tested : (test : ℤ → Bool) (parts : BitPackedParts) (blocks : Blocks) (bits : List Bool) (r : Result BoolParts FastLanesError) → Fit parts → length bits ≡ parts.len
     → ((i : ℕ) → i < parts.len → get_or bits i false ≡ test (unwrap_or (patched_in parts.patches i) (stored parts blocks i)))
@@ -213,10 +226,10 @@ pub column_tested : (test : ℤ → Bool) (parts : BitPackedParts) (blocks : Blo
 column_tested test parts blocks bits r fit long each is =
     let covered : covers parts.validity (length bits) ≡ true = rw long fit.covers in
     let made : r ≡ Ok (record { bits = bits; validity = parts.validity }) = is ∙ (rw covered refl) in
-    let zs = table (slot parts blocks) parts.len in
+    let zs = tabulate (slot parts blocks) parts.len in
     let size : length zs ≡ parts.len = length-map-range_with_len (slot parts blocks) 0 parts.len in
-    let items : items_of parts.validity (map (λ z. z) zs) ≡ table (packed_item parts blocks) parts.len = items_made (λ z. z) parts blocks zs fit.covers size (slot_there parts blocks) in
-    let plain : items_of parts.validity zs ≡ table (packed_item parts blocks) parts.len = ap (items_of parts.validity) (sym (map_same zs)) ∙ items in
-    let answers : map (option_map bool_number) (items_of parts.validity bits) ≡ map (option_map (λ z. bool_number (test z))) (table (packed_item parts blocks) parts.len) =
+    let items : items_of parts.validity (map (λ z. z) zs) ≡ tabulate (packed_item parts blocks) parts.len = items_made (λ z. z) parts blocks zs fit.covers size (slot_there parts blocks) in
+    let plain : items_of parts.validity zs ≡ tabulate (packed_item parts blocks) parts.len = ap (items_of parts.validity) (sym (map_same zs)) ∙ items in
+    let answers : map (option_map bool_number) (items_of parts.validity bits) ≡ map (option_map (λ z. bool_number (test z))) (tabulate (packed_item parts blocks) parts.len) =
     ap (λ bs. map (option_map bool_number) (items_of parts.validity bs)) (bits_are test parts blocks bits long each) ∙ (item_tests test parts.validity zs ∙ ap (map (option_map (λ z. bool_number (test z)))) plain) in
     rw (made, answers) refl

@@ -12,7 +12,7 @@ use Rattle.fl_types.specs.declared.dtype.PType.{PType}
 use Rattle.fl_types.specs.declared.dtype.PType.TheVariants.{U8, U16, U32, U64, I8, I16, I32, I64}
 use Rattle.fl_types.specs.Integers.{bits_of_type}
 use Rattle.fl_column.proofs.ListLaws.{all_at, all_fails, all_from}
-use Rattle.fl_bitpacking.specs.declared.range_test.RangeTest.{RangeTest}
+use Rattle.fl_bitpacking.specs.declared.compute.range_test.RangeTest.{RangeTest}
 use Rattle.fl_bitpacking.specs.Decided.{is_decided}
 use Rattle.fl_bitpacking.specs.RangeTests.{answer_of, is_from, is_up_to, passes}
 

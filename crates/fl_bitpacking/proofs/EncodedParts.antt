@@ -22,9 +22,9 @@ use Rattle.fl_patches.specs.PatchMaps.{PatchesParts, places_from, values_in}
 use Rattle.fl_column.specs.Chunks.{chunk_count}
 use Rattle.fl_column.proofs.NumberLaws.{smallest_unsigned}
 use Rattle.fl_patches.proofs.Parts.{ok_same}
-use Rattle.fl_bit_widths.specs.Costs.{ChosenWidths, choose_widths, chosen_widths}
-use Rattle.fl_bit_widths.specs.Exceptions.{exceptions_of, is_negative}
-use Rattle.fl_bit_widths.specs.PatchParts.{blocked_patches, exception_patches, global_patches, patches_with}
+use Rattle.fl_patches.specs.Costs.{ChosenWidths, choose_widths, chosen_widths}
+use Rattle.fl_patches.specs.Exceptions.{exceptions_of, is_negative}
+use Rattle.fl_patches.specs.PatchParts.{blocked_patches, exception_patches, global_patches, patches_with}
 use Rattle.fl_bitpacking.specs.Blocks.{ArePacked, are_blocks, boundaries_of, boundary_array, boundary_blocks, global_blocks, is_block}
 use Rattle.fl_bitpacking.specs.Columns.{BitPackedParts}
 use Rattle.fl_bitpacking.specs.Encoders.{best_widths_of, packed_parts}

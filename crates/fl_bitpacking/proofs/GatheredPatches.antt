@@ -10,10 +10,10 @@ use Rattle.fl_column.proofs.ItemLaws.{get_or-items_of}
 use Rattle.fl_column.specs.Chunks.{chunk_count}
 use Rattle.fl_patches.specs.PatchMaps.{patched_in}
 use Rattle.fl_column.proofs.NumberLaws.{smallest_unsigned}
-use Rattle.fl_bit_widths.specs.Exceptions.{bit_count, exception, one_width, width_of_block}
-use Rattle.fl_bit_widths.specs.PatchParts.{blocked_patches, exception_patches, global_patches}
-use Rattle.fl_bit_widths.proofs.BitCounts.{bit_count_holds, pattern_below, type_most}
-use Rattle.fl_bit_widths.proofs.Patches.{exceptions_are}
+use Rattle.fl_patches.specs.Exceptions.{bit_count, exception, one_width, width_of_block}
+use Rattle.fl_patches.specs.PatchParts.{blocked_patches, exception_patches, global_patches}
+use Rattle.fl_patches.proofs.BitCounts.{bit_count_holds, pattern_below, type_most}
+use Rattle.fl_patches.proofs.ExceptionPatches.{exceptions_are}
 use Rattle.fl_bitpacking.specs.Blocks.{Blocks, boundary_blocks, boundaries_of, global_blocks}
 use Rattle.fl_bitpacking.specs.Restored.{AreKept}
 use Rattle.fl_bitpacking.proofs.Bounds.{width_between}

@@ -19,7 +19,7 @@ use Rattle.fl_column.specs.Numbers.{numbers}
 use Rattle.fl_patches.specs.PatchMaps.{PatchesParts, are_chunk_offsets, is_index_within, is_rising, patch_contents_fit, patch_lengths_fit, patch_types_fit, patched_in, refusal_of}
 use Rattle.fl_types.specs.declared.error.FastLanesError.{FastLanesError}
 use Rattle.fl_types.specs.declared.error.FastLanesError.TheVariants.{PatchContent, PatchLength, PatchType}
-use Rattle.fl_types.specs.Bits.{table}
+use Rattle.fl_types.specs.Bits.{tabulate}
 use Rattle.fl_bitpacking.specs.Blocks.{Blocks}
 use Rattle.fl_bitpacking.specs.Casts.{cast_packed, cast_patches, cast_primitive, cast_validity}
 use Rattle.fl_bitpacking.specs.Columns.{BitPackedParts, column_of_packed, packed_item, stored}
@@ -135,7 +135,7 @@ item_is_there parts blocks i = each (is_valid_at parts.validity i)
 -- a packed column has a null where its validity says so
 pub packed_null : (parts : BitPackedParts) (blocks : Blocks) → covers parts.validity parts.len ≡ true → any_null parts.validity parts.len ≡ list_any is_none (column_of_packed parts blocks).items
 packed_null parts blocks covered =
-    let zeros : List ℕ = table (λ i. 0) parts.len in
+    let zeros : List ℕ = tabulate (λ i. 0) parts.len in
     let many : length zeros ≡ parts.len = length-table (λ i. 0) parts.len in
     let covered_zeros : covers parts.validity (length zeros) ≡ true = rw many covered in
     let long : length (column_of_packed parts blocks).items ≡ parts.len = length-table (packed_item parts blocks) parts.len in

@@ -7,15 +7,15 @@ use Rattle.std.proofs.lemmas.List.Folds.{sum_by-replicate}
 use Rattle.fl_types.specs.declared.dtype.DType.TheVariants.{Primitive}
 use Rattle.fl_types.specs.declared.dtype.Nullability.{Nullability}
 use Rattle.fl_types.specs.declared.dtype.PType.{PType}
-use Rattle.fl_types.specs.Bits.{between, table}
+use Rattle.fl_types.specs.Bits.{between, tabulate}
 use Rattle.fl_types.specs.Integers.{bits_of_type, smallest_type}
 use Rattle.fl_types.specs.Validities.{is_valid_at, items_of, nullability_of}
 use Rattle.fl_types.proofs.BitLists.{same_tables}
 use Rattle.fl_column.specs.Columns.{PrimitiveParts, column_of_primitive, numbers_of}
 use Rattle.fl_column.specs.Numbers.{index_array}
 use Rattle.fl_patches.specs.PatchMaps.{patched_in, places_from, values_in}
-use Rattle.fl_bit_widths.specs.Exceptions.{exceptions_of, one_width}
-use Rattle.fl_bit_widths.specs.PatchParts.{global_patches, patch_count, patches_with}
+use Rattle.fl_patches.specs.Exceptions.{exceptions_of, one_width}
+use Rattle.fl_patches.specs.PatchParts.{global_patches, patch_count, patches_with}
 use Rattle.fl_bitpacking.specs.BlockedWidths.{width_per_block}
 use Rattle.fl_bitpacking.specs.Blocks.{Blocks, block_item, boundaries_of, boundary_array, boundary_blocks, bytes_of_block, global_blocks, item_of_blocks}
 use Rattle.fl_bitpacking.specs.Columns.{BitPackedParts, block_count, column_of_packed, packed_item}
@@ -38,11 +38,11 @@ multiple : (n w j : ℕ) → j ≤ n → 128 * sum (take j (replicate n w)) ≡ 
 multiple n w j le = ap (λ x. 128 * x) (sum_first n w j le) ∙ product w j
 
 -- the boundaries of equal widths are multiples
-pub equal_boundaries : (n w : ℕ) → table (λ j. 128 * w * j) (n + 1) ≡ boundaries_of (replicate n w)
+pub equal_boundaries : (n w : ℕ) → tabulate (λ j. 128 * w * j) (n + 1) ≡ boundaries_of (replicate n w)
 equal_boundaries n w =
     let long : length (replicate n w) ≡ n = length-replicate n w in
     same_tables (λ j. 128 * w * j) (λ j. 128 * sum (take j (replicate n w))) (n + 1) (λ j lt. sym (multiple n w j (omega arith)))
-    ∙ ap (λ k. table (λ j. 128 * sum (take j (replicate n w))) (k + 1)) (sym long)
+    ∙ ap (λ k. tabulate (λ j. 128 * sum (take j (replicate n w))) (k + 1)) (sym long)
 
 sum_all : (n w : ℕ) → 128 * sum (replicate n w) ≡ 128 * w * n
 sum_all n w = ap (λ x. 128 * x) (sum_by-replicate (λ x. x) n w) ∙ product w n
@@ -114,18 +114,18 @@ blocked_accepted parts w h =
     })
 
 -- ---- the array of boundaries
-equal_steps : (n w step : ℕ) → step ≡ 128 * w → table (λ j. step * j) (n + 1) ≡ boundaries_of (replicate n w)
-equal_steps n w step is = ap (λ s. table (λ j. s * j) (n + 1)) is ∙ equal_boundaries n w
+equal_steps : (n w step : ℕ) → step ≡ 128 * w → tabulate (λ j. step * j) (n + 1) ≡ boundaries_of (replicate n w)
+equal_steps n w step is = ap (λ s. tabulate (λ j. s * j) (n + 1)) is ∙ equal_boundaries n w
 
 equal_bound : (n w step bound : ℕ) → step ≡ 128 * w → bound ≡ step * n → bound ≡ 128 * sum (replicate n w)
 equal_bound n w step bound is last = last ∙ (ap (λ s. s * n) is ∙ sym (sum_all n w))
 
 -- multiples of a block's size are the boundaries of blocks of one width
-pub equal_array : (n w step bound : ℕ) (numbers : List ℕ) → step ≡ 128 * w → bound ≡ step * n → numbers ≡ table (λ j. step * j) (n + 1) → index_array bound numbers ≡ boundary_array (replicate n w)
+pub equal_array : (n w step bound : ℕ) (numbers : List ℕ) → step ≡ 128 * w → bound ≡ step * n → numbers ≡ tabulate (λ j. step * j) (n + 1) → index_array bound numbers ≡ boundary_array (replicate n w)
 equal_array n w step bound numbers is last made =
     ap (λ b. index_array b numbers) (equal_bound n w step bound is last) ∙ ap (index_array (128 * sum (replicate n w))) (made ∙ equal_steps n w step is)
 
-pub equal_small : (n w step bound : ℕ) (numbers : List ℕ) → step ≡ 128 * w → bound ≡ step * n → numbers ≡ table (λ j. step * j) (n + 1) → list_all (λ k. nat_le k bound) numbers ≡ true
+pub equal_small : (n w step bound : ℕ) (numbers : List ℕ) → step ≡ 128 * w → bound ≡ step * n → numbers ≡ tabulate (λ j. step * j) (n + 1) → list_all (λ k. nat_le k bound) numbers ≡ true
 equal_small n w step bound numbers is last made =
     rw (made ∙ equal_steps n w step is) (boundaries_small (replicate n w) bound (equal_bound n w step bound is last))
 

@@ -4,7 +4,7 @@ use Rattle.std.specs.Prelude.{◌==◌, ◌&&◌, ◌||◌, unwrap_or, if◌then
 use Rattle.std.proofs.lemmas.Bool.{eqb-true, eqb-false, ltb-true, ltb-false}
 use Rattle.std.proofs.lemmas.List.{append-nil, append_assoc}
 use Rattle.std.proofs.lemmas.List.FromFn.{map-range_with_len_more}
-use Rattle.fl_types.specs.Bits.{table}
+use Rattle.fl_types.specs.Bits.{tabulate}
 use Rattle.fl_types.specs.declared.dtype.PType.{PType}
 use Rattle.fl_types.proofs.BitLists.{same_tables}
 use Rattle.fl_column.specs.Chunks.{chunk_count}
@@ -14,21 +14,21 @@ use Rattle.fl_bitpacking.specs.WholeBlocks.{WholeBlocks, after_next, block_items
 
 -- so many items of a list from a place on
 abbrev P : (ℕ → ℤ) → ℕ → ℕ → List ℤ
-P item from count = table (λ k. item (from + k)) count
+P item from count = tabulate (λ k. item (from + k)) count
 
-table_append : (f : ℕ → ℤ) (m n : ℕ) → table f (m + n) ≡ table f m ++ table (λ k. f (m + k)) n
-table_append f m zero = let same : m + 0 ≡ m = omega arith in rw same (sym (append-nil (table f m)))
+table_append : (f : ℕ → ℤ) (m n : ℕ) → tabulate f (m + n) ≡ tabulate f m ++ tabulate (λ k. f (m + k)) n
+table_append f m zero = let same : m + 0 ≡ m = omega arith in rw same (sym (append-nil (tabulate f m)))
 table_append f m (suc n) =
     let same : m + suc n ≡ (m + n) + 1 = omega arith in
     let more : suc n ≡ n + 1 = omega arith in
     rw same (map-range_with_len_more f 0 (m + n) (m + n) (omega arith)
     ∙ (ap (λ xs. xs ++ f (m + n) ∷ []) (table_append f m n)
-    ∙ (append_assoc (table f m) (table (λ k. f (m + k)) n) (f (m + n) ∷ [])
-    ∙ ap (λ xs. table f m ++ xs) (sym (ap (table (λ k. f (m + k))) more ∙ map-range_with_len_more (λ k. f (m + k)) 0 n n (omega arith))))))
+    ∙ (append_assoc (tabulate f m) (tabulate (λ k. f (m + k)) n) (f (m + n) ∷ [])
+    ∙ ap (λ xs. tabulate f m ++ xs) (sym (ap (tabulate (λ k. f (m + k))) more ∙ map-range_with_len_more (λ k. f (m + k)) 0 n n (omega arith))))))
 
 two : (item : ℕ → ℤ) (o a b s l : ℕ) → l ≡ a + b → s ≡ o + a → P item o a ++ P item s b ≡ P item o l
 two item o a b s l long starts =
-    let moved : table (λ k. item (o + (a + k))) b ≡ P item s b = same_tables (λ k. item (o + (a + k))) (λ k. item (s + k)) b (λ k h. ap item (omega arith)) in
+    let moved : tabulate (λ k. item (o + (a + k))) b ≡ P item s b = same_tables (λ k. item (o + (a + k))) (λ k. item (s + k)) b (λ k h. ap item (omega arith)) in
     rw long (sym (table_append (λ k. item (o + k)) a b ∙ ap (λ xs. P item o a ++ xs) moved))
 
 three : (item : ℕ → ℤ) (o a b t s u l : ℕ) → l ≡ a + (b + t) → s ≡ o + a → u ≡ s + b → P item o a ++ (P item s b ++ P item u t) ≡ P item o l

@@ -2,7 +2,7 @@
 use Rattle.std.proofs.Common.{◌≡◌, ℕ, ◌+◌, ◌-◌, ◌*◌, ◌/◌, ◌%◌, ◌<◌, ◌≤◌, List, None, false, refl, ap, ◌∙◌, arith}
 use Rattle.std.specs.Prelude.{ℤ, Option}
 use Rattle.fl_types.specs.declared.dtype.DType.TheVariants.{Primitive}
-use Rattle.fl_types.specs.Bits.{between, table}
+use Rattle.fl_types.specs.Bits.{between, tabulate}
 use Rattle.fl_types.specs.declared.validity.Validity.{Validity}
 use Rattle.fl_types.specs.declared.validity.Validity.TheVariants as valid
 use Rattle.fl_types.specs.Validities.{is_valid_at, nullability_of, validity_between}
@@ -64,7 +64,7 @@ packed_slice old blocks later start end order range laters patches =
     let new = sliced_parts (blocks.start (first_block old.offset start)) (blocks.start last) start end old in
     let part = between-table (packed_item old blocks) old.len start end None order range in
     let same = same_tables (λ i. packed_item old blocks (start + i)) (packed_item new later) (end - start) (λ i h. item_slice old blocks later last start end i (laters (((old.offset + start) % 1024 + i) / 1024) (omega arith)) h (patches i h)) in
-    let items : between start end (table (packed_item old blocks) old.len) ≡ table (packed_item new later) (end - start) = part ∙ same in
+    let items : between start end (tabulate (packed_item old blocks) old.len) ≡ tabulate (packed_item new later) (end - start) = part ∙ same in
     rw (nullability_of-between, items) refl
 
 -- one width: any whole number of blocks

@@ -10,8 +10,8 @@ use Rattle.fl_types.specs.declared.dtype.PType.TheVariants.{U8, U16, U32, U64, I
 use Rattle.fl_types.specs.Integers.{bits_of_type, read_as}
 use Rattle.fl_bitpacking.specs.LeastIntegers.{least_of}
 use Rattle.std.proofs.lemmas.Nat.{mod_below, pow_pos}
-use Rattle.fl_bitpacking.specs.declared.range_test.RangeTest.{RangeTest}
-use Rattle.fl_bitpacking.specs.declared.range_test.PatternTest.{PatternTest}
+use Rattle.fl_bitpacking.specs.declared.compute.range_test.RangeTest.{RangeTest}
+use Rattle.fl_bitpacking.specs.declared.compute.range_test.PatternTest.{PatternTest}
 use Rattle.fl_bitpacking.specs.RangeTests.{TestsPatterns, TestsRange, answer_of, in_range, is_from, is_up_to, passes}
 
 pub true_le : (a b : ℤ) → a ≤ℤ b → int_le a b ≡ true

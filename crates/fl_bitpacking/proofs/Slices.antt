@@ -5,7 +5,7 @@ use Rattle.std.proofs.lemmas.List.{take-map, drop-map, get_or-take, get_or-drop,
 use Rattle.std.proofs.Math.Seq.{take-append_seam}
 use Rattle.fl_types.specs.declared.dtype.PType.{PType}
 use Rattle.fl_types.specs.Integers.{pattern_of}
-use Rattle.fl_types.specs.Bits.{table}
+use Rattle.fl_types.specs.Bits.{tabulate}
 use Rattle.fl_types.proofs.BitLists.{same_tables, table_between}
 use Rattle.std.proofs.lemmas.List.FromFn.{fill_by_all}
 use Rattle.fl_bitpacking.specs.Blocks.{pattern_in, value_at}
@@ -117,7 +117,7 @@ value_added value old new i =
 
 -- the integers between two places, by what each of them is
 pub integers_between : {X : Type 0} (value : X → ℤ) (item : ℕ → ℤ) (xs : List X) (from to : ℕ) → from ≤ to → to ≤ length xs
-    → ((k : ℕ) → k < to - from → value_at value xs (from + k) ≡ item k) → map value (take (to - from) (drop from xs)) ≡ table item (to - from)
+    → ((k : ℕ) → k < to - from → value_at value xs (from + k) ≡ item k) → map value (take (to - from) (drop from xs)) ≡ tabulate item (to - from)
 unfolding value_at
 integers_between value item xs from to order room each =
     let size : length (map value xs) ≡ length xs = length-map xs value in
@@ -125,7 +125,7 @@ integers_between value item xs from to order room each =
     part ∙ (sym (table_between (map value xs) from to (pos 0) order (rw size room)) ∙ same_tables (λ k. get_or (map value xs) (from + k) (pos 0)) item (to - from) each)
 
 -- all integers, by what each of them is
-pub integers_all : {X : Type 0} (value : X → ℤ) (item : ℕ → ℤ) (xs : List X) (n : ℕ) → length xs ≡ n → ((i : ℕ) → i < n → value_at value xs i ≡ item i) → map value xs ≡ table item n
+pub integers_all : {X : Type 0} (value : X → ℤ) (item : ℕ → ℤ) (xs : List X) (n : ℕ) → length xs ≡ n → ((i : ℕ) → i < n → value_at value xs i ≡ item i) → map value xs ≡ tabulate item n
 unfolding value_at
 integers_all value item xs n long each = fill_by_all item (map value xs) n (pos 0) (length-map xs value ∙ long) each
 

@@ -10,7 +10,7 @@ use Rattle.fl_types.specs.declared.dtype.Nullability.TheVariants.{NonNullable, N
 use Rattle.fl_types.specs.declared.dtype.PType.{PType}
 use Rattle.fl_types.specs.declared.validity.Validity.{Validity}
 use Rattle.fl_types.specs.declared.validity.Validity.TheVariants as valid
-use Rattle.fl_types.specs.Bits.{table}
+use Rattle.fl_types.specs.Bits.{tabulate}
 use Rattle.fl_types.specs.declared.error.FastLanesError.{FastLanesError}
 use Rattle.fl_types.specs.declared.error.FastLanesError.TheVariants.{IndexOutOfBounds, NotInteger}
 use Rattle.fl_types.specs.Refusals.{Refuses}
@@ -24,8 +24,9 @@ use Rattle.fl_column.proofs.ListLaws.{and_first, and_second}
 use Rattle.fl_bitpacking.specs.Blocks.{Blocks, blocks_of, value_at}
 use Rattle.fl_bitpacking.specs.Columns.{BitPackedParts, column_of_packed, packed_item}
 use Rattle.fl_bitpacking.specs.Parts.{parts_of}
-use Rattle.fl_bitpacking.specs.Taken.{ArePositions, AreSlots, is_full, items_named, items_taken, named_positions, named_positions_in, slot_at}
-use Rattle.fl_bitpacking.specs.declared.taking.Taking.{Taking}
+use Rattle.fl_column.specs.Selections.{is_full}
+use Rattle.fl_bitpacking.specs.Taken.{ArePositions, AreSlots, items_named, items_taken, named_positions, named_positions_in, slot_at}
+use Rattle.fl_bitpacking.specs.declared.compute.take.Taking.{Taking}
 use Rattle.fl_bitpacking.proofs.TakenLaws.{in_range_of}
 use Rattle.fl_bitpacking.proofs.Tables.{get_or-table, length-table}
 
@@ -91,7 +92,7 @@ pub item_of_name : (taking : Taking) (z : ℤ) (p : ℕ) → p ≡ unsigned_abs 
     → packed_item (parts_of taking.column) (blocks_of taking.widths) p ≡ item_named (column_of_packed (parts_of taking.column) (blocks_of taking.widths)).items (Some z)
 item_of_name taking z p is below =
     let f = packed_item (parts_of taking.column) (blocks_of taking.widths) in
-    sym (ap (λ (i : ℕ). get_or (table f taking.column.len) i None) (sym is) ∙ get_or-table f taking.column.len p None below)
+    sym (ap (λ (i : ℕ). get_or (tabulate f taking.column.len) i None) (sym is) ∙ get_or-table f taking.column.len p None below)
 
 -- ---- the take
 -- without a null index the items are those at the positions

@@ -8,7 +8,7 @@ use Rattle.std.proofs.lemmas.Bool.{cases_Bool}
 use Rattle.std.proofs.lemmas.List.FromFn.{length-map-range_with_len}
 use Rattle.std.proofs.lemmas.List.Sums.{count_by-le-length, sum_by-cons}
 use Rattle.fl_types.specs.declared.dtype.PType.{PType}
-use Rattle.fl_types.specs.Bits.{table, true_count}
+use Rattle.fl_types.specs.Bits.{tabulate, true_count}
 use Rattle.fl_types.specs.Integers.{bits_of_type}
 use Rattle.fl_types.specs.Values.{bool_number}
 use Rattle.fl_types.proofs.BitLists.{same_tables}
@@ -42,7 +42,7 @@ undecided_alike t blocks f g n same = ap true_count (same_tables (λ j. not (is_
 pub undecided_most : (t : PType) (blocks : Blocks) (f : ℤ → Bool) (n : ℕ) → undecided_below t blocks f n ≤ n
 unfolding undecided_below
 undecided_most t blocks f n =
-    let most = count_by-le-length (λ (bit : Bool). bit) (table (λ j. not (is_decided t (blocks.width j) f)) n) in
+    let most = count_by-le-length (λ (bit : Bool). bit) (tabulate (λ j. not (is_decided t (blocks.width j) f)) n) in
     let size = length-map-range_with_len (λ j. not (is_decided t (blocks.width j) f)) 0 n in
     omega arith
 

@@ -3,7 +3,7 @@ use Rattle.std.specs.Prelude.{◌+◌, ◌-◌, ◌/◌, ◌+ℤ◌, ℕ, ℤ, L
 use Rattle.std.specs.List.{slice_get}
 use Rattle.fl_types.specs.declared.dtype.PType.{PType}
 use Rattle.fl_types.specs.declared.dtype.DType.TheVariants.{Primitive}
-use Rattle.fl_types.specs.Bits.{table}
+use Rattle.fl_types.specs.Bits.{tabulate}
 use Rattle.fl_types.specs.Integers.{wrap}
 use Rattle.fl_types.specs.Validities.{nullability_of}
 use Rattle.fl_column.specs.Columns.{Column}
@@ -31,5 +31,5 @@ decoded_item item ptype blocks bytes p = item (p / 1024) (item_of_blocks ptype b
 abbrev pub decoded_column : (ℕ → ℤ → ℤ) → BitPackedParts → Blocks → Column
 decoded_column item parts blocks = record {
   dtype = Primitive parts.ptype (nullability_of parts.validity);
-  items = table (λ i. option_map (item ((parts.offset + i) / 1024)) (packed_item parts blocks i)) parts.len;
+  items = tabulate (λ i. option_map (item ((parts.offset + i) / 1024)) (packed_item parts blocks i)) parts.len;
 }

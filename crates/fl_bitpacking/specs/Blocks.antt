@@ -2,13 +2,13 @@
 use Rattle.std.specs.Prelude.{◌≡◌, ◌==◌, ◌&&◌, ◌+◌, ◌-◌, ◌*◌, ◌/◌, ◌%◌, ◌<◌, ◌≤◌, ℕ, ℤ, pos, Bool, List, length, map, take, sum, slice_index, slice_index_or, nat_le}
 use Rattle.fastlanes.specs.Layout.{Packed, unpacked_item, word_at}
 use Rattle.fl_types.specs.declared.dtype.PType.{PType}
-use Rattle.fl_types.specs.Bits.{between, table}
+use Rattle.fl_types.specs.Bits.{between, tabulate}
 use Rattle.fl_types.specs.Integers.{bits_of_type, lanes_of_type, pattern_of, read_as}
 use Rattle.fl_column.specs.Columns.{PrimitiveParts}
 use Rattle.fl_column.specs.Numbers.{index_array, numbers}
 use Rattle.fl_column.specs.Questions.{each_next}
-use Rattle.fl_bit_widths.specs.declared.widths.Widths.{Widths}
-use Rattle.fl_bit_widths.specs.declared.widths.Widths.TheVariants.{Global, Boundaries, PerBlock}
+use Rattle.fl_patches.specs.declared.widths.Widths.{Widths}
+use Rattle.fl_patches.specs.declared.widths.Widths.TheVariants.{Global, Boundaries, PerBlock}
 use Rattle.fl_column.specs.Chunks.{chunk_count}
 
 -- where each block starts in the bytes, and its width
@@ -22,7 +22,7 @@ global_blocks width = record { start = λ j. 128 * width * j; width = λ j. widt
 
 -- the boundaries of blocks of these widths: the sums of 128 * width, from 0 on
 abbrev pub boundaries_of : List ℕ → List ℕ
-boundaries_of widths = table (λ j. 128 * sum (take j widths)) (length widths + 1)
+boundaries_of widths = tabulate (λ j. 128 * sum (take j widths)) (length widths + 1)
 
 -- block j lies between the boundaries j and j + 1, counted from the first one
 abbrev pub boundary_blocks : List ℕ → Blocks

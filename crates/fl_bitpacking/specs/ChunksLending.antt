@@ -6,8 +6,8 @@ use Rattle.fastlanes.specs.contracts.counts.Work.{the_row as work_row}
 use Rattle.fl_bitpacking.specs.Readers.{Reader}
 use Rattle.fl_bitpacking.specs.contracts.bit_unpacked_chunks.BitUnpackedChunks.{the_row}
 use Rattle.fl_bitpacking.specs.declared.bit_packed.BitCount as bits
-use Rattle.fl_bitpacking.specs.declared.bit_unpack_iterator.BitUnpackIterator.{BitUnpackIterator}
-use Rattle.fl_bitpacking.specs.declared.unpacked_items.UnpackedItems.{UnpackedItems}
+use Rattle.fl_bitpacking.specs.declared.unpack_iter.bit_unpack_iterator.BitUnpackIterator.{BitUnpackIterator}
+use Rattle.fl_bitpacking.specs.declared.unpack_iter.unpacked_items.UnpackedItems.{UnpackedItems}
 
 module _ (T : RattleType) (g : bits.Ghosts T.Denot) where
   -- the reader ends as this, whatever is written to the items

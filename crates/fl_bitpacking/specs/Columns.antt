@@ -3,7 +3,7 @@ use Rattle.std.specs.Prelude.{◌+◌, ℕ, ℤ, List, Option, Some, None, unwra
 use Rattle.fl_types.specs.declared.dtype.PType.{PType}
 use Rattle.fl_types.specs.declared.dtype.DType.TheVariants.{Primitive}
 use Rattle.fl_types.specs.declared.validity.Validity.{Validity}
-use Rattle.fl_types.specs.Bits.{table}
+use Rattle.fl_types.specs.Bits.{tabulate}
 use Rattle.fl_types.specs.Validities.{is_valid_at, nullability_of}
 use Rattle.fl_column.specs.Columns.{Column}
 use Rattle.fl_column.specs.Chunks.{chunk_count}
@@ -33,4 +33,4 @@ packed_item parts blocks i = if is_valid_at parts.validity i then Some (unwrap_o
 
 -- the column of the items
 abbrev pub column_of_packed : BitPackedParts → Blocks → Column
-column_of_packed parts blocks = record { dtype = Primitive parts.ptype (nullability_of parts.validity); items = table (packed_item parts blocks) parts.len }
+column_of_packed parts blocks = record { dtype = Primitive parts.ptype (nullability_of parts.validity); items = tabulate (packed_item parts blocks) parts.len }

@@ -3,7 +3,7 @@ use Rattle.std.specs.Prelude.{◌==◌, ◌&&◌, ◌||◌, ◌^◌, ℕ, ℤ, p
 use Rattle.std.specs.Bool.{beq}
 use Rattle.std.specs.List.{list_all, range_with_len}
 use Rattle.fl_types.specs.declared.dtype.PType.{PType}
-use Rattle.fl_types.specs.Bits.{table, true_count}
+use Rattle.fl_types.specs.Bits.{tabulate, true_count}
 use Rattle.fl_types.specs.Integers.{bits_of_type}
 use Rattle.fl_bitpacking.specs.Blocks.{Blocks}
 use Rattle.fl_bitpacking.specs.Columns.{BitPackedParts, block_count}
@@ -14,7 +14,7 @@ is_decided ptype width predicate = nat_lt width (bits_of_type ptype) && list_all
 
 -- how many of the first n blocks have a width that does not decide the predicate
 unfoldable pub undecided_below : PType → Blocks → (ℤ → Bool) → ℕ → ℕ
-undecided_below ptype blocks predicate n = true_count (table (λ j. not (is_decided ptype (blocks.width j) predicate)) n)
+undecided_below ptype blocks predicate n = true_count (tabulate (λ j. not (is_decided ptype (blocks.width j) predicate)) n)
 
 -- how many blocks are unpacked to test the items: those whose own width does not decide the predicate, and none where there is no item
 abbrev pub undecided_blocks : BitPackedParts → Blocks → (ℤ → Bool) → ℕ

@@ -8,9 +8,9 @@ use Rattle.fl_types.specs.Validities.{items_of}
 use Rattle.fl_column.specs.Columns.{PrimitiveParts}
 use Rattle.fl_patches.specs.PatchMaps.{PatchesParts}
 use Rattle.fl_column.specs.Chunks.{chunk_count}
-use Rattle.fl_bit_widths.specs.Costs.{best_width, best_widths}
-use Rattle.fl_bit_widths.specs.Exceptions.{histogram_of, is_negative}
-use Rattle.fl_bit_widths.specs.PatchParts.{blocked_patches, global_patches}
+use Rattle.fl_patches.specs.Costs.{best_width, best_widths}
+use Rattle.fl_patches.specs.Exceptions.{histogram_of, is_negative}
+use Rattle.fl_patches.specs.PatchParts.{blocked_patches, global_patches}
 use Rattle.fl_bitpacking.specs.Blocks.{ArePacked, Blocks, boundaries_of, boundary_blocks, global_blocks}
 use Rattle.fl_bitpacking.specs.Columns.{BitPackedParts}
 

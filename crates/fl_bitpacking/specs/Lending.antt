@@ -5,7 +5,7 @@ use mir.Syntax.{named}
 use Rattle.fl_bitpacking.specs.Readers.{Reader}
 use Rattle.fl_bitpacking.specs.contracts.unpack_iter.UnpackedChunks.{the_row}
 use Rattle.fl_bitpacking.specs.declared.bit_packed.BitCount as bits
-use Rattle.fl_bitpacking.specs.declared.unpacked_items.UnpackedItems.{UnpackedItems}
+use Rattle.fl_bitpacking.specs.declared.unpack_iter.unpacked_items.UnpackedItems.{UnpackedItems}
 
 module _ (T S : RattleType) (g : bits.Ghosts T.Denot) where
   -- the reader ends as this, whatever is written to the items

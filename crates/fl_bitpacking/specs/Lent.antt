@@ -1,6 +1,6 @@
 -- Items that are lent from a scratch block.
 use Rattle.std.specs.Prelude.{◌-◌, ℤ, List, map, take, drop, Option, option_map}
-use Rattle.fl_bitpacking.specs.declared.unpacked_items.UnpackedItems.{UnpackedItems}
+use Rattle.fl_bitpacking.specs.declared.unpack_iter.unpacked_items.UnpackedItems.{UnpackedItems}
 
 -- the items that are lent, if any are
 abbrev pub items_lent : {T : Type 0} → UnpackedItems T → Option (List T)

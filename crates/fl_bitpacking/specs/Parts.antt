@@ -3,11 +3,11 @@ use Rattle.std.specs.Prelude.{◌≡◌, ◌+◌, ◌^◌, ◌<◌, ℕ, IfSome,
 use Rattle.std.specs.Option.{option_copied}
 use Rattle.fl_types.specs.Validities.{covers}
 use Rattle.fl_bitpacking.specs.Columns.{BitPackedParts}
-use Rattle.fl_bitpacking.specs.declared.decoding.PackedColumn.{PackedColumn}
+use Rattle.fl_bitpacking.specs.declared.bitpack_decompress.PackedColumn.{PackedColumn}
 use Rattle.fl_bitpacking.specs.declared.blocks.PackedBlocks.{PackedBlocks}
 use Rattle.fl_bitpacking.specs.Blocks.{AreJoined, AreWithin, blocks_of}
-use Rattle.fl_bit_widths.specs.Widths.{NamesAll}
-use Rattle.fl_bit_widths.specs.declared.widths.Widths.{Widths}
+use Rattle.fl_patches.specs.Widths.{NamesAll}
+use Rattle.fl_patches.specs.declared.widths.Widths.{Widths}
 use Rattle.fl_column.specs.Chunks.{chunk_count}
 
 -- the parts that are held

@@ -2,8 +2,8 @@
 use Rattle.std.specs.Prelude.{◌≡◌, ◌+◌, ◌-◌, ◌%◌, ◌^◌, ◌<◌, ◌≤◌, ◌&&◌, ℕ, ℤ, Bool, true, not, nat_le, int_le, Option, Some, None, if◌then◌else◌}
 use Rattle.fl_types.specs.declared.dtype.PType.{PType}
 use Rattle.fl_types.specs.Integers.{bits_of_type, read_as}
-use Rattle.fl_bitpacking.specs.declared.range_test.RangeTest.{RangeTest}
-use Rattle.fl_bitpacking.specs.declared.range_test.PatternTest.{PatternTest}
+use Rattle.fl_bitpacking.specs.declared.compute.range_test.RangeTest.{RangeTest}
+use Rattle.fl_bitpacking.specs.declared.compute.range_test.PatternTest.{PatternTest}
 
 -- z is at or above the bound, if there is one
 abbrev pub is_from : Option ℤ → ℤ → Bool

@@ -6,16 +6,16 @@ use Rattle.fl_types.specs.declared.error.FastLanesError.{FastLanesError}
 use Rattle.fl_types.specs.declared.error.FastLanesError.TheVariants.{IndexOutOfBounds}
 use Rattle.fl_types.specs.declared.validity.Validity.{Validity}
 use Rattle.fl_types.specs.declared.validity.Validity.TheVariants as valid
-use Rattle.fl_bit_widths.specs.declared.widths.Widths.{Widths}
-use Rattle.fl_bit_widths.specs.declared.widths.Widths.TheVariants.{Global, Boundaries, PerBlock}
+use Rattle.fl_patches.specs.declared.widths.Widths.{Widths}
+use Rattle.fl_patches.specs.declared.widths.Widths.TheVariants.{Global, Boundaries, PerBlock}
 use Rattle.fl_column.specs.Operations.{is_in_range, item_named}
 use Rattle.fl_patches.specs.PatchMaps.{patched_in}
 use Rattle.fl_bitpacking.specs.Blocks.{Blocks, block_item, blocks_of, item_of_blocks, value_at}
 use Rattle.fl_bitpacking.specs.Columns.{BitPackedParts, column_of_packed, packed_item, stored}
 use Rattle.fl_bitpacking.specs.Parts.{parts_of}
 use Rattle.fl_bitpacking.specs.declared.blocks.PackedBlocks.{PackedBlocks}
-use Rattle.fl_bitpacking.specs.declared.taking.runs.Run.{Run}
-use Rattle.fl_bitpacking.specs.declared.taking.Taking.{Taking}
+use Rattle.fl_bitpacking.specs.declared.compute.take.runs.Run.{Run}
+use Rattle.fl_bitpacking.specs.declared.compute.take.Taking.{Taking}
 
 -- the most positions of one block that are read one by one, in a type of this many bits; of more the block is unpacked whole
 abbrev pub unpack_threshold : ℕ → ℕ
@@ -68,12 +68,6 @@ pub record AreTaken {T : Type 0} (value : T → ℤ) (ptype : PType) (blocks : P
   pub each : (i : ℕ) → i < count → value_at value items i ≡ item_of_blocks ptype (blocks_of blocks.widths) blocks.packed.now (blocks.offset + slice_index positions i)
 
 -- ---- columns
--- a validity by whose form no item is null
-abbrev pub is_full : Validity → Bool
-is_full valid.NonNullable = true
-is_full valid.AllValid = true
-is_full valid.AllInvalid = false
-is_full (valid.Array bits) = false
 
 -- what stands at position p of a column, also under a null: its patch, else what is stored
 abbrev pub slot_at : BitPackedParts → Blocks → ℕ → ℤ

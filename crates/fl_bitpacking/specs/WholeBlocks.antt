@@ -2,7 +2,7 @@
 use Rattle.std.specs.Prelude.{◌+◌, ◌-◌, ◌*◌, ◌≤◌, ℕ, ℤ, List, length, Option, Some, None, nat_lt, min, if◌then◌else◌}
 use Rattle.fastlanes.specs.Counts.{Counts}
 use Rattle.fl_types.specs.declared.dtype.PType.{PType}
-use Rattle.fl_types.specs.Bits.{table}
+use Rattle.fl_types.specs.Bits.{tabulate}
 use Rattle.fl_bitpacking.specs.Blocks.{global_blocks, item_of_blocks}
 
 -- blocks of which those from the next one up to the end are still to be unpacked, and what was unpacked so far
@@ -15,7 +15,7 @@ pub record WholeBlocks : Type 0 where
 
 -- this many items of blocks of one width, from a position on
 abbrev pub block_items_at : PType → ℕ → List ℕ → ℕ → ℕ → List ℤ
-block_items_at ptype bit_width packed from count = table (λ k. item_of_blocks ptype (global_blocks bit_width) packed (from + k)) count
+block_items_at ptype bit_width packed from count = tabulate (λ k. item_of_blocks ptype (global_blocks bit_width) packed (from + k)) count
 
 -- the counts after one more block is unpacked
 abbrev pub one_more : Counts → Counts

@@ -7,10 +7,10 @@ ghost use Rattle.fl_bitpacking.specs.BlockSums.{decoded_item};
 ghost use Rattle.fl_bitpacking.specs.Blocks.{block_item, blocks_of, bytes_of_block, global_blocks, value_at};
 ghost use Rattle.fl_bitpacking.specs.Parts.{AreReadable, blocks_in};
 
-use crate::block_decoding::BlockDecoder;
+use crate::bitpack_decompress::block_decoding::BlockDecoder;
 use fastlanes::{FL_CHUNK_SIZE, Work};
-use fl_bit_widths::Widths;
 use fl_column::chunk_count;
+use fl_patches::Widths;
 use fl_types::NativePType;
 
 /// The bytes of the block that starts there.

@@ -1,7 +1,7 @@
 //! The boundaries of blocks that each have a width.
 
 ghost use Rattle.std.specs.Prelude.{◌≡◌, ◌+◌, ◌*◌, ◌<◌, ◌≤◌, ◌^◌, [], IfOk, Ok, SomeIff, length, replicate, sum, vec_capacity};
-ghost use Rattle.fl_types.specs.Bits.{table};
+ghost use Rattle.fl_types.specs.Bits.{tabulate};
 ghost use Rattle.fl_types.specs.Refusals.{Answers};
 ghost use Rattle.fl_bitpacking.specs.Blocks.{boundaries_of, boundary_array};
 
@@ -67,7 +67,7 @@ pub(crate) fn boundary_array(
 fn multiples(alloc: Global, step: u64, count: usize) -> Result<Vec<u64>, AllocError>
     requires small { step * count < 2 ^ 64 }
     requires few { count + 1 < 2 ^ 64 }
-    ensures { IfOk result (λ v. v.items ≡ table (λ j. step * j) (count + 1)) }
+    ensures { IfOk result (λ v. v.items ≡ tabulate (λ j. step * j) (count + 1)) }
 {
     let mut numbers = Vec::with_capacity(alloc, count + 1)?;
     write_multiples(step, count, &mut numbers);
@@ -80,7 +80,7 @@ fn write_multiples(step: u64, count: usize, numbers: &mut Vec<u64>)
     requires few { count + 1 < 2 ^ 64 }
     requires empty { numbers.old.items ≡ [] }
     requires room { count < vec_capacity numbers.old }
-    ensures { numbers.new.items ≡ table (λ j. step * j) (count + 1) }
+    ensures { numbers.new.items ≡ tabulate (λ j. step * j) (count + 1) }
 {
     for j in 0..count + 1 {
         numbers.push_reserved(step * j as u64);

@@ -8,7 +8,7 @@ ghost use Rattle.fl_types.specs.Validities.{covers};
 ghost use Rattle.fl_column.specs.Columns.{PrimitiveParts, column_of_primitive};
 ghost use Rattle.fl_column.specs.Chunks.{chunk_count};
 ghost use Rattle.fl_patches.specs.PatchMaps.{PatchesParts};
-ghost use Rattle.fl_bit_widths.specs.PatchParts.{blocked_patches, global_patches};
+ghost use Rattle.fl_patches.specs.PatchParts.{blocked_patches, global_patches};
 ghost use Rattle.fl_bitpacking.specs.Blocks.{ArePacked, AreWords, Blocks, boundary_blocks, boundaries_of, global_blocks, pattern_in};
 ghost use Rattle.fl_bitpacking.specs.Columns.{column_of_packed};
 ghost use Rattle.fl_bitpacking.specs.Readers.{Reader, items_in_parts};

@@ -22,9 +22,9 @@ ghost use Rattle.fl_bitpacking.specs.Refusals.{AreConsistent, blocked_refusal, g
 ghost use Rattle.fl_bitpacking.specs.SingleItems.{HasBlock, item_in_block, stored_in_block, stored_scalar};
 ghost use Rattle.fl_bitpacking.specs.SlicedParts.{HasEnds, IsBlockedSlice, end_block, first_block, sliced_parts};
 
+use crate::bitpack_decompress::unfor::{References, unfor_blocked, unfor_global};
+use crate::bitpack_decompress::{PackedColumn, unpack_block_item, unpack_blocked, unpack_global};
 use crate::boundaries::global_boundary_array;
-use crate::decoding::{PackedColumn, unpack_block_item, unpack_blocked, unpack_global};
-use crate::for_decoding::{References, unfor_blocked, unfor_global};
 use bytes::Bytes;
 use fastlanes::{FL_CHUNK_SIZE, Work};
 use fl_column::{ConstantArray, PhysicalPType, PrimitiveArray, chunk_count};
@@ -250,7 +250,7 @@ impl PackedData {
         requires width { width ≤ bits_of_type self.now.ptype }
         requires room { 128 * width * block_count self.now ≤ length self.now.packed }
         ensures column { Answers column_of_primitive result (Ok (column_of_packed self.now (global_blocks width))) }
-        ensures blocks { OnOk result (work.new.blocks ≤ work.old.blocks + block_count self.now) }
+        ensures blocks { work.new.blocks ≤ work.old.blocks + block_count self.now }
         ensures words { work.new.words ≡ work.old.words }
     {
         self.prove_well_formed();
@@ -267,7 +267,7 @@ impl PackedData {
         requires count { length boundaries.now.slots ≡ block_count self.now + 1 }
         requires blocks { IsTrue (are_blocks (bits_of_type self.now.ptype) (length self.now.packed) (numbers boundaries.now)) }
         ensures column { Answers column_of_primitive result (Ok (column_of_packed self.now (boundary_blocks (numbers boundaries.now)))) }
-        ensures blocks { OnOk result (work.new.blocks ≤ work.old.blocks + block_count self.now) }
+        ensures blocks { work.new.blocks ≤ work.old.blocks + block_count self.now }
         ensures words { work.new.words ≡ work.old.words }
     {
         self.prove_well_formed();
@@ -282,7 +282,7 @@ impl PackedData {
         work: &mut Work,
     ) -> Result<PrimitiveArray, FastLanesError>
         ensures column { Answers column_of_primitive result (Ok (column_of_packed self.now (boundary_blocks (numbers_of (column_of_constant boundaries.now))))) }
-        ensures blocks { OnOk result (work.new.blocks ≤ work.old.blocks + block_count self.now) }
+        ensures blocks { work.new.blocks ≤ work.old.blocks + block_count self.now }
         ensures words { work.new.words ≡ work.old.words }
     {
         self.decode_global(alloc, 0, work)
@@ -301,6 +301,7 @@ impl PackedData {
         requires room { 128 * width * block_count self.now ≤ length self.now.packed }
         ensures column { Answers column_of_primitive result (Ok (plus_references references.entry self.now.offset (column_of_packed self.now (global_blocks width)))) }
         ensures blocks { OnOk result (work.new.blocks ≡ min (work.old.blocks + block_count self.now) u64.MAX) }
+        ensures most { work.new.blocks ≤ work.old.blocks + block_count self.now }
         ensures words { work.new.words ≡ work.old.words }
     {
         self.prove_well_formed();
@@ -321,6 +322,7 @@ impl PackedData {
         requires blocks { IsTrue (are_blocks (bits_of_type self.now.ptype) (length self.now.packed) (numbers boundaries.now)) }
         ensures column { Answers column_of_primitive result (Ok (plus_references references.entry self.now.offset (column_of_packed self.now (boundary_blocks (numbers boundaries.now))))) }
         ensures blocks { OnOk result (work.new.blocks ≡ min (work.old.blocks + block_count self.now) u64.MAX) }
+        ensures most { work.new.blocks ≤ work.old.blocks + block_count self.now }
         ensures words { work.new.words ≡ work.old.words }
     {
         self.prove_well_formed();

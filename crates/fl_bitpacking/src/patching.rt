@@ -7,7 +7,7 @@ ghost use Rattle.fl_bitpacking.specs.Blocks.{value_at};
 ghost use Rattle.fl_bitpacking.specs.BlockSums.{plus_block_reference};
 ghost use Rattle.fl_bitpacking.specs.Placed.{ArePlaced, value_beside};
 
-use crate::block_decoding::plus_reference;
+use crate::bitpack_decompress::block_decoding::plus_reference;
 use fastlanes::FL_CHUNK_SIZE;
 use fl_column::{PrimitiveArray, number_at};
 use fl_patches::Patches;

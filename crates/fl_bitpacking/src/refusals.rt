@@ -10,8 +10,8 @@ ghost use Rattle.fl_bitpacking.specs.Columns.{block_count};
 ghost use Rattle.fl_bitpacking.specs.Parts.{parts_of};
 ghost use Rattle.fl_bitpacking.specs.Refusals.{blocked_refusal, boundaries_refusal, validity_and_patches_refusal, block_offsets_refusal, global_refusal, positions_refusal};
 
+use crate::bitpack_decompress::PackedColumn;
 use crate::boundary_checks::{are_blocks, is_span};
-use crate::decoding::PackedColumn;
 use fastlanes::FL_CHUNK_SIZE;
 use fl_column::{ConstantArray, PrimitiveArray, chunk_count};
 use fl_patches::Patches;

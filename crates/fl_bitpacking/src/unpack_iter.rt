@@ -1,19 +1,25 @@
 //! Reading packed columns block by block.
 
+mod bit_unpack_iterator;
+mod bit_unpacked_chunks;
+mod cut_blocks;
+mod unpacked_block;
+mod unpacked_items;
+
 ghost use Rattle.std.specs.Prelude.{◌≡◌, ◌+◌, ◌*◌, ◌<◌, ◌≤◌, ℕ, List, Option, length, min};
 ghost use Rattle.fl_types.specs.Integers.{bits_of_type};
 ghost use Rattle.fl_bitpacking.specs.Blocks.{block_item, value_at};
 
 pub use crate::bit_packed::{BitCount, BitPacked};
-pub use crate::bit_unpack_iterator::BitUnpackIterator;
-pub use crate::bit_unpacked_chunks::BitUnpackedChunks;
-use crate::block_decoding::AsStored;
+use crate::bitpack_decompress::block_decoding::AsStored;
 use crate::blocks::PackedBlocks;
-use crate::cut_blocks::{lends_first, lends_last, unpack_at, whole_blocks};
-use crate::unpacked_items::Span;
-pub use crate::unpacked_items::UnpackedItems;
+pub use crate::unpack_iter::bit_unpack_iterator::BitUnpackIterator;
+pub use crate::unpack_iter::bit_unpacked_chunks::BitUnpackedChunks;
+use crate::unpack_iter::cut_blocks::{lends_first, lends_last, unpack_at, whole_blocks};
+use crate::unpack_iter::unpacked_items::Span;
+pub use crate::unpack_iter::unpacked_items::UnpackedItems;
 use fastlanes::{FL_CHUNK_SIZE, Work};
-use fl_bit_widths::Widths;
+use fl_patches::Widths;
 use fl_types::{FastLanesError, NativePType};
 use std::marker::Model;
 

@@ -9,7 +9,7 @@ use Rattle.std.proofs.lemmas.List.FromFn.{fill_by_all}
 use Rattle.fastlanes.proofs.Patterns.{pattern_at_take}
 use Rattle.std.proofs.lemmas.Nat.{div-mul-add, mod-mul-add}
 use Rattle.fl_types.specs.declared.dtype.PType.{PType}
-use Rattle.fl_types.specs.Bits.{table}
+use Rattle.fl_types.specs.Bits.{tabulate}
 use Rattle.fl_types.specs.Integers.{bits_of_type, fits, lanes_of_type, pattern_of, read_as, wrap}
 use Rattle.fastlanes.specs.Layout.{pattern_at, place, segment, row_of, lane_of, IsWordWidth, bits_8, bits_16, bits_32, bits_64}
 use Rattle.fastlanes.specs.Delta.{Transposed, item_before, item_delta}
@@ -67,7 +67,7 @@ map-map : {A B C : Type 0} (f : A → B) (g : B → C) (xs : List A) → map g (
 map-map f g [] = refl
 map-map f g (x ∷ xs) = ap (λ ys. g (f x) ∷ ys) (map-map f g xs)
 
-pub values_table : {W A : Type 0} (pattern : W → ℕ) (read : ℕ → A) (words : List W) (f : ℕ → A) (n : ℕ) → length words ≡ n → ((i : ℕ) → i < n → read (pattern_at pattern words i) ≡ f i) → map (λ w. read (pattern w)) words ≡ table f n
+pub values_table : {W A : Type 0} (pattern : W → ℕ) (read : ℕ → A) (words : List W) (f : ℕ → A) (n : ℕ) → length words ≡ n → ((i : ℕ) → i < n → read (pattern_at pattern words i) ≡ f i) → map (λ w. read (pattern w)) words ≡ tabulate f n
 unfolding pattern_at
 values_table pattern read words f n long each =
     sym (map-map pattern read words) ∙ fill_by_all f (map read (map pattern words)) n (f 0) (length-map (map pattern words) read ∙ (length-map words pattern ∙ long))
@@ -79,8 +79,8 @@ values_table pattern read words f n long each =
 pub bases_of_chunk : {W : Type 0} (pattern : W → ℕ) (ptype : PType) (T lanes k : ℕ) (item : ℕ → ℤ) (block : ℕ → ℕ) (stored : List W) → IsWordWidth T lanes → T ≡ bits_of_type ptype → lanes ≤ length stored
     → ((q : ℕ) → q < 1024 → block q ≡ pattern_of ptype (item (1024 * k + q))) → ((q : ℕ) → q < 1024 → IsTrue (fits ptype (item (1024 * k + q))))
     → ((l : ℕ) → l < lanes → pattern_at pattern stored l ≡ block (segment l))
-    → (before : List ℤ) → before ≡ table (base_of (lanes_of_type ptype) item) (lanes_of_type ptype * k)
-    → before ++ map (λ w. read_as ptype (pattern w)) (take lanes stored) ≡ table (base_of (lanes_of_type ptype) item) (lanes_of_type ptype * (k + 1))
+    → (before : List ℤ) → before ≡ tabulate (base_of (lanes_of_type ptype) item) (lanes_of_type ptype * k)
+    → before ++ map (λ w. read_as ptype (pattern w)) (take lanes stored) ≡ tabulate (base_of (lanes_of_type ptype) item) (lanes_of_type ptype * (k + 1))
 bases_of_chunk pattern ptype T lanes k item block stored shape bits long here fit bases before is =
     let same : lanes_of_type ptype ≡ lanes = sym (lanes_is ptype T lanes shape bits) in
     let row = values_table pattern (read_as ptype) (take lanes stored) (λ l. base_of lanes item (lanes * k + l)) lanes (let taken = length-take lanes stored in omega arith)
@@ -90,8 +90,8 @@ bases_of_chunk pattern ptype T lanes k item block stored shape bits long here fi
     let lane_no : (lanes * k + l) % lanes ≡ l = rw (mul_comm lanes k) (mod-mul-add k lanes l h) in
     rw (block_no, lane_no) (ap (read_as ptype) (pattern_at_take pattern stored lanes l h ∙ (bases l h ∙ here (segment l) inside)) ∙ read_as-pattern_of ptype (item (1024 * k + segment l)) (fit (segment l) inside))) in
     let more : lanes * k + lanes ≡ lanes * (k + 1) = grind arith in
-    let so_far : before ≡ table (base_of lanes item) (lanes * k) = rw same at is in
-    rw same (ap (λ xs. xs ++ map (λ w. read_as ptype (pattern w)) (take lanes stored)) so_far ∙ (ap (λ ys. table (base_of lanes item) (lanes * k) ++ ys) row ∙ (table_append (base_of lanes item) (lanes * k) lanes ∙ ap (table (base_of lanes item)) more)))
+    let so_far : before ≡ tabulate (base_of lanes item) (lanes * k) = rw same at is in
+    rw same (ap (λ xs. xs ++ map (λ w. read_as ptype (pattern w)) (take lanes stored)) so_far ∙ (ap (λ ys. tabulate (base_of lanes item) (lanes * k) ++ ys) row ∙ (table_append (base_of lanes item) (lanes * k) lanes ∙ ap (tabulate (base_of lanes item)) more)))
 
 -- ---- a chunk's deltas
 delta_at : (ptype : PType) (k r l : ℕ) (item : ℕ → ℤ) (block : ℕ → ℕ) (T lanes : ℕ) → IsWordWidth T lanes → T ≡ bits_of_type ptype → r < T → l < lanes
@@ -109,8 +109,8 @@ delta_at ptype k (suc r) l item block T lanes shape bits p q here =
 pub deltas_of_chunk : {W : Type 0} (pattern : W → ℕ) (ptype : PType) (T lanes k : ℕ) (item : ℕ → ℤ) (block : ℕ → ℕ) (words : List W) → IsWordWidth T lanes → T ≡ bits_of_type ptype → length words ≡ 1024
     → ((q : ℕ) → q < 1024 → block q ≡ pattern_of ptype (item (1024 * k + q)))
     → ((r l : ℕ) → r < T → l < lanes → pattern_at pattern words (place r l) ≡ encoded_delta T block r l)
-    → (before : List ℤ) → before ≡ table (λ i. delta_of ptype item (i / 1024) (i % 1024)) (1024 * k)
-    → before ++ map (λ w. read_as ptype (pattern w)) words ≡ table (λ i. delta_of ptype item (i / 1024) (i % 1024)) (1024 * (k + 1))
+    → (before : List ℤ) → before ≡ tabulate (λ i. delta_of ptype item (i / 1024) (i % 1024)) (1024 * k)
+    → before ++ map (λ w. read_as ptype (pattern w)) words ≡ tabulate (λ i. delta_of ptype item (i / 1024) (i % 1024)) (1024 * (k + 1))
 unfolding delta_of
 deltas_of_chunk pattern ptype T lanes k item block words shape bits long here deltas before is =
     let same : lanes_of_type ptype ≡ lanes = sym (lanes_is ptype T lanes shape bits) in
@@ -123,7 +123,7 @@ deltas_of_chunk pattern ptype T lanes k item block words shape bits long here de
     let word : pattern_at pattern words q ≡ encoded_delta T block (row_of lanes q) (lane_of lanes q) = rw placed.0 at (deltas (row_of lanes q) (lane_of lanes q) placed.1 placed.2) in
     ap (read_as ptype) word ∙ (delta_at ptype k (row_of lanes q) (lane_of lanes q) item block T lanes shape bits placed.1 placed.2 here ∙ (rw (block_no, place_no, same) refl))) in
     let more : 1024 * k + 1024 ≡ 1024 * (k + 1) = omega arith in
-    ap (λ xs. xs ++ map (λ w. read_as ptype (pattern w)) words) is ∙ (ap (λ ys. table entry (1024 * k) ++ ys) chunk_words ∙ (table_append entry (1024 * k) 1024 ∙ ap (table entry) more))
+    ap (λ xs. xs ++ map (λ w. read_as ptype (pattern w)) words) is ∙ (ap (λ ys. tabulate entry (1024 * k) ++ ys) chunk_words ∙ (table_append entry (1024 * k) 1024 ∙ ap (tabulate entry) more))
 
 -- the bases and the deltas of all of a plain array's blocks
 pub compressed : (p : PrimitiveParts) (ptype : PType) (k : ℕ) (bases deltas : List ℤ) (x y : PrimitiveParts) → p.ptype ≡ ptype → k ≡ chunks_of (length (items_of_primitive p)) → bases ≡ bases_to ptype (items_of_primitive p) k → deltas ≡ deltas_to ptype (items_of_primitive p) k

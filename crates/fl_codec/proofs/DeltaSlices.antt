@@ -13,7 +13,7 @@ use Rattle.fl_types.specs.declared.dtype.DType.{DType}
 use Rattle.fl_types.specs.declared.dtype.DType.TheVariants as dtypes
 use Rattle.fl_types.specs.declared.validity.Validity.{Validity}
 use Rattle.fl_types.specs.declared.validity.Validity.TheVariants as valid
-use Rattle.fl_types.specs.Bits.{between, table}
+use Rattle.fl_types.specs.Bits.{between, tabulate}
 use Rattle.fl_types.specs.Integers.{bits_of_type, lanes_of_type, wrap}
 use Rattle.fl_types.specs.Types.{integer_type, is_integer, is_nullable, nullability_in, same_type}
 use Rattle.fl_types.specs.Validities.{covers, is_valid_at, nullability_of, validity_between}

@@ -12,7 +12,7 @@ use Rattle.fl_types.specs.declared.error.FastLanesError.{FastLanesError}
 use Rattle.fl_types.specs.Refusals.{Answers}
 use Rattle.fl_types.proofs.RefusalLaws.{Answers_view}
 use Rattle.fl_types.specs.declared.validity.Validity.{Validity}
-use Rattle.fl_types.specs.Bits.{table}
+use Rattle.fl_types.specs.Bits.{tabulate}
 use Rattle.fl_types.specs.Validities.{covers}
 use Rattle.fl_column.specs.Columns.{PrimitiveParts, column_of_primitive}
 use Rattle.fl_codec.specs.Deltas.{block_integer, delta_column, delta_integer, lane_sum}
@@ -65,7 +65,7 @@ patterns_of_part value ptype word xs m n size e room each i h =
     each i inside ∙ ap (pattern_of ptype) part
 
 -- the column of the blocks
-pub column_of_blocks : (ptype : PType) (bases deltas values : List ℤ) (v : Validity) (offset len : ℕ) (result : Result PrimitiveParts FastLanesError) → IsTrue (covers v len) → values ≡ table (λ i. delta_integer ptype bases deltas (offset + i)) len
+pub column_of_blocks : (ptype : PType) (bases deltas values : List ℤ) (v : Validity) (offset len : ℕ) (result : Result PrimitiveParts FastLanesError) → IsTrue (covers v len) → values ≡ tabulate (λ i. delta_integer ptype bases deltas (offset + i)) len
     → Answers (λ a. a) result (Ok (record { ptype = ptype; slots = values; validity = v })) → Answers column_of_primitive result (Ok (delta_column ptype bases deltas v offset len))
 column_of_blocks ptype bases deltas values v offset len result covered is made =
     Answers_view column_of_primitive result (record { ptype = ptype; slots = values; validity = v }) (delta_column ptype bases deltas v offset len)

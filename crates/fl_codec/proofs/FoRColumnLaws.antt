@@ -6,7 +6,7 @@ use Rattle.fl_types.specs.declared.dtype.PType.{PType}
 use Rattle.fl_types.specs.declared.error.FastLanesError.{FastLanesError}
 use Rattle.fl_types.specs.declared.validity.Validity.{Validity}
 use Rattle.fl_types.specs.declared.validity.Validity.TheVariants as valid
-use Rattle.fl_types.specs.Bits.{table}
+use Rattle.fl_types.specs.Bits.{tabulate}
 use Rattle.fl_types.specs.Integers.{wrap}
 use Rattle.fl_types.specs.Refusals.{Answers}
 use Rattle.fl_types.specs.Validities.{covers, is_valid_at, items_of, masked}
@@ -50,7 +50,7 @@ plus_item ptype reference slot true = refl
 plus_item ptype reference slot false = refl
 
 items_of-sums : (ptype : PType) (references : List ℤ) (offset : ℕ) (v : Validity) (slots : List ℤ) → IsTrue (covers v (length slots))
-    → items_of v (chunked_sums ptype references offset slots) ≡ table (λ i. plus_reference ptype (get_or references ((offset + i) / 1024) (pos 0)) (get_or (items_of v slots) i None)) (length (items_of v slots))
+    → items_of v (chunked_sums ptype references offset slots) ≡ tabulate (λ i. plus_reference ptype (get_or references ((offset + i) / 1024) (pos 0)) (get_or (items_of v slots) i None)) (length (items_of v slots))
 items_of-sums ptype references offset v slots covered =
     let sums = chunked_sums ptype references offset slots in
     let sum : ℕ → ℤ = λ i. wrap ptype (get_or slots i (pos 0) +ℤ get_or references ((offset + i) / 1024) (pos 0)) in
@@ -78,9 +78,9 @@ whole_ok x y m n e f h = let same : x ≡ y = cc in rw (← same) h
 
 -- ---- slots that a table gives
 -- the items of a table under a validity
-pub items_of-table : {A : Type 0} (f : ℕ → A) (v : Validity) (n : ℕ) → IsTrue (covers v n) → items_of v (table f n) ≡ table (λ i. if is_valid_at v i then Some (f i) else None) n
+pub items_of-table : {A : Type 0} (f : ℕ → A) (v : Validity) (n : ℕ) → IsTrue (covers v n) → items_of v (tabulate f n) ≡ tabulate (λ i. if is_valid_at v i then Some (f i) else None) n
 items_of-table f v n covered =
-    let long : length (table f n) ≡ n = length-table f n in
-    let covered_too : IsTrue (covers v (length (table f n))) = rw long covered in
-    fill_by_all (λ i. if is_valid_at v i then Some (f i) else None) (items_of v (table f n)) n None (length-items_of v (table f n) covered_too ∙ long)
-    (λ i h. get_or-items_of v (table f n) i (f 0) covered_too (rw long h) ∙ ap (λ z. cond (is_valid_at v i) (Some z) None) (get_or-table f n i (f 0) h))
+    let long : length (tabulate f n) ≡ n = length-table f n in
+    let covered_too : IsTrue (covers v (length (tabulate f n))) = rw long covered in
+    fill_by_all (λ i. if is_valid_at v i then Some (f i) else None) (items_of v (tabulate f n)) n None (length-items_of v (tabulate f n) covered_too ∙ long)
+    (λ i h. get_or-items_of v (tabulate f n) i (f 0) covered_too (rw long h) ∙ ap (λ z. cond (is_valid_at v i) (Some z) None) (get_or-table f n i (f 0) h))

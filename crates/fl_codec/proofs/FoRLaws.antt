@@ -7,7 +7,7 @@ use Rattle.std.proofs.lemmas.Bool.{true≢false}
 use Rattle.std.proofs.lemmas.List.{append-nil, get_or_push, get_or_append_left}
 use Rattle.fl_types.specs.Bits.{between}
 use Rattle.fl_column.proofs.ListLaws.{all_at, and_first, and_second, and_true, between_more, list_all-append}
-use Rattle.fl_codec.specs.FoRColumns.{lesser, valid_items}
+use Rattle.fl_codec.specs.FoRColumns.{min_valid, valid_items}
 
 int_le-refl : (z : ℤ) → int_le z z ≡ true
 int_le-refl z = grind (arith, ints)
@@ -61,21 +61,21 @@ least_of_two m z zs true e least =
 least_of_two m z zs false e least =
     ((least.0.0, (rw length-append (let h = least.0.1.0 in omega arith), get_or_append_left zs (z ∷ []) m least.0.0 least.0.1.0 ∙ least.0.1.1)), all_push m z zs least.1 (not_below m z e))
 
-least_push : (best : Option ℤ) (zs : List ℤ) (z : ℤ) → IsLeast best zs → IsLeast (lesser best (Some z)) (zs ++ z ∷ [])
+least_push : (best : Option ℤ) (zs : List ℤ) (z : ℤ) → IsLeast best zs → IsLeast (min_valid best (Some z)) (zs ++ z ∷ [])
 least_push None zs z e = rw e ((0, (lit< tt, refl)), and_true (int_le z z) true (int_le-refl z) refl)
 least_push (Some m) zs z least = least_of_two m z zs (int_lt z m) refl least
 
-lesser-none : (best : Option ℤ) → lesser best None ≡ best
-lesser-none None = refl
-lesser-none (Some m) = refl
+min_valid-none : (best : Option ℤ) → min_valid best None ≡ best
+min_valid-none None = refl
+min_valid-none (Some m) = refl
 
 -- one more item
-pub least_more : (best : Option ℤ) (xs : List (Option ℤ)) (x : Option ℤ) → IsLeast best (valid_items xs) → IsLeast (lesser best x) (valid_items (xs ++ x ∷ []))
-least_more best xs None least = rw (filter_map-append (λ (item : Option ℤ). item) xs (None ∷ []), append-nil, lesser-none) least
+pub least_more : (best : Option ℤ) (xs : List (Option ℤ)) (x : Option ℤ) → IsLeast best (valid_items xs) → IsLeast (min_valid best x) (valid_items (xs ++ x ∷ []))
+least_more best xs None least = rw (filter_map-append (λ (item : Option ℤ). item) xs (None ∷ []), append-nil, min_valid-none) least
 least_more best xs (Some z) least = rw (filter_map-append (λ (item : Option ℤ). item) xs (Some z ∷ [])) (least_push best (valid_items xs) z least)
 
 -- the same, of a list that a loop has read up to item i
-pub least_between_more : (best : Option ℤ) (xs : List (Option ℤ)) (start i : ℕ) → start ≤ i → i < length xs → IsLeast best (valid_items (between start i xs)) → IsLeast (lesser best (get_or xs i None)) (valid_items (between start (i + 1) xs))
+pub least_between_more : (best : Option ℤ) (xs : List (Option ℤ)) (start i : ℕ) → start ≤ i → i < length xs → IsLeast best (valid_items (between start i xs)) → IsLeast (min_valid best (get_or xs i None)) (valid_items (between start (i + 1) xs))
 least_between_more best xs start i order within least =
     let here : start + (i - start) ≡ i = omega arith in
     let next : start + (i - start + 1) ≡ i + 1 = omega arith in

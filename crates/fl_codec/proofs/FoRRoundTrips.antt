@@ -10,7 +10,7 @@ use Rattle.fl_types.specs.declared.dtype.PType.{PType}
 use Rattle.fl_types.specs.declared.dtype.Nullability.TheVariants.{Nullable}
 use Rattle.fl_types.specs.declared.dtype.DType.TheVariants.{Primitive}
 use Rattle.fl_types.specs.declared.validity.Validity.{Validity}
-use Rattle.fl_types.specs.Bits.{table}
+use Rattle.fl_types.specs.Bits.{tabulate}
 use Rattle.fl_types.specs.Integers.{bits_of_type, fits, pattern_of, wrap}
 use Rattle.fl_types.specs.Validities.{covers, is_valid_at, items_of, nullability_of}
 use Rattle.fl_types.proofs.Patterns.{pattern_read}
@@ -21,7 +21,7 @@ use Rattle.std.proofs.lemmas.Bool.{ltb-true}
 use Rattle.fl_types.proofs.BitLists.{same_tables}
 use Rattle.fl_codec.specs.FoRColumns.{chunk_references, chunked_slots, common_reference, global_for, least_valid, minus_reference, plus_reference}
 use Rattle.fl_codec.specs.FoRValues.{column_of_for, column_of_one_reference}
-use Rattle.fl_codec.specs.Parts.{FoRParts, OneReference, encode_chunked, encode_global, items_of_primitive, less_chunk_leasts, less_common, less_least, less_reference, less_references}
+use Rattle.fl_codec.specs.Parts.{FoRParts, OneReference, encode_chunked, encode_global, items_of_primitive, less_chunk_leasts, less_common, subtract_min, subtract_reference, less_references}
 use Rattle.fl_codec.proofs.Congruence.{IsPattern, IsPattern-add, pattern_is, pattern_small, read_as-IsPattern}
 use Rattle.fl_codec.proofs.ReferenceLaws.{get_or-table, length-table}
 
@@ -66,37 +66,37 @@ item_back ptype r slot false fit = refl
 
 -- the items of slots that are each less a reference, each plus it
 pub slots_back : (ptype : PType) (reference : ℕ → ℤ) (v : Validity) (slots : List ℤ) → IsTrue (covers v (length slots)) → list_all (fits ptype) slots ≡ true
-    → table (λ i. plus_reference ptype (reference i) (get_or (items_of v (table (λ k. minus_reference ptype (reference k) (get_or (items_of v slots) k None)) (length slots))) i None)) (length slots) ≡ items_of v slots
+    → tabulate (λ i. plus_reference ptype (reference i) (get_or (items_of v (tabulate (λ k. minus_reference ptype (reference k) (get_or (items_of v slots) k None)) (length slots))) i None)) (length slots) ≡ items_of v slots
 slots_back ptype reference v slots covered fit =
     let less : ℕ → ℤ = λ k. minus_reference ptype (reference k) (get_or (items_of v slots) k None) in
-    let long : length (table less (length slots)) ≡ length slots = length-table less (length slots) in
-    let covered_too : IsTrue (covers v (length (table less (length slots)))) = rw long covered in
-    sym (fill_by_all (λ i. plus_reference ptype (reference i) (get_or (items_of v (table less (length slots))) i None)) (items_of v slots) (length slots) None (length-items_of v slots covered)
+    let long : length (tabulate less (length slots)) ≡ length slots = length-table less (length slots) in
+    let covered_too : IsTrue (covers v (length (tabulate less (length slots)))) = rw long covered in
+    sym (fill_by_all (λ i. plus_reference ptype (reference i) (get_or (items_of v (tabulate less (length slots))) i None)) (items_of v slots) (length slots) None (length-items_of v slots covered)
     (λ i h.
     let slot = get_or slots i (pos 0) in
     let item : get_or (items_of v slots) i None ≡ cond (is_valid_at v i) (Some slot) None = get_or-items_of v slots i (pos 0) covered h in
-    let stored : get_or (items_of v (table less (length slots))) i None ≡ cond (is_valid_at v i) (Some (minus_reference ptype (reference i) (cond (is_valid_at v i) (Some slot) None))) None =
-    get_or-items_of v (table less (length slots)) i (pos 0) covered_too (rw long h) ∙ ap (λ z. cond (is_valid_at v i) (Some z) None) (get_or-table less (length slots) i (pos 0) h ∙ ap (minus_reference ptype (reference i)) item) in
+    let stored : get_or (items_of v (tabulate less (length slots))) i None ≡ cond (is_valid_at v i) (Some (minus_reference ptype (reference i) (cond (is_valid_at v i) (Some slot) None))) None =
+    get_or-items_of v (tabulate less (length slots)) i (pos 0) covered_too (rw long h) ∙ ap (λ z. cond (is_valid_at v i) (Some z) None) (get_or-table less (length slots) i (pos 0) h ∙ ap (minus_reference ptype (reference i)) item) in
     item ∙ sym (ap (plus_reference ptype (reference i)) stored ∙ item_back ptype (reference i) slot (is_valid_at v i) (all_at (fits ptype) slots i (pos 0) fit h))))
 
-map_table : {A B : Type 0} (f : A → B) (xs : List A) (n : ℕ) (d : A) → length xs ≡ n → map f xs ≡ table (λ i. f (get_or xs i d)) n
+map_table : {A B : Type 0} (f : A → B) (xs : List A) (n : ℕ) (d : A) → length xs ≡ n → map f xs ≡ tabulate (λ i. f (get_or xs i d)) n
 map_table f xs n d long = fill_by_all (λ i. f (get_or xs i d)) (map f xs) n (f d) (length-map xs f ∙ long) (λ i h. get_or-map f xs i d (f d) (rw long h))
 
 -- ---- one reference
-pub less_reference_back : (p : PrimitiveParts) (r : ℤ) → IsTrue (covers p.validity (length p.slots)) → list_all (fits p.ptype) p.slots ≡ true → column_of_one_reference (less_reference p r) ≡ column_of_primitive p
+pub less_reference_back : (p : PrimitiveParts) (r : ℤ) → IsTrue (covers p.validity (length p.slots)) → list_all (fits p.ptype) p.slots ≡ true → column_of_one_reference (subtract_reference p r) ≡ column_of_primitive p
 less_reference_back p r covered fit =
     let each = length-items_of p.validity p.slots covered in
-    let slots : map (minus_reference p.ptype r) (items_of p.validity p.slots) ≡ table (λ k. minus_reference p.ptype r (get_or (items_of p.validity p.slots) k None)) (length p.slots) = map_table (minus_reference p.ptype r) (items_of p.validity p.slots) (length p.slots) None each in
-    let less = table (λ k. minus_reference p.ptype r (get_or (items_of p.validity p.slots) k None)) (length p.slots) in
+    let slots : map (minus_reference p.ptype r) (items_of p.validity p.slots) ≡ tabulate (λ k. minus_reference p.ptype r (get_or (items_of p.validity p.slots) k None)) (length p.slots) = map_table (minus_reference p.ptype r) (items_of p.validity p.slots) (length p.slots) None each in
+    let less = tabulate (λ k. minus_reference p.ptype r (get_or (items_of p.validity p.slots) k None)) (length p.slots) in
     let long : length less ≡ length p.slots = length-table (λ k. minus_reference p.ptype r (get_or (items_of p.validity p.slots) k None)) (length p.slots) in
     let covered_too : IsTrue (covers p.validity (length less)) = rw long covered in
     let items : map (plus_reference p.ptype r) (items_of p.validity less) ≡ items_of p.validity p.slots =
     map_table (plus_reference p.ptype r) (items_of p.validity less) (length p.slots) None (length-items_of p.validity less covered_too ∙ long) ∙ slots_back p.ptype (λ k. r) p.validity p.slots covered fit in
     ap (λ xs. record { dtype = Primitive p.ptype (nullability_of p.validity); items = xs }) (ap (λ zs. map (plus_reference p.ptype r) (items_of p.validity zs)) slots ∙ items)
 
-least_back : (p : PrimitiveParts) (least : Option ℤ) (parts : OneReference) → IsTrue (covers p.validity (length p.slots)) → list_all (fits p.ptype) p.slots ≡ true → less_least p least ≡ Ok parts → column_of_one_reference parts ≡ column_of_primitive p
+least_back : (p : PrimitiveParts) (least : Option ℤ) (parts : OneReference) → IsTrue (covers p.validity (length p.slots)) → list_all (fits p.ptype) p.slots ≡ true → subtract_min p least ≡ Ok parts → column_of_one_reference parts ≡ column_of_primitive p
 least_back p None parts covered fit e = cc
-least_back p (Some least) parts covered fit e = let same : less_reference p least ≡ parts = cc in subst (λ x. column_of_one_reference x ≡ column_of_primitive p) same (less_reference_back p least covered fit)
+least_back p (Some least) parts covered fit e = let same : subtract_reference p least ≡ parts = cc in subst (λ x. column_of_one_reference x ≡ column_of_primitive p) same (less_reference_back p least covered fit)
 
 pub global_back : (p : PrimitiveParts) (parts : OneReference) → IsTrue (covers p.validity (length p.slots)) → list_all (fits p.ptype) p.slots ≡ true → encode_global p ≡ Ok parts → column_of_one_reference parts ≡ column_of_primitive p
 global_back p parts covered fit e = least_back p (least_valid (items_of_primitive p)) parts covered fit e
@@ -107,16 +107,16 @@ less_references_back p references covered fit =
     let reference : ℕ → ℤ = λ i. get_or references (i / 1024) (pos 0) in
     let each = length-items_of p.validity p.slots covered in
     let less : ℕ → ℤ = λ k. minus_reference p.ptype (reference k) (get_or (items_of p.validity p.slots) k None) in
-    let stored : chunked_slots p.ptype references (items_of p.validity p.slots) ≡ table less (length p.slots) = ap (table less) each in
-    let long : length (table less (length p.slots)) ≡ length p.slots = length-table less (length p.slots) in
-    let covered_too : IsTrue (covers p.validity (length (table less (length p.slots)))) = rw long covered in
-    let count : length (items_of p.validity (table less (length p.slots))) ≡ length p.slots = length-items_of p.validity (table less (length p.slots)) covered_too ∙ long in
-    let shown : List ℤ → List (Option ℤ) = λ zs. table (λ i. plus_reference p.ptype (get_or references ((0 + i) / 1024) (pos 0)) (get_or (items_of p.validity zs) i None)) (length (items_of p.validity zs)) in
+    let stored : chunked_slots p.ptype references (items_of p.validity p.slots) ≡ tabulate less (length p.slots) = ap (tabulate less) each in
+    let long : length (tabulate less (length p.slots)) ≡ length p.slots = length-table less (length p.slots) in
+    let covered_too : IsTrue (covers p.validity (length (tabulate less (length p.slots)))) = rw long covered in
+    let count : length (items_of p.validity (tabulate less (length p.slots))) ≡ length p.slots = length-items_of p.validity (tabulate less (length p.slots)) covered_too ∙ long in
+    let shown : List ℤ → List (Option ℤ) = λ zs. tabulate (λ i. plus_reference p.ptype (get_or references ((0 + i) / 1024) (pos 0)) (get_or (items_of p.validity zs) i None)) (length (items_of p.validity zs)) in
     let from_here : (i : ℕ) → 0 + i ≡ i = λ i. omega arith in
-    let items : shown (table less (length p.slots)) ≡ items_of p.validity p.slots =
-    ap (table (λ i. plus_reference p.ptype (get_or references ((0 + i) / 1024) (pos 0)) (get_or (items_of p.validity (table less (length p.slots))) i None))) count
-    ∙ (same_tables (λ i. plus_reference p.ptype (get_or references ((0 + i) / 1024) (pos 0)) (get_or (items_of p.validity (table less (length p.slots))) i None)) (λ i. plus_reference p.ptype (reference i) (get_or (items_of p.validity (table less (length p.slots))) i None)) (length p.slots)
-    (λ i h. ap (λ n. plus_reference p.ptype (get_or references (n / 1024) (pos 0)) (get_or (items_of p.validity (table less (length p.slots))) i None)) (from_here i))
+    let items : shown (tabulate less (length p.slots)) ≡ items_of p.validity p.slots =
+    ap (tabulate (λ i. plus_reference p.ptype (get_or references ((0 + i) / 1024) (pos 0)) (get_or (items_of p.validity (tabulate less (length p.slots))) i None))) count
+    ∙ (same_tables (λ i. plus_reference p.ptype (get_or references ((0 + i) / 1024) (pos 0)) (get_or (items_of p.validity (tabulate less (length p.slots))) i None)) (λ i. plus_reference p.ptype (reference i) (get_or (items_of p.validity (tabulate less (length p.slots))) i None)) (length p.slots)
+    (λ i h. ap (λ n. plus_reference p.ptype (get_or references (n / 1024) (pos 0)) (get_or (items_of p.validity (tabulate less (length p.slots))) i None)) (from_here i))
     ∙ slots_back p.ptype reference p.validity p.slots covered fit) in
     ap (λ xs. record { dtype = Primitive p.ptype (nullability_of p.validity); items = xs }) (ap shown stored ∙ items)
 

@@ -7,7 +7,7 @@ use Rattle.fl_types.specs.declared.dtype.Nullability.{Nullability}
 use Rattle.fl_types.specs.declared.dtype.Nullability.TheVariants.{NonNullable, Nullable}
 use Rattle.fl_types.specs.declared.validity.Validity.{Validity}
 use Rattle.fl_types.specs.declared.validity.Validity.TheVariants as valid
-use Rattle.fl_types.specs.Bits.{between, table}
+use Rattle.fl_types.specs.Bits.{between, tabulate}
 use Rattle.fl_types.specs.Validities.{nullability_of}
 use Rattle.fl_types.specs.Values.{ScalarParts}
 use Rattle.fl_types.proofs.BitLists.{same_tables}
@@ -52,7 +52,7 @@ slice_of_chunked references offset c start end order range =
     let here = get_or-between c.items start end i None h in
     rw (reference, here) refl) in
     let long = length-between c.items start end order range in
-    let items : between start end (table item (length c.items)) ≡ table later (length (between start end c.items)) = part ∙ same ∙ (rw long refl) in
+    let items : between start end (tabulate item (length c.items)) ≡ tabulate later (length (between start end c.items)) = part ∙ same ∙ (rw long refl) in
     ap (λ (xs : List (Option ℤ)). record { dtype = c.dtype; items = xs }) items
 
 pub item_of_chunked : (references : List ℤ) (offset : ℕ) (c : Column) (i : ℕ) → i < length c.items → scalar_in (chunked_for references offset c) i ≡ scalar_plus (get_or references ((offset + i) / 1024) (pos 0)) (ptype_of_column c) (scalar_in c i)

@@ -5,7 +5,7 @@ use Rattle.std.proofs.lemmas.Bool.{cases_lt, cases_eq}
 use Rattle.std.proofs.lemmas.List.{get_or-drop, get_or-take, get_or-append_right, get_or_append_left, get_or_past, take_all}
 use Rattle.std.proofs.Common.{length-append}
 use Rattle.std.proofs.lemmas.List.FromFn.{fill_by_all}
-use Rattle.fl_types.specs.Bits.{table}
+use Rattle.fl_types.specs.Bits.{tabulate}
 use Rattle.fl_codec.specs.Chunks.{chunk}
 use Rattle.fl_codec.specs.ForwardFill.{Carry, Reset, carried_to, either, fill_forward, filled_from, last_some}
 use Rattle.fl_codec.proofs.ReferenceLaws.{get_or-table, last_more, length-table, unwrap_or-either}
@@ -60,16 +60,16 @@ below_next P i below here j h = elim (cases_eq j i) [
 ]
 
 -- ---- tables, one behind the other
-pub table_append : {A : Type 0} (f : ℕ → A) (m n : ℕ) → table f m ++ table (λ i. f (m + i)) n ≡ table f (m + n)
+pub table_append : {A : Type 0} (f : ℕ → A) (m n : ℕ) → tabulate f m ++ tabulate (λ i. f (m + i)) n ≡ tabulate f (m + n)
 table_append f m n =
     let g = λ (i : ℕ). f (m + i) in
     let first = length-table f m in
-    fill_by_all f (table f m ++ table g n) (m + n) (f 0) (rw (length-append, length-table f m, length-table g n) refl)
+    fill_by_all f (tabulate f m ++ tabulate g n) (m + n) (f 0) (rw (length-append, length-table f m, length-table g n) refl)
     (λ k h. elim (cases_lt k m) [
-      | inl low ↦ get_or_append_left (table f m) (table g n) (f 0) k (omega arith) ∙ get_or-table f m k (f 0) low
+      | inl low ↦ get_or_append_left (tabulate f m) (tabulate g n) (f 0) k (omega arith) ∙ get_or-table f m k (f 0) low
       | inr high ↦
           let place : m + (k - m) ≡ k = omega arith in
-          get_or-append_right (table f m) (table g n) m k (f 0) first high ∙ (get_or-table g n (k - m) (f 0) (omega arith) ∙ ap f place)
+          get_or-append_right (tabulate f m) (tabulate g n) m k (f 0) first high ∙ (get_or-table g n (k - m) (f 0) (omega arith) ∙ ap f place)
     ])
 
 -- ---- the filled list, chunk by chunk

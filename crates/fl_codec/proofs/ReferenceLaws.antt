@@ -6,7 +6,7 @@ use Rattle.std.proofs.lemmas.List.{take_more, drop_more}
 use Rattle.std.proofs.lemmas.List.FromFn.{get_or-map-range_with_len, length-map-range_with_len, map-range_with_len_more}
 use Rattle.std.proofs.lemmas.Bool.{cases_lt, true≢false}
 use Rattle.std.proofs.lemmas.Bool.Decides.{Decides-int_eq}
-use Rattle.fl_types.specs.Bits.{table}
+use Rattle.fl_types.specs.Bits.{tabulate}
 use Rattle.std.proofs.Common.{subst, IsTrue, is_none, length-drop, ◌-◌, ◌*◌, min}
 use Rattle.std.proofs.lemmas.List.{get_or-map, length-map, map-append, map_more, take_all}
 use Rattle.fl_types.specs.Bits.{between}
@@ -49,13 +49,13 @@ unwrap_or-option_map f (Some x) d = refl
 unwrap_or-option_map f None d = refl
 
 -- ---- tables
-pub get_or-table : {A : Type 0} (f : ℕ → A) (n k : ℕ) (d : A) → k < n → get_or (table f n) k d ≡ f k
+pub get_or-table : {A : Type 0} (f : ℕ → A) (n k : ℕ) (d : A) → k < n → get_or (tabulate f n) k d ≡ f k
 get_or-table f n k d h = get_or-map-range_with_len f 0 n k k d h (omega arith)
 
-pub length-table : {A : Type 0} (f : ℕ → A) (n : ℕ) → length (table f n) ≡ n
+pub length-table : {A : Type 0} (f : ℕ → A) (n : ℕ) → length (tabulate f n) ≡ n
 length-table f n = length-map-range_with_len f 0 n
 
-pub table_more : {A : Type 0} (f : ℕ → A) (n : ℕ) → table f (n + 1) ≡ table f n ++ f n ∷ []
+pub table_more : {A : Type 0} (f : ℕ → A) (n : ℕ) → tabulate f (n + 1) ≡ tabulate f n ++ f n ∷ []
 table_more f n = map-range_with_len_more f 0 n n (omega arith)
 
 -- ---- references
@@ -114,7 +114,7 @@ chunk_reached xs k end h e = rw e (between_beyond xs (1024 * k) (1024 * (k + 1))
 
 -- ---- lists that a loop makes
 -- one more element of a list that is a table, seen through its values
-pub table_push : {A B : Type 0} (value : A → B) (f : ℕ → B) (new old : List A) (x : A) (n : ℕ) → new ≡ old ++ x ∷ [] → map value old ≡ table f n → value x ≡ f n → map value new ≡ table f (n + 1)
+pub table_push : {A B : Type 0} (value : A → B) (f : ℕ → B) (new old : List A) (x : A) (n : ℕ) → new ≡ old ++ x ∷ [] → map value old ≡ tabulate f n → value x ≡ f n → map value new ≡ tabulate f (n + 1)
 table_push value f new old x n pushed before here = rw (pushed, map-append, before, here) (sym (table_more f n))
 
 -- one more element of a list that is mapped, seen through its values

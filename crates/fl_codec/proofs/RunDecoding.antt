@@ -13,7 +13,7 @@ use Rattle.fl_types.specs.declared.validity.Validity.{Validity}
 use Rattle.fl_types.specs.declared.validity.Validity.TheVariants as valid
 use Rattle.fl_types.specs.Integers.{is_unsigned}
 use Rattle.fl_types.specs.Types.{can_be_null, is_index_type}
-use Rattle.fl_types.specs.Bits.{table}
+use Rattle.fl_types.specs.Bits.{tabulate}
 use Rattle.fl_types.specs.Validities.{covers, is_valid_at, items_of, nullability_of, validity_between}
 use Rattle.fl_types.proofs.BitLists.{same_tables}
 use Rattle.fl_column.specs.Columns.{Column, PrimitiveParts, column_of_primitive, integers_in, numbers_of}
@@ -182,7 +182,7 @@ one_item g true slot x e = rw e refl
 one_item g false slot x e = rw e refl
 
 pub decoded : (parts : RunParts) (offset len : ℕ) (ptype : PType) (slots : List ℤ) (v : Validity) (a : PrimitiveParts) → IsTrue (covers parts.indices.validity (length parts.indices.slots)) → offset + len ≤ length parts.indices.slots → parts.values.ptype ≡ ptype
-    → slots ≡ table (λ i. run_integer parts.values.slots (items_of_primitive parts.indices) (run_offsets_of parts) (offset + i)) len → v ≡ validity_between offset (offset + len) parts.indices.validity → a ≡ record { ptype = ptype; slots = slots; validity = v }
+    → slots ≡ tabulate (λ i. run_integer parts.values.slots (items_of_primitive parts.indices) (run_offsets_of parts) (offset + i)) len → v ≡ validity_between offset (offset + len) parts.indices.validity → a ≡ record { ptype = ptype; slots = slots; validity = v }
     → column_of_primitive a ≡ run_column parts offset len
 decoded parts offset len ptype slots v a covered room same is shown made =
     let indices = parts.indices in
@@ -196,5 +196,5 @@ decoded parts offset len ptype slots v a covered room same is shown made =
     let item = get_or-items_of indices.validity indices.slots (offset + i) (pos 0) covered inside in
     let read : ℤ → ℤ = λ z. get_or parts.values.slots (chunk_start (run_offsets_of parts) ((offset + i) / 1024) + unsigned_abs z) (pos 0) in
     ap (λ b. cond b (Some (integer i)) None) (valid_shown indices.validity offset len i h) ∙ one_item read (is_valid_at indices.validity (offset + i)) (get_or indices.slots (offset + i) (pos 0)) (get_or items (offset + i) None) item) in
-    let all : items_of between (table integer len) ≡ table (λ i. run_item parts.values.slots items (run_offsets_of parts) (offset + i)) len = items_of-table integer between len part ∙ each in
+    let all : items_of between (tabulate integer len) ≡ tabulate (λ i. run_item parts.values.slots items (run_offsets_of parts) (offset + i)) len = items_of-table integer between len part ∙ each in
     rw (made, is, shown, ← same, nullability_of-between indices.validity offset (offset + len), all) refl

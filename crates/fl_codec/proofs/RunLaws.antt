@@ -19,7 +19,7 @@ use Rattle.fl_types.specs.declared.validity.Validity.{Validity}
 use Rattle.fl_types.specs.declared.validity.Validity.TheVariants as valid
 use Rattle.fl_types.specs.Validities.{covers}
 use Rattle.fl_column.specs.Columns.{PrimitiveParts}
-use Rattle.fl_types.specs.Bits.{table}
+use Rattle.fl_types.specs.Bits.{tabulate}
 use Rattle.fl_types.specs.Integers.{fits, pattern_of, read_as}
 use Rattle.fl_codec.specs.ForwardFill.{Reset, fill_forward}
 use Rattle.fl_codec.specs.Chunks.{chunks_of}
@@ -79,12 +79,12 @@ values_next item k n =
     rw (range_to_more n) (ap (λ ys. item (1024 * k) ∷ map (λ t. item (1024 * k + (t + 1))) ys) (filter-append (differs_next item k) (range_with_len 0 n) (n ∷ []))
     ∙ ap (λ ys. item (1024 * k) ∷ ys) (map-append (λ t. item (1024 * k + (t + 1))) (filter (differs_next item k) (range_with_len 0 n)) (cond (differs_next item k n) (n ∷ []) [])))
 
-value_next : (item : ℕ → ℤ) (value : ℕ → ℤ) (k n count : ℕ) (b : Bool) (before : List ℤ) → table value (count + 1) ≡ before → (b ≡ true → value (count + 1) ≡ item (1024 * k + (n + 1)))
-    → table value (count + bit_value b + 1) ≡ before ++ map (λ t. item (1024 * k + (t + 1))) (cond b (n ∷ []) [])
+value_next : (item : ℕ → ℤ) (value : ℕ → ℤ) (k n count : ℕ) (b : Bool) (before : List ℤ) → tabulate value (count + 1) ≡ before → (b ≡ true → value (count + 1) ≡ item (1024 * k + (n + 1)))
+    → tabulate value (count + bit_value b + 1) ≡ before ++ map (λ t. item (1024 * k + (t + 1))) (cond b (n ∷ []) [])
 value_next item value k n count true before e here = table_more value (count + 1) ∙ (rw (e, here refl) refl)
 value_next item value k n count false before e here = let none : count + 0 + 1 ≡ count + 1 = omega arith in rw (none, append-nil) e
 
-run_values : (item : ℕ → ℤ) (value : ℕ → ℤ) (k n : ℕ) → ((q : ℕ) → q < n + 1 → value (run_index item k q) ≡ item (1024 * k + q)) → table value (run_index item k n + 1) ≡ values_up_to item k n
+run_values : (item : ℕ → ℤ) (value : ℕ → ℤ) (k n : ℕ) → ((q : ℕ) → q < n + 1 → value (run_index item k q) ≡ item (1024 * k + q)) → tabulate value (run_index item k n + 1) ≡ values_up_to item k n
 run_values item value k zero here =
     let none = counted_zero (differs_next item k) in
     let first : value 0 ≡ item (1024 * k) = ap value (sym none) ∙ (here 0 (omega arith) ∙ ap item (omega arith)) in
@@ -92,7 +92,7 @@ run_values item value k zero here =
 run_values item value k (suc n) here =
     let next = counted_next (differs_next item k) n in
     let last : value (run_index item k (n + 1)) ≡ item (1024 * k + (n + 1)) = here (n + 1) (omega arith) in
-    subst (λ m. table value (run_index item k m + 1) ≡ values_up_to item k m) (add-one n) (ap (λ m. table value (m + 1)) next
+    subst (λ m. tabulate value (run_index item k m + 1) ≡ values_up_to item k m) (add-one n) (ap (λ m. tabulate value (m + 1)) next
     ∙ (value_next item value k n (run_index item k n) (differs_next item k n) (values_up_to item k n) (run_values item value k n (λ q h. here q (omega arith)))
     (λ yes. ap value (sym (next ∙ ap (λ b. run_index item k n + bit_value b) yes)) ∙ last)
     ∙ sym (values_next item k n)))
@@ -108,7 +108,7 @@ values_of_chunk pattern ptype item k block rle count few is here fit runs_are =
     let long : length (take count rle) ≡ count = let taken = length-take count rle in omega arith in
     let counted_is : count ≡ run_index item k 1023 + 1 = is ∙ ap (λ n. n + 1) (changes_are ptype item k block 1023 last here fit) in
     values_table pattern (read_as ptype) (take count rle) value count long (λ i h. ap (read_as ptype) (pattern_at_take pattern rle count i h))
-    ∙ (ap (table value) counted_is
+    ∙ (ap (tabulate value) counted_is
     ∙ run_values item value k 1023 (λ q h.
     let inside : q < 1024 = omega arith in
     ap value (sym (changes_are ptype item k block q inside here fit)) ∙ (ap (read_as ptype) (runs_are q inside ∙ here q inside) ∙ read_as-pattern_of ptype (item (1024 * k + q)) (fit q inside))))
@@ -130,7 +130,7 @@ indices_of_chunk ptype items k block positions long here fit are =
     let block_no : (1024 * k + q) / 1024 ≡ k = omega arith in
     let place_no : (1024 * k + q) % 1024 ≡ q = omega arith in
     are q h ∙ (changes_are ptype item k block q h here fit ∙ (rw (block_no, place_no) refl))) in
-    ap (λ ys. indices_to items k ++ ys) now ∙ (table_append index (1024 * k) 1024 ∙ ap (table index) more)
+    ap (λ ys. indices_to items k ++ ys) now ∙ (table_append index (1024 * k) 1024 ∙ ap (tabulate index) more)
 
 -- ---- the validity of the indices
 pub covers-run_validity : (v : Validity) (len total : ℕ) → IsTrue (covers v len) → len ≤ total → IsTrue (covers (run_validity v len total) total)

@@ -13,7 +13,7 @@ use Rattle.fl_types.specs.declared.dtype.DType.TheVariants.{Primitive}
 use Rattle.fl_types.specs.declared.dtype.PType.TheVariants.{U64}
 use Rattle.fl_types.specs.declared.validity.Validity.{Validity}
 use Rattle.fl_types.specs.declared.validity.Validity.TheVariants as valid
-use Rattle.fl_types.specs.Bits.{table}
+use Rattle.fl_types.specs.Bits.{tabulate}
 use Rattle.fl_types.specs.Validities.{covers, is_valid_at, items_of, nullability_of}
 use Rattle.fl_column.specs.Columns.{PrimitiveParts, column_of_primitive, numbers_of}
 use Rattle.fl_column.proofs.ItemLaws.{get_or-items_of, length-items_of}
@@ -165,7 +165,7 @@ runs_back p covered =
     let values = values_to items chunks in
     let shown : List ℕ → ℕ → Option ℤ = λ offsets i. run_item values (items_of v slots) offsets (0 + i) in
     let each = length-items_of p.validity p.slots covered in
-    let all : table (shown (offsets_to items chunks)) len ≡ items =
+    let all : tabulate (shown (offsets_to items chunks)) len ≡ items =
     sym (fill_by_all (shown (offsets_to items chunks)) items len None each
     (λ i h.
     let k = i / 1024 in
@@ -185,8 +185,8 @@ runs_back p covered =
     let present : get_or items (1024 * k + q) None ≡ Some slot = ap (λ n. get_or items n None) there ∙ (stored ∙ ap (λ b. cond b (Some slot) None) valid) in
     ap (λ n. get_or values (n + entry i) (pos 0)) (start_is items chunks k within) ∙ (value_at_index items chunks k q within small ∙ fill_forward-valid Reset items k q slot small present) in
     stored ∙ sym (ap (run_item values (items_of v slots) (offsets_to items chunks)) start ∙ (ap (option_map read) index ∙ mapped_item read (is_valid_at p.validity i) (pos (entry i)) slot value)))) in
-    ap (λ n. record { dtype = Primitive p.ptype n; items = table (shown (numbers_of (column_of_primitive (non_nullable U64 (map (λ n. pos n) (offsets_to items chunks)))))) len }) (nullability_padded p.validity len total)
-    ∙ ap (λ xs. record { dtype = Primitive p.ptype (nullability_of p.validity); items = xs }) (ap (λ offsets. table (shown offsets) len) numbers ∙ all)
+    ap (λ n. record { dtype = Primitive p.ptype n; items = tabulate (shown (numbers_of (column_of_primitive (non_nullable U64 (map (λ n. pos n) (offsets_to items chunks)))))) len }) (nullability_padded p.validity len total)
+    ∙ ap (λ xs. record { dtype = Primitive p.ptype (nullability_of p.validity); items = xs }) (ap (λ offsets. tabulate (shown offsets) len) numbers ∙ all)
 
 -- ---- the encoder's parts are well-formed
 end_is : (items : List (Option ℤ)) (chunks k : ℕ) → k < chunks → chunk_end (offsets_to items chunks) (length (values_to items chunks)) k ≡ length (values_to items (k + 1))

@@ -6,7 +6,7 @@ use Rattle.std.proofs.lemmas.Bool.{eqb-true, eq-eqb, leb-true, lt-leb, ltb-true,
 use Rattle.std.proofs.lemmas.List.FromFn.{get_or-range_with_len, length-range_with_len}
 use Rattle.fl_types.specs.declared.error.FastLanesError.{FastLanesError}
 use Rattle.fl_types.specs.declared.error.FastLanesError.TheVariants.{RunIndex, RunOffsets}
-use Rattle.fl_types.specs.Bits.{between, table}
+use Rattle.fl_types.specs.Bits.{between, tabulate}
 use Rattle.fl_types.proofs.BitLists.{same_tables}
 use Rattle.fl_column.specs.Columns.{Column, integers_in, numbers_of, option_all}
 use Rattle.fl_column.specs.Operations.{slice_of}
@@ -192,8 +192,8 @@ item_by values count indices offsets first last p (Some z) s r h whole e =
 -- the items of the part are the items from it on
 pub part_of_items : (values : List ℤ) (count : ℕ) (indices : List (Option ℤ)) (offsets : List ℕ) (offset len start end : ℕ) → AreRunNumbers count indices offsets → length indices ≡ 1024 * length offsets → offset + len ≤ length indices → start ≤ end → end ≤ len
     → first_chunk offset start < end_chunk offset end
-    → table (λ i. run_item (between (chunk_start offsets (first_chunk offset start)) (chunk_end offsets count (end_chunk offset end - 1)) values) (between (1024 * first_chunk offset start) (1024 * end_chunk offset end) indices) (between (first_chunk offset start) (end_chunk offset end) offsets) ((offset + start) % 1024 + i)) (end - start)
-    ≡ between start end (table (λ i. run_item values indices offsets (offset + i)) len)
+    → tabulate (λ i. run_item (between (chunk_start offsets (first_chunk offset start)) (chunk_end offsets count (end_chunk offset end - 1)) values) (between (1024 * first_chunk offset start) (1024 * end_chunk offset end) indices) (between (first_chunk offset start) (end_chunk offset end) offsets) ((offset + start) % 1024 + i)) (end - start)
+    ≡ between start end (tabulate (λ i. run_item values indices offsets (offset + i)) len)
 part_of_items values count indices offsets offset len start end s whole range order room some =
     let first = first_chunk offset start in
     let last = end_chunk offset end in
@@ -295,9 +295,9 @@ run_slice_sound values indices offsets offset len start end h order room =
 
 -- and they have the items of the slice
 pub run_slice_items : (values indices offsets : Column) (offset len start end : ℕ) → rle_refusal values indices offsets offset len ≡ None → start ≤ end → end ≤ len
-    → table (λ i. run_item (integers_in (slice_of (kept_values_start (numbers_of offsets) (first_chunk offset start) (end_chunk offset end)) (kept_values_end (numbers_of offsets) (length values.items) (first_chunk offset start) (end_chunk offset end)) values))
+    → tabulate (λ i. run_item (integers_in (slice_of (kept_values_start (numbers_of offsets) (first_chunk offset start) (end_chunk offset end)) (kept_values_end (numbers_of offsets) (length values.items) (first_chunk offset start) (end_chunk offset end)) values))
     (slice_of (1024 * first_chunk offset start) (1024 * end_chunk offset end) indices).items (numbers_of (slice_of (first_chunk offset start) (end_chunk offset end) offsets)) ((offset + start) % 1024 + i)) (end - start)
-    ≡ between start end (table (λ i. run_item (integers_in values) indices.items (numbers_of offsets) (offset + i)) len)
+    ≡ between start end (tabulate (λ i. run_item (integers_in values) indices.items (numbers_of offsets) (offset + i)) len)
 run_slice_items values indices offsets offset len start end h order room =
     let first = first_chunk offset start in
     let last = end_chunk offset end in

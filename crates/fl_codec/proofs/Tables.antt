@@ -2,20 +2,20 @@
 use Rattle.std.proofs.Common.{length-take, length-drop, ◌≡◌, ℕ, ◌+◌, ◌-◌, ◌<◌, ◌≤◌, length, take, drop, get_or, List, map, ap, sym, ◌∙◌, arith}
 use Rattle.std.proofs.lemmas.List.{get_or-take, get_or-drop, drop-take, drop-drop, take-take, take-map, drop-map}
 use Rattle.std.proofs.lemmas.List.FromFn.{length-map-range_with_len, get_or-map-range_with_len, fill_by_all}
-use Rattle.fl_types.specs.Bits.{between, table}
+use Rattle.fl_types.specs.Bits.{between, tabulate}
 
-pub length-table : {X : Type 0} (f : ℕ → X) (n : ℕ) → length (table f n) ≡ n
+pub length-table : {X : Type 0} (f : ℕ → X) (n : ℕ) → length (tabulate f n) ≡ n
 length-table f n = length-map-range_with_len f 0 n
 
-pub get_or-table : {X : Type 0} (f : ℕ → X) (n i : ℕ) (d : X) → i < n → get_or (table f n) i d ≡ f i
+pub get_or-table : {X : Type 0} (f : ℕ → X) (n i : ℕ) (d : X) → i < n → get_or (tabulate f n) i d ≡ f i
 get_or-table f n i d l = get_or-map-range_with_len f 0 n i i d l (omega arith)
 
 -- a slice of a table is the table of the later items
-pub between-table : {X : Type 0} (f : ℕ → X) (n start end : ℕ) (d : X) → start ≤ end → end ≤ n → between start end (table f n) ≡ table (λ i. f (start + i)) (end - start)
+pub between-table : {X : Type 0} (f : ℕ → X) (n start end : ℕ) (d : X) → start ≤ end → end ≤ n → between start end (tabulate f n) ≡ tabulate (λ i. f (start + i)) (end - start)
 between-table f n start end d order range =
-    fill_by_all (λ i. f (start + i)) (between start end (table f n)) (end - start) d
-    (length-take (end - start) (drop start (table f n)) ∙ (let l : length (drop start (table f n)) ≡ n - start = length-drop start (table f n) ∙ ap (λ m. m - start) (length-table f n) in rw l (omega arith)))
-    (λ k l. get_or-take (end - start) (drop start (table f n)) k d l ∙ (get_or-drop start (table f n) k d ∙ get_or-table f n (start + k) d (omega arith)))
+    fill_by_all (λ i. f (start + i)) (between start end (tabulate f n)) (end - start) d
+    (length-take (end - start) (drop start (tabulate f n)) ∙ (let l : length (drop start (tabulate f n)) ≡ n - start = length-drop start (tabulate f n) ∙ ap (λ m. m - start) (length-table f n) in rw l (omega arith)))
+    (λ k l. get_or-take (end - start) (drop start (tabulate f n)) k d l ∙ (get_or-drop start (tabulate f n) k d ∙ get_or-table f n (start + k) d (omega arith)))
 
 -- a part of a part
 pub between-between : {X : Type 0} (xs : List X) (first last s n : ℕ) → s + n ≤ last - first → between s (s + n) (between first last xs) ≡ between (first + s) (first + s + n) xs

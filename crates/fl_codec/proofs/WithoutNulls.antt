@@ -6,10 +6,10 @@ use Rattle.std.proofs.lemmas.Bool.{cases_eq, cases_lt}
 use Rattle.fl_types.specs.declared.dtype.PType.{PType}
 use Rattle.fl_types.specs.declared.validity.Validity.{Validity}
 use Rattle.fl_types.specs.declared.validity.Validity.TheVariants as valid
-use Rattle.fl_types.specs.Bits.{between, table}
+use Rattle.fl_types.specs.Bits.{between, tabulate}
 use Rattle.fl_types.specs.Integers.{wrap}
 use Rattle.fl_types.specs.Validities.{items_of}
-use Rattle.fl_codec.specs.FoRColumns.{chunked_slots, chunked_sums, least_valid, lesser, minus_reference, valid_items}
+use Rattle.fl_codec.specs.FoRColumns.{chunked_slots, chunked_sums, least_valid, min_valid, minus_reference, valid_items}
 use Rattle.fl_codec.proofs.FoRLaws.{IsLeast, find-least, least_between_more, valid_none}
 use Rattle.fl_codec.proofs.ReferenceLaws.{between_whole, get_or-table, length-table, length_of_values}
 
@@ -32,7 +32,7 @@ least_begun value xs x h is =
     let more = least_between_more None (all_valid (map value xs)) 0 0 (omega arith) (rw (length-map, length-map) h) (valid_none 0 (all_valid (map value xs))) in
     rw (item_read value xs 0 x h is) at more
 
-pub least_next : {X : Type 0} (value : X → ℤ) (xs : List X) (least x next : X) (i : ℕ) → i < length xs → x ≡ get_or xs i x → Some (value next) ≡ lesser (Some (value least)) (Some (value x))
+pub least_next : {X : Type 0} (value : X → ℤ) (xs : List X) (least x next : X) (i : ℕ) → i < length xs → x ≡ get_or xs i x → Some (value next) ≡ min_valid (Some (value least)) (Some (value x))
     → IsLeast (Some (value least)) (valid_items (between 0 i (all_valid (map value xs)))) → IsLeast (Some (value next)) (valid_items (between 0 (i + 1) (all_valid (map value xs))))
 least_next value xs least x next i h is lesser_is before =
     let more = least_between_more (Some (value least)) (all_valid (map value xs)) 0 i (omega arith) (rw (length-map, length-map) h) before in
@@ -134,8 +134,8 @@ chunks_made value ptype references xs new long made =
     let slot : ℕ → ℤ = λ i. minus_reference ptype (get_or references (i / 1024) (pos 0)) (get_or all i None) in
     let count : length all ≡ length xs = length-map (map value xs) (λ z. Some z) ∙ length-map xs value in
     let left : length (map value new) ≡ length xs = length-map new value ∙ long in
-    let right : length (table slot (length all)) ≡ length xs = length-table slot (length all) ∙ count in
-    same_lists (map value new) (table slot (length all)) (left ∙ sym right)
+    let right : length (tabulate slot (length all)) ≡ length xs = length-table slot (length all) ∙ count in
+    same_lists (map value new) (tabulate slot (length all)) (left ∙ sym right)
     (λ k d h.
     let inside : k < length xs = omega arith in
     let here : get_or all k None ≡ Some (get_or (map value xs) k (pos 0)) = get_or-map (λ z. Some z) (map value xs) k (pos 0) None (rw length-map inside) in
@@ -159,8 +159,8 @@ sums_made value ptype references offset xs new long made =
     let slot : ℕ → ℤ = λ i. wrap ptype (get_or (map value xs) i (pos 0) +ℤ get_or references ((offset + i) / 1024) (pos 0)) in
     let count : length (map value xs) ≡ length xs = length-map xs value in
     let left : length (map value new) ≡ length xs = length-map new value ∙ long in
-    let right : length (table slot (length (map value xs))) ≡ length xs = length-table slot (length (map value xs)) ∙ count in
-    same_lists (map value new) (table slot (length (map value xs))) (left ∙ sym right)
+    let right : length (tabulate slot (length (map value xs))) ≡ length xs = length-table slot (length (map value xs)) ∙ count in
+    same_lists (map value new) (tabulate slot (length (map value xs))) (left ∙ sym right)
     (λ k d h.
     let inside : k < length xs = omega arith in
     get_or_default (map value new) k d (pos 0) h ∙ (made k inside ∙ sym (get_or-table slot (length (map value xs)) k d (omega arith))))

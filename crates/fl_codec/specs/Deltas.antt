@@ -3,7 +3,7 @@ use Rattle.std.specs.Prelude.{◌+◌, ◌-◌, ◌*◌, ◌/◌, ◌%◌, ◌^�
 use Rattle.fastlanes.specs.Layout.{place, segment, segment_lane, segment_row, row_of, lane_of}
 use Rattle.fl_types.specs.declared.dtype.PType.{PType}
 use Rattle.fl_types.specs.declared.validity.Validity.{Validity}
-use Rattle.fl_types.specs.Bits.{table}
+use Rattle.fl_types.specs.Bits.{tabulate}
 use Rattle.fl_types.specs.Integers.{bits_of_type, lanes_of_type, wrap}
 use Rattle.fl_types.specs.Validities.{is_valid_at, nullability_of}
 use Rattle.fl_types.specs.declared.dtype.DType.TheVariants.{Primitive}
@@ -25,11 +25,11 @@ delta_of ptype item j q =
 
 -- the bases of the first blocks of a column, one for each lane
 abbrev pub bases_to : PType → List (Option ℤ) → ℕ → List ℤ
-bases_to ptype items blocks = table (base_of (lanes_of_type ptype) (fill_forward Carry items)) (lanes_of_type ptype * blocks)
+bases_to ptype items blocks = tabulate (base_of (lanes_of_type ptype) (fill_forward Carry items)) (lanes_of_type ptype * blocks)
 
 -- the deltas of the first blocks of a column
 abbrev pub deltas_to : PType → List (Option ℤ) → ℕ → List ℤ
-deltas_to ptype items blocks = table (λ k. delta_of ptype (fill_forward Carry items) (k / 1024) (k % 1024)) (1024 * blocks)
+deltas_to ptype items blocks = tabulate (λ k. delta_of ptype (fill_forward Carry items) (k / 1024) (k % 1024)) (1024 * blocks)
 
 -- the bases of a column
 abbrev pub delta_bases : PType → List (Option ℤ) → List ℤ
@@ -62,7 +62,7 @@ delta_integer ptype bases deltas p = block_integer ptype (λ k. slice_index_or b
 
 -- the items that the blocks show from an offset on, null where the validity has none
 abbrev pub delta_items : PType → List ℤ → List ℤ → Validity → ℕ → ℕ → List (Option ℤ)
-delta_items ptype bases deltas validity offset len = table (λ i. if is_valid_at validity i then Some (delta_integer ptype bases deltas (offset + i)) else None) len
+delta_items ptype bases deltas validity offset len = tabulate (λ i. if is_valid_at validity i then Some (delta_integer ptype bases deltas (offset + i)) else None) len
 
 -- the column that they make
 abbrev pub delta_column : PType → List ℤ → List ℤ → Validity → ℕ → ℕ → Column

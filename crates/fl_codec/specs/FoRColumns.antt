@@ -3,7 +3,7 @@ use Rattle.std.specs.Prelude.{◌+◌, ◌/◌, ◌+ℤ◌, ◌-ℤ◌, ℕ, ℤ
 use Rattle.std.specs.List.{list_all}
 use Rattle.std.specs.Ordering.{int_eq}
 use Rattle.fl_types.specs.declared.dtype.PType.{PType}
-use Rattle.fl_types.specs.Bits.{table}
+use Rattle.fl_types.specs.Bits.{tabulate}
 use Rattle.fl_types.specs.Integers.{wrap}
 use Rattle.fl_column.specs.Columns.{Column, ptype_of_column}
 use Rattle.fl_codec.specs.Chunks.{chunk, chunks_of}
@@ -19,11 +19,11 @@ global_for reference c = record { dtype = c.dtype; items = map (plus_reference (
 
 -- item i plus the reference of chunk (offset + i) / 1024
 abbrev pub chunked_for : List ℤ → ℕ → Column → Column
-chunked_for references offset c = record { dtype = c.dtype; items = table (λ i. plus_reference (ptype_of_column c) (slice_index_or references ((offset + i) / 1024) (pos 0)) (slice_index_or c.items i None)) (length c.items) }
+chunked_for references offset c = record { dtype = c.dtype; items = tabulate (λ i. plus_reference (ptype_of_column c) (slice_index_or references ((offset + i) / 1024) (pos 0)) (slice_index_or c.items i None)) (length c.items) }
 
 -- the slots of a chunked FoR, each plus the reference of its chunk
 abbrev pub chunked_sums : PType → List ℤ → ℕ → List ℤ → List ℤ
-chunked_sums ptype references offset slots = table (λ i. wrap ptype (slice_index_or slots i (pos 0) +ℤ slice_index_or references ((offset + i) / 1024) (pos 0))) (length slots)
+chunked_sums ptype references offset slots = tabulate (λ i. wrap ptype (slice_index_or slots i (pos 0) +ℤ slice_index_or references ((offset + i) / 1024) (pos 0))) (length slots)
 
 -- ---- the least items
 -- the items that are not null
@@ -34,15 +34,15 @@ valid_items items = filter_map (λ item. item) items
 abbrev pub least_valid : List (Option ℤ) → Option ℤ
 least_valid items = find (λ z. list_all (int_le z) (valid_items items)) (valid_items items)
 
--- the lesser of two items, of which a null is none
-abbrev pub lesser : Option ℤ → Option ℤ → Option ℤ
-lesser None other = other
-lesser (Some x) None = Some x
-lesser (Some x) (Some y) = Some (if int_lt y x then y else x)
+-- the min_valid of two items, of which a null is none
+abbrev pub min_valid : Option ℤ → Option ℤ → Option ℤ
+min_valid None other = other
+min_valid (Some x) None = Some x
+min_valid (Some x) (Some y) = Some (if int_lt y x then y else x)
 
 -- the least valid item of each chunk, if it has one
 abbrev pub chunk_leasts : List (Option ℤ) → List (Option ℤ)
-chunk_leasts items = table (λ k. least_valid (chunk k items)) (chunks_of (length items))
+chunk_leasts items = tabulate (λ k. least_valid (chunk k items)) (chunks_of (length items))
 
 -- ---- the references
 -- a chunk of nulls repeats the reference before it, and leading ones take the first that there is
@@ -51,7 +51,7 @@ reference_of_chunk leasts k = unwrap_or (last_some (take (k + 1) leasts)) (unwra
 
 -- the reference of each chunk
 abbrev pub chunk_references : List (Option ℤ) → List ℤ
-chunk_references items = table (reference_of_chunk (chunk_leasts items)) (chunks_of (length items))
+chunk_references items = tabulate (reference_of_chunk (chunk_leasts items)) (chunks_of (length items))
 
 -- the one reference that all of them are, 0 of no references; none where they differ
 abbrev pub common_reference : List ℤ → Option ℤ
@@ -65,4 +65,4 @@ minus_reference ptype reference item = unwrap_or (option_map (λ z. wrap ptype (
 
 -- item i less the reference of its chunk
 abbrev pub chunked_slots : PType → List ℤ → List (Option ℤ) → List ℤ
-chunked_slots ptype references items = table (λ i. minus_reference ptype (slice_index_or references (i / 1024) (pos 0)) (slice_index_or items i None)) (length items)
+chunked_slots ptype references items = tabulate (λ i. minus_reference ptype (slice_index_or references (i / 1024) (pos 0)) (slice_index_or items i None)) (length items)

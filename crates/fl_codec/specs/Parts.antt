@@ -59,8 +59,8 @@ abbrev pub reference_scalar : PType → ℤ → ScalarParts
 reference_scalar ptype z = record { dtype = dtypes.Primitive ptype NonNullable; value = Some z }
 
 -- the array less one reference, 0 under a null
-abbrev pub less_reference : PrimitiveParts → ℤ → OneReference
-less_reference p reference = record {
+abbrev pub subtract_reference : PrimitiveParts → ℤ → OneReference
+subtract_reference p reference = record {
   child = under_validity_of p p.ptype (map (minus_reference p.ptype reference) (items_of_primitive p));
   reference = reference_scalar p.ptype reference;
 }
@@ -70,18 +70,18 @@ abbrev pub less_references : PrimitiveParts → List ℤ → FoRParts
 less_references p references = ByChunk (under_validity_of p p.ptype (chunked_slots p.ptype references (items_of_primitive p))) (non_nullable p.ptype references)
 
 -- the array less its least valid item, if it has one
-abbrev pub less_least : PrimitiveParts → Option ℤ → Result OneReference FastLanesError
-less_least p None = Err NoMinimum
-less_least p (Some least) = Ok (less_reference p least)
+abbrev pub subtract_min : PrimitiveParts → Option ℤ → Result OneReference FastLanesError
+subtract_min p None = Err NoMinimum
+subtract_min p (Some least) = Ok (subtract_reference p least)
 
 -- the array less its least valid item, or why there is none
 abbrev pub encode_global : PrimitiveParts → Result OneReference FastLanesError
-encode_global p = less_least p (least_valid (items_of_primitive p))
+encode_global p = subtract_min p (least_valid (items_of_primitive p))
 
 -- the array less these references, or less the one that all of them are
 abbrev pub less_common : PrimitiveParts → List ℤ → Option ℤ → FoRParts
 less_common p references None = less_references p references
-less_common p references (Some reference) = Whole (less_reference p reference)
+less_common p references (Some reference) = Whole (subtract_reference p reference)
 
 -- a constant null
 abbrev pub null_constant : PType → ℕ → ConstantParts

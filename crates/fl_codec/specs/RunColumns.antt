@@ -6,7 +6,7 @@ use Rattle.fl_types.specs.declared.dtype.PType.TheVariants.{U8, U16}
 use Rattle.fl_types.specs.declared.dtype.DType.TheVariants.{Primitive}
 use Rattle.fl_types.specs.declared.error.FastLanesError.{FastLanesError}
 use Rattle.fl_types.specs.declared.error.FastLanesError.TheVariants.{BlockOffsetsCount, BlockOffsetsType, ChildLength, ChildNullable, OffsetTooLarge, RangeBeyondChild, RunIndex, RunIndexType, RunOffsets}
-use Rattle.fl_types.specs.Bits.{table}
+use Rattle.fl_types.specs.Bits.{tabulate}
 use Rattle.fl_types.specs.Integers.{is_unsigned, same_ptype}
 use Rattle.fl_types.specs.Types.{can_be_null, is_index_type}
 use Rattle.fl_types.specs.Validities.{nullability_of}
@@ -34,7 +34,7 @@ run_offsets_of parts = numbers_of (column_of_primitive parts.offsets)
 abbrev pub run_column : RunParts → ℕ → ℕ → Column
 run_column parts offset len = record {
   dtype = Primitive parts.values.ptype (nullability_of parts.indices.validity);
-  items = table (λ i. run_item parts.values.slots (items_of_primitive parts.indices) (run_offsets_of parts) (offset + i)) len;
+  items = tabulate (λ i. run_item parts.values.slots (items_of_primitive parts.indices) (run_offsets_of parts) (offset + i)) len;
 }
 
 -- ---- what runs must be

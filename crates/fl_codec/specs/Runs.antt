@@ -5,7 +5,7 @@ use Rattle.std.specs.Ordering.{int_eq}
 use Rattle.fastlanes.specs.Runs.{counted}
 use Rattle.fl_types.specs.declared.validity.Validity.{Validity}
 use Rattle.fl_types.specs.declared.validity.Validity.TheVariants as valid
-use Rattle.fl_types.specs.Bits.{table}
+use Rattle.fl_types.specs.Bits.{tabulate}
 use Rattle.fl_codec.specs.ForwardFill.{Reset, fill_forward}
 
 -- item t + 1 of chunk k differs from item t
@@ -26,11 +26,11 @@ values_to items chunks = flat_map (chunk_values (fill_forward Reset items)) (ran
 
 -- the run index at each position of the first chunks, under nulls and in the padding too
 abbrev pub indices_to : List (Option ℤ) → ℕ → List ℕ
-indices_to items chunks = table (λ p. run_index (fill_forward Reset items) (p / 1024) (p % 1024)) (1024 * chunks)
+indices_to items chunks = tabulate (λ p. run_index (fill_forward Reset items) (p / 1024) (p % 1024)) (1024 * chunks)
 
 -- how many run values stand before each of the first chunks
 abbrev pub offsets_to : List (Option ℤ) → ℕ → List ℕ
-offsets_to items chunks = table (λ k. length (values_to items k)) chunks
+offsets_to items chunks = tabulate (λ k. length (values_to items k)) chunks
 
 -- the validity of this many indices of a column: what the column's says of all items, or its bits and nulls in the padding
 abbrev pub run_validity : Validity → ℕ → ℕ → Validity

@@ -5,7 +5,7 @@ pub mod children;
 ghost use Rattle.std.specs.Prelude.{◌≡◌, ◌+◌, ◌*◌, ◌/◌, ◌%◌, ◌<◌, ◌≤◌, ◌++◌, ◌-◌, ◌^◌, ℕ, ℤ, pos, IsTrue, IfOk, OnOk, Ok, length, map, min, slice_index_or, take};
 ghost use Rattle.fastlanes.specs.Layout.{pattern_at, place, segment};
 ghost use Rattle.fastlanes.specs.Delta.{summed_item};
-ghost use Rattle.fl_types.specs.Bits.{table};
+ghost use Rattle.fl_types.specs.Bits.{tabulate};
 ghost use Rattle.fl_types.specs.Integers.{lanes_of_type, pattern_of, read_as};
 ghost use Rattle.fl_types.specs.Refusals.{Answers};
 ghost use Rattle.fl_types.specs.Validities.{covers};
@@ -18,7 +18,7 @@ ghost use Rattle.fl_codec.specs.Parts.{compress_deltas, items_of_primitive};
 use crate::chunks::chunk_count;
 use crate::fill_forward::fill_chunk;
 use crate::plain::{non_nullable, under_validity};
-use fastlanes::facts::prove_all_in_range;
+use fastlanes::proof_support::prove_all_in_range;
 use fastlanes::{FL_CHUNK_SIZE, FastLanes, delta, transpose, undelta, untranspose};
 use fl_column::patterns::{push_values, write_patterns};
 use fl_column::{PhysicalPType, PrimitiveArray};
@@ -166,7 +166,7 @@ pub(crate) fn push_block<T: PhysicalPType>(
     requires block { k < chunks_of (offset + len) }
     requires long { length values.old.items ≡ min (1024 * k) (offset + len) - offset }
     ensures long { OnOk result (length values.new.items ≡ min (1024 * (k + 1)) (offset + len) - offset) }
-    ensures items { OnOk result ((item : ℕ → ℤ) → ((q : ℕ) → q < 1024 → read_as T.PTYPE (pattern_at T.Physical.pattern block.now q) ≡ item (1024 * k + q)) → map T.value values.old.items ≡ table (λ i. item (offset + i)) (length values.old.items) → map T.value values.new.items ≡ table (λ i. item (offset + i)) (length values.new.items)) }
+    ensures items { OnOk result ((item : ℕ → ℤ) → ((q : ℕ) → q < 1024 → read_as T.PTYPE (pattern_at T.Physical.pattern block.now q) ≡ item (1024 * k + q)) → map T.value values.old.items ≡ tabulate (λ i. item (offset + i)) (length values.old.items) → map T.value values.new.items ≡ tabulate (λ i. item (offset + i)) (length values.new.items)) }
 {
     let words = &block[..];
     let start = FL_CHUNK_SIZE * k;
@@ -187,7 +187,7 @@ fn decompress_typed<T: PhysicalPType>(
     requires bases { chunks_of (offset + len) * T.Physical.LANES ≤ length bases.now }
     requires deltas { 1024 * chunks_of (offset + len) ≤ length deltas.now }
     ensures long { IfOk result (λ v. length v.items ≡ len) }
-    ensures items { IfOk result (λ v. map T.value v.items ≡ table (λ i. delta_integer T.PTYPE (map T.value bases.now) (map T.value deltas.now) (offset + i)) len) }
+    ensures items { IfOk result (λ v. map T.value v.items ≡ tabulate (λ i. delta_integer T.PTYPE (map T.value bases.now) (map T.value deltas.now) (offset + i)) len) }
 {
     let mut values = Vec::with_capacity(alloc, len)?;
     T::Physical::prove_in_memory();

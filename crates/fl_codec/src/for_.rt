@@ -6,8 +6,7 @@ mod without_nulls;
 
 ghost use Rattle.std.specs.Prelude.{◌≡◌, ◌<◌, ◌≤◌, ◌+◌, ◌*◌, ◌+ℤ◌, ◌^◌, ◌&&◌, ℤ, pos, List, IsTrue, IfSome, IfOk, Ok, Some, None, length, map, option_map, unwrap_or, slice_index_or, is_none};
 ghost use Rattle.std.specs.List.{list_all};
-ghost use Rattle.std.specs.Ordering.{int_eq};
-ghost use Rattle.fl_types.specs.Bits.{between, table};
+ghost use Rattle.fl_types.specs.Bits.{between, tabulate};
 ghost use Rattle.fl_types.specs.Integers.{wrap};
 ghost use Rattle.fl_types.specs.Refusals.{Answers};
 ghost use Rattle.fl_types.specs.Validities.{covers, items_of};
@@ -15,8 +14,8 @@ ghost use Rattle.fl_types.specs.Values.{integer_of, ptype_of_value};
 ghost use Rattle.fl_column.specs.Columns.{column_of_primitive};
 ghost use Rattle.fl_codec.specs.Chunks.{chunk, chunks_of};
 ghost use Rattle.fl_codec.specs.ForwardFill.{first_some};
-ghost use Rattle.fl_codec.specs.FoRColumns.{chunk_leasts, chunk_references, chunked_for, chunked_slots, chunked_sums, common_reference, global_for, least_valid, lesser, minus_reference, reference_of_chunk};
-ghost use Rattle.fl_codec.specs.Parts.{Nulls, encode_chunked, encode_global, for_parts, global_parts, items_of_primitive, less_chunk_leasts, less_reference, less_references, null_constant, reference_scalar};
+ghost use Rattle.fl_codec.specs.FoRColumns.{chunk_leasts, chunk_references, chunked_for, chunked_slots, chunked_sums, common_reference, global_for, least_valid, min_valid, minus_reference, reference_of_chunk};
+ghost use Rattle.fl_codec.specs.Parts.{Nulls, encode_chunked, encode_global, for_parts, global_parts, items_of_primitive, less_chunk_leasts, subtract_reference, less_references, null_constant, reference_scalar};
 
 use crate::chunks::{chunk_count, chunk_end};
 use crate::for_::without_nulls::{chunked_sums, least_of, sums};
@@ -24,7 +23,8 @@ use crate::plain::{non_nullable, under_validity_of};
 use fastlanes::FL_CHUNK_SIZE;
 use fl_column::{ConstantArray, PrimitiveArray, item_at};
 use fl_types::{
-    FastLanesError, NativePType, Nullability, PValue, Scalar, Validity, match_each_integer_ptype,
+    FastLanesError, NativePType, Nullability, PValue, Scalar, Validity, is_equal,
+    match_each_integer_ptype,
 };
 use num_traits::{WrappingAdd, WrappingSub};
 use std::alloc::{AllocError, Global};
@@ -50,9 +50,9 @@ pub enum EncodedFoR {
     Nulls(ConstantArray, Scalar),
 }
 
-/// The lesser of two items, of which a null is none.
-fn lesser<T: NativePType>(least: Option<T>, item: Option<T>) -> Option<T>
-    ensures { option_map T.value result ≡ lesser (option_map T.value least) (option_map T.value item) }
+/// The min_valid of two items, of which a null is none.
+fn min_valid<T: NativePType>(least: Option<T>, item: Option<T>) -> Option<T>
+    ensures { option_map T.value result ≡ min_valid (option_map T.value least) (option_map T.value item) }
 {
     match (least, item) {
         (Some(x), Some(y)) => Some(if y < x { y } else { x }),
@@ -75,7 +75,7 @@ fn least_valid_between<T: NativePType>(
 {
     let mut least = None;
     for i in start..end {
-        least = lesser(least, item_at(items, validity, i));
+        least = min_valid(least, item_at(items, validity, i));
     }
     least
 }
@@ -139,13 +139,6 @@ fn chunk_references<T: NativePType>(
         references.push(reference)?;
     }
     Ok(references)
-}
-
-/// Whether the two values are one.
-fn is_equal<T: NativePType>(x: T, y: T) -> bool
-    ensures { result ≡ int_eq (T.value x) (T.value y) }
-{
-    x == y
 }
 
 /// The one reference that all of them are, 0 where there is none.
@@ -252,13 +245,13 @@ fn chunked_differences<T: NativePType + WrappingSub>(
 }
 
 /// The array less one reference.
-fn less_reference<T: NativePType + WrappingSub>(
+fn subtract_reference<T: NativePType + WrappingSub>(
     alloc: Global,
     array: &PrimitiveArray,
     reference: T,
 ) -> Result<GlobalFoR, FastLanesError>
     requires { array.now.ptype ≡ T.PTYPE }
-    ensures { Answers global_parts result (Ok (less_reference array.now (T.value reference))) }
+    ensures { Answers global_parts result (Ok (subtract_reference array.now (T.value reference))) }
 {
     let slots = differences(alloc, array.as_slice::<T>(), array.validity(), reference)?;
     let child = under_validity_of(alloc, array, slots)?;
@@ -291,7 +284,7 @@ fn encode_typed<T: NativePType + WrappingSub>(
 {
     let items = array.as_slice::<T>();
     match least_between(items, array.validity(), 0, items.len()) {
-        Some(least) => less_reference(alloc, array, least),
+        Some(least) => subtract_reference(alloc, array, least),
         None => Err(FastLanesError::NoMinimum),
     }
 }
@@ -337,7 +330,7 @@ fn encode_chunks<T: NativePType + WrappingSub>(
 {
     let references = chunk_references(alloc, array.as_slice::<T>(), array.validity())?;
     match common_reference(&references) {
-        Some(reference) => Ok(EncodedFoR::Global(less_reference(alloc, array, reference)?)),
+        Some(reference) => Ok(EncodedFoR::Global(subtract_reference(alloc, array, reference)?)),
         None => less_references(alloc, array, references),
     }
 }

@@ -7,7 +7,7 @@ pub mod refusals;
 ghost use Rattle.std.specs.Prelude.{◌≡◌, ◌+◌, ◌*◌, ◌<◌, ◌≤◌, ◌^◌, ℕ, [], pos, IsTrue, IfOk, OnOk, Ok, None, length, map, option_map, slice_index, slice_index_or, unsigned_abs, unwrap_or, ◌++◌, ◌-◌, replicate, false};
 ghost use Rattle.std.specs.List.{list_all};
 ghost use Rattle.fastlanes.specs.Layout.{pattern_at};
-ghost use Rattle.fl_types.specs.Bits.{table};
+ghost use Rattle.fl_types.specs.Bits.{tabulate};
 ghost use Rattle.fl_types.specs.Integers.{fits, is_unsigned, read_as};
 ghost use Rattle.fl_types.specs.Values.{integer_of, ptype_of_value};
 ghost use Rattle.fl_types.specs.Refusals.{Answers};
@@ -333,7 +333,7 @@ fn decode_items<T: PhysicalPType>(
     requires fits { IsTrue (list_all (fits T.PTYPE) (map T.value values.now)) }
     requires sound { (k : ℕ) → k < chunks_of (offset + len) → IsRunChunk (length values.now) indices.now offsets.now k }
     ensures long { IfOk result (λ v. length v.items ≡ len) }
-    ensures items { IfOk result (λ v. map T.value v.items ≡ table (λ i. run_integer (map T.value values.now) (items_of_primitive indices.now) (numbers_of (column_of_primitive offsets.now)) (offset + i)) len) }
+    ensures items { IfOk result (λ v. map T.value v.items ≡ tabulate (λ i. run_integer (map T.value values.now) (items_of_primitive indices.now) (numbers_of (column_of_primitive offsets.now)) (offset + i)) len) }
 {
     let mut items = Vec::with_capacity(alloc, len)?;
     T::Physical::prove_in_memory();

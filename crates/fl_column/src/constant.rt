@@ -1,5 +1,7 @@
 //! Arrays of one value.
 
+mod compute;
+
 ghost use Rattle.std.specs.Prelude.{◌≡◌, ◌-◌, ◌≤◌, ◌<◌, length, Some, Ok, IfSome, IfNone, option_map};
 ghost use Rattle.fl_types.specs.Types.{integer_type, nullability_in};
 ghost use Rattle.fl_types.specs.Values.{scalar_parts, integer_of, ptype_of_value};
@@ -9,7 +11,7 @@ ghost use Rattle.fl_column.specs.Operations.{slice_of};
 ghost use Rattle.fl_column.specs.Questions.{scalar_in};
 ghost use Rattle.fl_types.specs.Refusals.{Answers};
 
-use crate::constants::{constant_of, zero_of};
+use crate::constant::compute::{constant_of, zero_of};
 use crate::primitive::PrimitiveArray;
 use fl_types::{DType, FastLanesError, PType, PValue, Scalar, Validity};
 use std::alloc::Global;

@@ -6,14 +6,13 @@ pub mod bools;
 pub mod builder;
 mod casting;
 pub mod chunks;
+mod compute;
 pub mod constant;
-mod constants;
 pub mod laws;
 pub mod numbers;
 pub mod patterns;
 pub mod physical;
 pub mod primitive;
-mod questions;
 mod reinterpret;
 mod selection;
 mod simplest;
@@ -25,6 +24,7 @@ pub use crate::constant::ConstantArray;
 pub use crate::numbers::{index_array, number_at};
 pub use crate::physical::PhysicalPType;
 pub use crate::primitive::PrimitiveArray;
+pub use crate::selection::without_nulls::is_full;
 pub use crate::selection::{item_at, ranges_total};
 pub use fl_types::{
     BetweenOptions, BitList, CompareOperator, DType, FastLanesError, Mask, NativePType,

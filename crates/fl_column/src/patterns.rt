@@ -6,71 +6,7 @@ ghost use Rattle.fl_types.specs.Integers.{pattern_of, read_as};
 
 use crate::physical::PhysicalPType;
 use fastlanes::{FL_CHUNK_SIZE, FastLanes};
-use fl_types::NativePType;
 use std::alloc::AllocError;
-
-/// An integer type whose bit patterns are numbers of a `u64`.
-pub trait Pattern: NativePType {
-    /// The bit pattern of the value.
-    fn pattern(self) -> u64
-        ensures { result ≡ pattern_of Self.PTYPE (Self.value self) };
-}
-
-#[tactic(auto, using(fl_types::proofs::Patterns::patterns))]
-impl Pattern for u8 {
-    fn pattern(self) -> u64 {
-        self as u64
-    }
-}
-
-#[tactic(auto, using(fl_types::proofs::Patterns::patterns))]
-impl Pattern for u16 {
-    fn pattern(self) -> u64 {
-        self as u64
-    }
-}
-
-#[tactic(auto, using(fl_types::proofs::Patterns::patterns))]
-impl Pattern for u32 {
-    fn pattern(self) -> u64 {
-        self as u64
-    }
-}
-
-#[tactic(auto, using(fl_types::proofs::Patterns::patterns))]
-impl Pattern for u64 {
-    fn pattern(self) -> u64 {
-        self
-    }
-}
-
-#[tactic(auto, using(fl_types::proofs::Patterns::patterns))]
-impl Pattern for i8 {
-    fn pattern(self) -> u64 {
-        self.cast_unsigned() as u64
-    }
-}
-
-#[tactic(auto, using(fl_types::proofs::Patterns::patterns))]
-impl Pattern for i16 {
-    fn pattern(self) -> u64 {
-        self.cast_unsigned() as u64
-    }
-}
-
-#[tactic(auto, using(fl_types::proofs::Patterns::patterns))]
-impl Pattern for i32 {
-    fn pattern(self) -> u64 {
-        self.cast_unsigned() as u64
-    }
-}
-
-#[tactic(auto, using(fl_types::proofs::Patterns::patterns))]
-impl Pattern for i64 {
-    fn pattern(self) -> u64 {
-        self.cast_unsigned()
-    }
-}
 
 /// Writes the patterns of these values, at most a block of them.
 pub fn write_patterns<T: PhysicalPType>(values: &[T], block: &mut [T::Physical; FL_CHUNK_SIZE])

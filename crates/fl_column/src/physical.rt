@@ -19,6 +19,10 @@ pub trait PhysicalPType: NativePType {
     fn from_physical(pattern: Self::Physical) -> Self
         ensures { Self.value result ≡ read_as Self.PTYPE (Self.Physical.pattern pattern) };
 
+    /// The bit pattern of the value, as a number.
+    fn pattern(self) -> u64
+        ensures { result ≡ pattern_of Self.PTYPE (Self.value self) };
+
     // The patterns have the type's bits.
     ghost width_law: { Self.Physical.T ≡ bits_of_type Self.PTYPE };
 }
@@ -36,6 +40,10 @@ impl PhysicalPType for u8 {
     fn from_physical(pattern: u8) -> u8 {
         pattern
     }
+
+    fn pattern(self) -> u64 {
+        self as u64
+    }
 }
 
 #[tactic(auto, using(fl_types::proofs::Patterns::patterns))]
@@ -50,6 +58,10 @@ impl PhysicalPType for u16 {
 
     fn from_physical(pattern: u16) -> u16 {
         pattern
+    }
+
+    fn pattern(self) -> u64 {
+        self as u64
     }
 }
 
@@ -66,6 +78,10 @@ impl PhysicalPType for u32 {
     fn from_physical(pattern: u32) -> u32 {
         pattern
     }
+
+    fn pattern(self) -> u64 {
+        self as u64
+    }
 }
 
 #[tactic(auto, using(fl_types::proofs::Patterns::patterns))]
@@ -80,6 +96,10 @@ impl PhysicalPType for u64 {
 
     fn from_physical(pattern: u64) -> u64 {
         pattern
+    }
+
+    fn pattern(self) -> u64 {
+        self
     }
 }
 
@@ -96,6 +116,10 @@ impl PhysicalPType for i8 {
     fn from_physical(pattern: u8) -> i8 {
         pattern.cast_signed()
     }
+
+    fn pattern(self) -> u64 {
+        self.cast_unsigned() as u64
+    }
 }
 
 #[tactic(auto, using(fl_types::proofs::Patterns::patterns))]
@@ -110,6 +134,10 @@ impl PhysicalPType for i16 {
 
     fn from_physical(pattern: u16) -> i16 {
         pattern.cast_signed()
+    }
+
+    fn pattern(self) -> u64 {
+        self.cast_unsigned() as u64
     }
 }
 
@@ -126,6 +154,10 @@ impl PhysicalPType for i32 {
     fn from_physical(pattern: u32) -> i32 {
         pattern.cast_signed()
     }
+
+    fn pattern(self) -> u64 {
+        self.cast_unsigned() as u64
+    }
 }
 
 #[tactic(auto, using(fl_types::proofs::Patterns::patterns))]
@@ -140,5 +172,9 @@ impl PhysicalPType for i64 {
 
     fn from_physical(pattern: u64) -> i64 {
         pattern.cast_signed()
+    }
+
+    fn pattern(self) -> u64 {
+        self.cast_unsigned()
     }
 }

@@ -1,7 +1,7 @@
 //! Items of plain arrays that are selected: by positions, by ranges, by a mask.
 
 mod with_bits;
-mod without_nulls;
+pub(crate) mod without_nulls;
 
 ghost use Rattle.std.specs.Prelude.{◌≡◌, ◌<◌, ◌||◌, ◌+◌, ◌^◌, ◌++◌, IsTrue, is_some, map, length, Ok, OnOk, IfErr, IfOk, None, Some, option_map, slice_index_or, unsigned_abs};
 ghost use Rattle.std.specs.List.{flat_map, list_all};

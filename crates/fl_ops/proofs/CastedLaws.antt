@@ -15,7 +15,7 @@ use Rattle.fl_types.specs.Values.{fits_in}
 use Rattle.fl_column.specs.Columns.{Column, integers_in, option_all}
 use Rattle.fl_column.specs.Operations.{cast_column}
 use Rattle.fl_types.specs.declared.dtype.Nullability.TheVariants.{NonNullable, Nullable}
-use Rattle.fl_types.specs.Bits.{table}
+use Rattle.fl_types.specs.Bits.{tabulate}
 use Rattle.fl_codec.specs.RunColumns.{chunk_start, run_item}
 use Rattle.fl_bitpacking.proofs.NullLaws.{all_there, nulls_alike}
 use Rattle.fl_column.proofs.ListLaws.{any_from}
@@ -115,17 +115,17 @@ none_of_there : (x : Option ℤ) → is_some x ≡ true → is_none x ≡ false
 none_of_there None h = cc
 none_of_there (Some z) h = refl
 
-no_null_named : (values : List ℤ) (indices : List (Option ℤ)) (offsets : List ℕ) (offset len : ℕ) → list_any is_none indices ≡ false → offset + len ≤ length indices → list_any is_none (table (λ i. run_item values indices offsets (offset + i)) len) ≡ false
+no_null_named : (values : List ℤ) (indices : List (Option ℤ)) (offsets : List ℕ) (offset len : ℕ) → list_any is_none indices ≡ false → offset + len ≤ length indices → list_any is_none (tabulate (λ i. run_item values indices offsets (offset + i)) len) ≡ false
 no_null_named values indices offsets offset len none within =
     let item : ℕ → Option ℤ = λ i. run_item values indices offsets (offset + i) in
-    let long : length (table item len) ≡ len = length-table item len in
-    any_from is_none (table item len) None (λ i h.
+    let long : length (tabulate item len) ≡ len = length-table item len in
+    any_from is_none (tabulate item len) None (λ i h.
     ap (λ (x : Option ℤ). is_none x) (get_or-table item len i None (omega (arith, h, long)))
     ∙ named_there values (chunk_start offsets ((offset + i) / 1024)) (get_or indices (offset + i) None)
     ∙ none_of_there (get_or indices (offset + i) None) (all_there indices (offset + i) none (omega (arith, h, long, within))))
 
 nulls_named : (n : Nullability) (values : List ℤ) (indices : List (Option ℤ)) (offsets : List ℕ) (offset len : ℕ) → (not (can_be_null n) && list_any is_none indices) ≡ false → offset + len ≤ length indices
-    → (not (can_be_null n) && list_any is_none (table (λ i. run_item values indices offsets (offset + i)) len)) ≡ false
+    → (not (can_be_null n) && list_any is_none (tabulate (λ i. run_item values indices offsets (offset + i)) len)) ≡ false
 nulls_named NonNullable values indices offsets offset len none within = no_null_named values indices offsets offset len none within
 nulls_named Nullable values indices offsets offset len none within = refl
 
@@ -136,10 +136,10 @@ not_dropped Nullable b h = refl
 
 -- a cast of what runs show, where all run values and all run indices have one
 pub cast_of_runs : (q : PType) (n : Nullability) (p : PType) (m : Nullability) (v i : Column) (offsets : List ℕ) (offset len : ℕ) → list_all (option_all (fits q)) v.items ≡ true → (not (can_be_null n) && list_any is_none i.items) ≡ false → offset + len ≤ length i.items
-    → (let items : List (Option ℤ) = table (λ k. run_item (integers_in v) i.items offsets (offset + k)) len in
+    → (let items : List (Option ℤ) = tabulate (λ k. run_item (integers_in v) i.items offsets (offset + k)) len in
     cast_column (dtypes.Primitive q n) (record { dtype = dtypes.Primitive p m; items = items }) ≡ Ok (record { dtype = dtypes.Primitive q n; items = items }))
 cast_of_runs q n p m v i offsets offset len fit none within =
-    cast_ok q n p m (table (λ k. run_item (integers_in v) i.items offsets (offset + k)) len)
+    cast_ok q n p m (tabulate (λ k. run_item (integers_in v) i.items offsets (offset + k)) len)
     (nulls_named n (integers_in v) i.items offsets offset len none within)
     (runs_fit q n (integers_in v) i.items offsets offset len (integers_fit (record { dtype = dtypes.Primitive q n; items = v.items }) refl fit))
 

@@ -12,7 +12,7 @@ use Rattle.fl_types.specs.declared.error.FastLanesError.{FastLanesError}
 use Rattle.fl_types.specs.declared.error.FastLanesError.TheVariants.{CastNull, OutOfMemory}
 use Rattle.fl_types.specs.declared.validity.Validity.{Validity}
 use Rattle.fl_types.specs.declared.validity.Validity.TheVariants as valid
-use Rattle.fl_types.specs.Bits.{table}
+use Rattle.fl_types.specs.Bits.{tabulate}
 use Rattle.fl_types.specs.Integers.{fits}
 use Rattle.fl_types.specs.Refusals.{Refuses}
 use Rattle.fl_types.specs.Validities.{is_valid_at, nullability_of}
@@ -37,7 +37,7 @@ use Rattle.fl_array.specs.RLEArrays.{RLEArrayParts, refusal_of_rle, rle_in, tree
 use Rattle.fl_array.proofs.DeltaLaws.{sound_deltas}
 use Rattle.fl_array.specs.FoRArrays.{ChunkReferences, FoRArrayParts, FoRReferencesParts, GlobalReference, for_in, for_tree, tree_of_for}
 use Rattle.fl_array.specs.Ranges.{items_fit}
-use Rattle.fl_array.specs.Trees.{BitPackedBlocked, BitPackedGlobal, Constant, Delta, FoRChunked, FoRGlobal, Primitive, RLE, Tree, Window, column, column_of_rle}
+use Rattle.fl_array.specs.Trees.{BitPackedBlocked, BitPackedGlobal, Constant, Delta, FoRChunked, FoRGlobal, Primitive, RLE, Tree, OffsetLen, column, column_of_rle}
 use Rattle.fl_array.specs.Trees as tree
 use Rattle.fl_array.proofs.BitPackedLaws.{bitpacked_dtype}
 use Rattle.fl_array.proofs.FoRSound.{chunked_column, global_column}
@@ -139,13 +139,13 @@ none_hidden (valid.Array bits) h i = cc
 pub delta_may : (a : DeltaArrayParts) (target : DType) → (same_type (column a.bases).dtype target && not (drops_nullability (column (tree_of_delta a)).dtype target)) ≡ true → (can_be_null (nullability_in target) || not (can_be_null (nullability_of a.parts.validity))) ≡ true
 delta_may a target h = keeps_nulls (nullability_of a.parts.validity) (nullability_in target) (and_second (same_type (column a.bases).dtype target) _ h)
 
-no_null_shown : (n : Nullability) (v : Validity) (integer : ℕ → ℤ) (len : ℕ) → (can_be_null n || not (can_be_null (nullability_of v))) ≡ true → (can_be_null n || not (list_any is_none (table (λ i. if is_valid_at v i then Some (integer i) else None) len))) ≡ true
+no_null_shown : (n : Nullability) (v : Validity) (integer : ℕ → ℤ) (len : ℕ) → (can_be_null n || not (can_be_null (nullability_of v))) ≡ true → (can_be_null n || not (list_any is_none (tabulate (λ i. if is_valid_at v i then Some (integer i) else None) len))) ≡ true
 no_null_shown Nullable v integer len h = refl
 no_null_shown NonNullable v integer len h =
     let item : ℕ → Option ℤ = λ i. if is_valid_at v i then Some (integer i) else None in
     let none : can_be_null (nullability_of v) ≡ false = not_true (can_be_null (nullability_of v)) h in
-    let long : length (table item len) ≡ len = length-table item len in
-    let there : list_any is_none (table item len) ≡ false = any_from is_none (table item len) None (λ i below. ap (λ (x : Option ℤ). is_none x) (get_or-table item len i None (omega (arith, long, below)) ∙ ap (λ b. if b then Some (integer i) else None) (none_hidden v none i))) in
+    let long : length (tabulate item len) ≡ len = length-table item len in
+    let there : list_any is_none (tabulate item len) ≡ false = any_from is_none (tabulate item len) None (λ i below. ap (λ (x : Option ℤ). is_none x) (get_or-table item len i None (omega (arith, long, below)) ∙ ap (λ b. if b then Some (integer i) else None) (none_hidden v none i))) in
     ap not there
   where
     not_true : (b : Bool) → not b ≡ true → b ≡ false
@@ -180,9 +180,9 @@ index_nulls n c d h = each c.dtype h
     each (dtypes.Primitive p m) h = (cast_tests p n c d h).0
     each (dtypes.Bool m) h = cc
 
-runs_of_casts : (q : PType) (n : Nullability) (v i o : Column) (window : Window) → column_of_rle (record { dtype = dtypes.Primitive q NonNullable; items = v.items }) (record { dtype = with_nullability n i.dtype; items = i.items }) o window
-    ≡ record { dtype = dtypes.Primitive q n; items = table (λ k. run_item (integers_in v) i.items (numbers_of o) (window.offset + k)) window.len }
-runs_of_casts q n v i o window = ap (λ m. record { dtype = dtypes.Primitive q m; items = table (λ k. run_item (integers_in v) i.items (numbers_of o) (window.offset + k)) window.len }) (nullability_with n i.dtype)
+runs_of_casts : (q : PType) (n : Nullability) (v i o : Column) (window : OffsetLen) → column_of_rle (record { dtype = dtypes.Primitive q NonNullable; items = v.items }) (record { dtype = with_nullability n i.dtype; items = i.items }) o window
+    ≡ record { dtype = dtypes.Primitive q n; items = tabulate (λ k. run_item (integers_in v) i.items (numbers_of o) (window.offset + k)) window.len }
+runs_of_casts q n v i o window = ap (λ m. record { dtype = dtypes.Primitive q m; items = tabulate (λ k. run_item (integers_in v) i.items (numbers_of o) (window.offset + k)) window.len }) (nullability_with n i.dtype)
 
 pub runs_cast_ok : (a : RLEArrayParts) (values indices : Tree) (target : DType) → refusal_of_rle a ≡ None → is_integer target ≡ true → cast_column (values_target target) (column a.values) ≡ Ok (column values) → cast_column (indices_target target a.indices) (column a.indices) ≡ Ok (column indices)
     → cast_column target (column (tree_of_rle a)) ≡ Ok (column (RLE values indices a.offsets a.window))

@@ -12,7 +12,7 @@ use Rattle.fl_column.specs.Operations.{cast_column, filter_of, ranges_of, take_o
 use Rattle.fl_column.proofs.ItemLaws.{items_of-between}
 use Rattle.fl_codec.specs.ChunkSlices.{end_chunk, first_chunk}
 use Rattle.fl_codec.specs.RunRefusals.{kept_values_end, kept_values_start}
-use Rattle.fl_array.specs.Trees.{BitPackedBlocked, BitPackedGlobal, Constant, Delta, FoRChunked, FoRGlobal, Primitive, RLE, Tree, Window, column}
+use Rattle.fl_array.specs.Trees.{BitPackedBlocked, BitPackedGlobal, Constant, Delta, FoRChunked, FoRGlobal, Primitive, RLE, Tree, OffsetLen, column}
 use Rattle.fl_array.specs.Trees as tree
 use Rattle.fl_array.specs.Slices.{slice_tree}
 use Rattle.fl_ops.specs.Normalized.{SameShown, normalized, plain_of, zero_under_nulls}

@@ -2,17 +2,17 @@
 use Rattle.std.proofs.Common.{◌≡◌, ℕ, zero, suc, ◌+◌, ◌-◌, ◌<◌, true, List, [], ◌∷◌, ◌++◌, length, map, get_or, Option, Some, ap, ◌∙◌, sym, arith}
 use Rattle.std.proofs.lemmas.List.{length-map}
 use Rattle.std.proofs.lemmas.List.FromFn.{length-map-range_with_len, map-range_with_len_more}
-use Rattle.fl_types.specs.Bits.{table}
+use Rattle.fl_types.specs.Bits.{tabulate}
 use Rattle.fl_patches.specs.PatchMaps.{AreFound, AreFoundTo, count_below, is_rising, rank_of, ranks_at, ranks_to}
 use Rattle.fl_patches.proofs.Kept.{ranks_more}
 use Rattle.fl_patches.proofs.Rising.{count_lt, count_next, count_split, count_up, rank_absent, rank_found, rising_at, rising_to}
 use Rattle.fl_patches.proofs.Sparse.{found_none}
 
 ranks_to_more : (offset : ℕ) (indices : List ℕ) (m : ℕ) → ranks_to offset indices (m + 1) ≡ ranks_to offset indices m ++ rank_of (offset + m) indices ∷ []
-ranks_to_more offset indices m = ap (λ positions. ranks_at offset indices (map (λ i. Some i) positions)) (map-range_with_len_more (λ i. i) 0 m m (omega arith)) ∙ ranks_more offset indices (table (λ i. i) m) m
+ranks_to_more offset indices m = ap (λ positions. ranks_at offset indices (map (λ i. Some i) positions)) (map-range_with_len_more (λ i. i) 0 m m (omega arith)) ∙ ranks_more offset indices (tabulate (λ i. i) m) m
 
 length_ranks_to : (offset : ℕ) (indices : List ℕ) (m : ℕ) → length (ranks_to offset indices m) ≡ m
-length_ranks_to offset indices m = length-map (map (λ i. Some i) (table (λ i. i) m)) _ ∙ (length-map (table (λ i. i) m) _ ∙ length-map-range_with_len (λ i. i) 0 m)
+length_ranks_to offset indices m = length-map (map (λ i. Some i) (tabulate (λ i. i) m)) _ ∙ (length-map (tabulate (λ i. i) m) _ ∙ length-map-range_with_len (λ i. i) 0 m)
 
 -- an index stands behind those below it
 count_here : (xs : List ℕ) (k : ℕ) → is_rising xs ≡ true → k < length xs → count_below (get_or xs k 0) xs ≡ k

@@ -1,6 +1,16 @@
 pub mod AllFound
+pub mod BitCounts
+pub mod Blocks
 pub mod Chunks
+pub mod Counted
+pub mod ExceptionPatches
+pub mod Firsts
+pub mod Gathers
+pub mod Histograms
 pub mod Kept
+pub mod LeastCosts
+pub mod LeastTotals
+pub mod Negatives
 pub mod Parts
 pub mod Picked
 pub mod Rising

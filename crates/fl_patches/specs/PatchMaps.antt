@@ -6,7 +6,7 @@ use Rattle.fl_types.specs.declared.dtype.Nullability.{Nullability}
 use Rattle.fl_types.specs.declared.error.FastLanesError.{FastLanesError}
 use Rattle.fl_types.specs.declared.error.FastLanesError.TheVariants.{PatchType, PatchLength, PatchContent}
 use Rattle.fl_types.specs.declared.mask.Mask.{Mask}
-use Rattle.fl_types.specs.Bits.{table}
+use Rattle.fl_types.specs.Bits.{tabulate}
 use Rattle.fl_types.specs.Masks.{mask_bits}
 use Rattle.fl_types.specs.Types.{is_index_type}
 use Rattle.fl_types.specs.Validities.{full_validity, nullability_of}
@@ -173,7 +173,7 @@ patched_in_take indices p j = option_and_then (λ z. patched p (unsigned_abs z))
 
 -- the positions that a mask keeps, rising
 abbrev pub kept_positions : Mask → ℕ → List ℕ
-kept_positions mask len = kept (mask_bits mask) (table (λ i. i) len)
+kept_positions mask len = kept (mask_bits mask) (tabulate (λ i. i) len)
 
 -- the patches of the items that the mask keeps, if there is one
 abbrev pub filter_patches : Mask → PatchesParts → Option PatchesParts
@@ -202,7 +202,7 @@ ranks_at offset indices positions = map (option_and_then (λ i. rank_of (offset 
 
 -- the ranks of the patches at the first positions
 abbrev pub ranks_to : ℕ → List ℕ → ℕ → List (Option ℕ)
-ranks_to offset indices len = ranks_at offset indices (map (λ i. Some i) (table (λ i. i) len))
+ranks_to offset indices len = ranks_at offset indices (map (λ i. Some i) (tabulate (λ i. i) len))
 
 -- places and ranks are those of the patches at the first positions, wherever this many indices stand before their end
 abbrev pub AreFoundTo : ℕ → List ℕ → ℕ → List ℕ → List ℕ → Type 0

@@ -1,10 +1,24 @@
-//! Patches: a finite map from positions of an array to values that stand there in place of others.
+//! Patches: a finite map from positions of an array to values that stand there in place of others;
+//! the widths of least cost for the bits of a column's items, and the patches of the items that a
+//! width leaves out.
 #![tactic(auto)]
 
+pub mod best_width;
+pub mod block_widths;
 mod builder;
 mod checks;
+pub mod gathering;
+pub mod histogram;
 pub mod indices;
+pub mod laws;
 pub mod patches;
+mod patterns;
 mod selection;
+pub mod widths;
 
+pub use crate::best_width::{count_exceptions, find_best_bit_width};
+pub use crate::block_widths::find_best_bit_widths;
+pub use crate::gathering::{gather_blocked_patches, gather_patches};
+pub use crate::histogram::bit_width_histogram;
 pub use crate::patches::Patches;
+pub use crate::widths::Widths;

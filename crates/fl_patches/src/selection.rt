@@ -2,7 +2,7 @@
 
 ghost use Rattle.std.specs.Prelude.{◌≡◌, ◌+◌, ◌≤◌, ◌<◌, ℕ, Bool, false, true, List, Option, Some, None, IfOk, IfErr, IsTrue, Ok, length, map, option_and_then, slice_index_or, unsigned_abs};
 ghost use Rattle.std.specs.List.{list_all};
-ghost use Rattle.fl_types.specs.Bits.{table, true_count};
+ghost use Rattle.fl_types.specs.Bits.{tabulate, true_count};
 ghost use Rattle.fl_types.specs.Masks.{mask_bits, mask_len};
 ghost use Rattle.fl_types.specs.declared.mask.Mask.TheVariants.{Values};
 ghost use Rattle.fl_types.specs.Refusals.{Answers};

@@ -12,15 +12,15 @@ use Rattle.std.specs.Cmp.Lexicographic.{pointwise}
 use Rattle.fl_types.specs.Refusals.{Answers}
 use Rattle.fl_types.specs.declared.error.FastLanesError.{FastLanesError}
 use Rattle.fl_types.specs.declared.error.FastLanesError.TheVariants.{OutOfMemory}
-use Rattle.fl_types.specs.Bits.{between, bit_of_word, first_bits, is_set, table}
+use Rattle.fl_types.specs.Bits.{between, bit_of_word, first_bits, is_set, tabulate}
 
 pub length_first_bits : (words : List ℕ) (n : ℕ) → length (first_bits words n) ≡ n
 unfolding first_bits
 length_first_bits words n = length-map-range_with_len (is_set words) 0 n
 
-pub get_table : {A : Type 0} (f : ℕ → A) (n i : ℕ) → i < n → slice_get (table f n) i ≡ Some (f i)
+pub get_table : {A : Type 0} (f : ℕ → A) (n i : ℕ) → i < n → slice_get (tabulate f n) i ≡ Some (f i)
 get_table f n i h =
-    slice_get-get_or (table f n) i (f i) (omega (arith, length-map-range_with_len f 0 n)) ∙ ap (λ x. Some x) (get_or-map-range_with_len f 0 n i i (f i) h (omega arith))
+    slice_get-get_or (tabulate f n) i (f i) (omega (arith, length-map-range_with_len f 0 n)) ∙ ap (λ x. Some x) (get_or-map-range_with_len f 0 n i i (f i) h (omega arith))
 
 pub get_first_bits : (words : List ℕ) (n i : ℕ) → i < n → slice_get (first_bits words n) i ≡ Some (is_set words i)
 unfolding first_bits
@@ -94,16 +94,16 @@ unfolding first_bits
 each_first_bit P words n h i k = subst (P i) (sym (get_or-map-range_with_len (is_set words) 0 n i i false k (omega arith))) (h i k)
 
 -- a table with the same entries is the same
-pub same_tables : {A : Type 0} (f g : ℕ → A) (n : ℕ) → ((i : ℕ) → i < n → f i ≡ g i) → table f n ≡ table g n
+pub same_tables : {A : Type 0} (f g : ℕ → A) (n : ℕ) → ((i : ℕ) → i < n → f i ≡ g i) → tabulate f n ≡ tabulate g n
 same_tables f g n h =
-    fill_by_all g (table f n) n (f 0) (length-map-range_with_len f 0 n) (λ k below. get_or-map-range_with_len f 0 n k k (f 0) below (omega arith) ∙ h k below)
+    fill_by_all g (tabulate f n) n (f 0) (length-map-range_with_len f 0 n) (λ k below. get_or-map-range_with_len f 0 n k k (f 0) below (omega arith) ∙ h k below)
 
 -- one more bit behind the first n
 first_bits_more : (old new : List ℕ) (n : ℕ) (bit : Bool) → ((i : ℕ) → i < n → is_set new i ≡ is_set old i) → is_set new n ≡ bit
     → first_bits new (n + 1) ≡ first_bits old n ++ bit ∷ []
 unfolding first_bits
 first_bits_more old new n bit same here =
-    map-range_with_len_more (is_set new) 0 n n (omega arith) ∙ (ap (λ xs. xs ++ is_set new n ∷ []) (same_tables (is_set new) (is_set old) n same) ∙ ap (λ b. table (is_set old) n ++ b ∷ []) here)
+    map-range_with_len_more (is_set new) 0 n n (omega arith) ∙ (ap (λ xs. xs ++ is_set new n ∷ []) (same_tables (is_set new) (is_set old) n same) ∙ ap (λ b. tabulate (is_set old) n ++ b ∷ []) here)
 
 -- a bit in a word of its own
 pub bit_in_new_word : (words : List ℕ) (word n : ℕ) (bit : Bool) → length words ≡ (n + 63) / 64 → n % 64 ≡ 0 → bit_of_word word 0 ≡ bit
@@ -147,19 +147,19 @@ pub last_bit_cleared : (word n at : ℕ) → n % 64 ≡ at → bit_of_word (bit_
 last_bit_cleared word n at rest = bit_cleared word at (omega arith)
 
 -- a part of a list, by its items
-pub table_between : {A : Type 0} (xs : List A) (start end : ℕ) (d : A) → start ≤ end → end ≤ length xs → table (λ i. get_or xs (start + i) d) (end - start) ≡ between start end xs
+pub table_between : {A : Type 0} (xs : List A) (start end : ℕ) (d : A) → start ≤ end → end ≤ length xs → tabulate (λ i. get_or xs (start + i) d) (end - start) ≡ between start end xs
 table_between xs start end d order range =
     let part = between start end xs in
     let len : length part ≡ end - start = grind (arith, length-take, length-drop) in
     sym (fill_by_all (λ i. get_or xs (start + i) d) part (end - start) d len (λ k h. get_or-take (end - start) (drop start xs) k d h ∙ get_or-drop start xs k d))
 
 -- a list of bits that are what f says is the table of f
-pub made_of : {E : Type 0} (f : ℕ → Bool) (n : ℕ) (r : Result (List Bool) E) → IfOk r (λ b. length b ≡ n) → IfOk r (λ b. (i : ℕ) → i < n → get_or b i false ≡ f i) → IfOk r (λ b. b ≡ table f n)
+pub made_of : {E : Type 0} (f : ℕ → Bool) (n : ℕ) (r : Result (List Bool) E) → IfOk r (λ b. length b ≡ n) → IfOk r (λ b. (i : ℕ) → i < n → get_or b i false ≡ f i) → IfOk r (λ b. b ≡ tabulate f n)
 made_of f n (Ok b) len bits = fill_by_all f b n false len bits
 made_of f n (Err e) len bits = tt
 
 -- the list that a closure made, or a refusal
-pub answered : (f : ℕ → Bool) (n : ℕ) (r : Result (List Bool) FastLanesError) → IfOk r (λ b. length b ≡ n) → IfOk r (λ b. (i : ℕ) → i < n → get_or b i false ≡ f i) → IfErr r (λ e. e ≡ OutOfMemory) → Answers (λ b. b) r (Ok (table f n))
+pub answered : (f : ℕ → Bool) (n : ℕ) (r : Result (List Bool) FastLanesError) → IfOk r (λ b. length b ≡ n) → IfOk r (λ b. (i : ℕ) → i < n → get_or b i false ≡ f i) → IfErr r (λ e. e ≡ OutOfMemory) → Answers (λ b. b) r (Ok (tabulate f n))
 answered f n (Ok b) e h memory = ap Ok (sym (made_of {E = FastLanesError} f n (Ok b) e h))
 answered f n (Err e) len h memory = rw memory tt
 

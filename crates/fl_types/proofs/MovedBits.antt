@@ -8,7 +8,7 @@ use Rattle.std.proofs.lemmas.Nat.{shr-shr, pow_pos}
 use Rattle.std.proofs.lemmas.Nat.Bits.{bit_at_or, bit_at_above, bit_at_cat_low, bit_at_cat_high, bit_at-lt, bit_at-zero}
 use Rattle.std.proofs.lemmas.List.{same_lists, get_or-set_same, get_or-set_other, get_or-take, get_or_default}
 use Rattle.std.proofs.lemmas.List.FromFn.{get_or-map-range_with_len}
-use Rattle.fl_types.specs.Bits.{bit_of_word, bits_from, first_bits, is_set, table}
+use Rattle.fl_types.specs.Bits.{bit_of_word, bits_from, first_bits, is_set, tabulate}
 use Rattle.fl_types.proofs.BitLists.{bit_left, is_set_in, is_set_out, is_set_at, length_first_bits, same_tables}
 
 from_shift : (low shift j : ℕ) → bit_at (low / 2 ^ shift) j ≡ bit_at low (shift + j)

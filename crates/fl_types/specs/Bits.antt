@@ -4,8 +4,8 @@ use Rattle.std.specs.Int.{bit_at}
 use Rattle.std.specs.List.{range_with_len}
 
 -- f 0 to f (n - 1)
-abbrev pub table : {A : Type 0} → (ℕ → A) → ℕ → List A
-table f n = map f (range_with_len 0 n)
+abbrev pub tabulate : {A : Type 0} → (ℕ → A) → ℕ → List A
+tabulate f n = map f (range_with_len 0 n)
 
 -- the items from start to below end
 abbrev pub between : {A : Type 0} → ℕ → ℕ → List A → List A
@@ -21,11 +21,11 @@ is_set words i = bit_of_word (slice_index words (i / 64)) (i % 64)
 
 -- the first n bits of these words
 unfoldable pub first_bits : List ℕ → ℕ → List Bool
-first_bits words n = table (is_set words) n
+first_bits words n = tabulate (is_set words) n
 
 -- the n bits of these words from bit `start` on
 unfoldable pub bits_from : List ℕ → ℕ → ℕ → List Bool
-bits_from words start n = table (λ i. is_set words (start + i)) n
+bits_from words start n = tabulate (λ i. is_set words (start + i)) n
 
 -- how many are true
 abbrev pub true_count : List Bool → ℕ

@@ -52,6 +52,6 @@ fits_in (dtypes.Bool nullability) z = int_eq z (pos 0) || int_eq z (pos 1)
 -- what a scalar is
 abbrev pub scalar_parts : Scalar → ScalarParts
 scalar_parts (scalars.Integer value nullability) = record { dtype = dtypes.Primitive (ptype_of_value value) nullability; value = Some (integer_of value) }
-scalar_parts (scalars.Truth value nullability) = record { dtype = dtypes.Bool nullability; value = Some (bool_number value) }
+scalar_parts (scalars.Bool value nullability) = record { dtype = dtypes.Bool nullability; value = Some (bool_number value) }
 scalar_parts (scalars.NullInteger ptype) = record { dtype = dtypes.Primitive ptype Nullable; value = None }
-scalar_parts scalars.NullTruth = record { dtype = dtypes.Bool Nullable; value = None }
+scalar_parts scalars.NullBool = record { dtype = dtypes.Bool Nullable; value = None }

@@ -5,7 +5,7 @@ ghost use Rattle.std.specs.Bool.{beq};
 ghost use Rattle.std.specs.Cmp.{bool_eq_equiv, partial_equiv_from_equiv};
 ghost use Rattle.std.specs.Cmp.Lexicographic.{lists_equiv, lists_per, pointwise};
 ghost use Rattle.std.specs.Int.{bit_at};
-ghost use Rattle.fl_types.specs.Bits.{between, bit_of_word, bits_from, first_bits, is_set, table, true_count};
+ghost use Rattle.fl_types.specs.Bits.{between, bit_of_word, bits_from, first_bits, is_set, tabulate, true_count};
 ghost use Rattle.fl_types.specs.Refusals.{Answers};
 ghost use Rattle.fl_types.specs.declared.error.FastLanesError.TheVariants.{OutOfMemory};
 

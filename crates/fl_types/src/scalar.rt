@@ -69,11 +69,11 @@ pub enum Scalar {
     /// An integer, and whether a null may stand in its place.
     Integer(PValue, Nullability),
     /// A boolean, and whether a null may stand in its place.
-    Truth(bool, Nullability),
+    Bool(bool, Nullability),
     /// A null in place of an integer of this type.
     NullInteger(PType),
     /// A null in place of a boolean.
-    NullTruth,
+    NullBool,
 }
 
 impl Scalar {
@@ -88,7 +88,7 @@ impl Scalar {
     pub fn bool(value: bool, nullability: Nullability) -> Scalar
         ensures { scalar_parts result ≡ record { dtype = Bool nullability; value = Some (bool_number value) } }
     {
-        Scalar::Truth(value, nullability)
+        Scalar::Bool(value, nullability)
     }
 
     /// A null, whose type is this one made nullable.
@@ -97,7 +97,7 @@ impl Scalar {
     {
         match dtype {
             DType::Primitive(ptype, _) => Scalar::NullInteger(ptype),
-            DType::Bool(_) => Scalar::NullTruth,
+            DType::Bool(_) => Scalar::NullBool,
         }
     }
 
@@ -107,9 +107,9 @@ impl Scalar {
     {
         match self {
             Scalar::Integer(value, nullability) => DType::Primitive(value.ptype(), nullability),
-            Scalar::Truth(_, nullability) => DType::Bool(nullability),
+            Scalar::Bool(_, nullability) => DType::Bool(nullability),
             Scalar::NullInteger(ptype) => DType::Primitive(ptype, Nullability::Nullable),
-            Scalar::NullTruth => DType::Bool(Nullability::Nullable),
+            Scalar::NullBool => DType::Bool(Nullability::Nullable),
         }
     }
 
@@ -117,7 +117,7 @@ impl Scalar {
     pub fn is_null(self) -> bool
         ensures { result ≡ is_none (scalar_parts self).value }
     {
-        matches!(self, Scalar::NullInteger(_) | Scalar::NullTruth)
+        matches!(self, Scalar::NullInteger(_) | Scalar::NullBool)
     }
 
     /// The integer, or `None` of a null or a boolean.
@@ -138,7 +138,7 @@ impl Scalar {
         ensures found { IsSome result ↔ ((integer_type (scalar_parts self).dtype ≡ None) × IsSome (scalar_parts self).value) }
     {
         match self {
-            Scalar::Truth(value, _) => Some(value),
+            Scalar::Bool(value, _) => Some(value),
             _ => None,
         }
     }

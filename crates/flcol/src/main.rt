@@ -1,12 +1,12 @@
 //! Columns of integers, packed.
 #![tactic(auto)]
 
-use flcol_engine::ends::{ReadEnd, WriteEnd};
+use fl_column::FastLanesError;
 use flcol_engine::fault::Fault;
+use flcol_engine::io::{ReadEnd, WriteEnd};
 use flcol_engine::start;
 use std::process::ExitCode;
 use std::{env, io};
-use vortex_fastlanes::FastLanesError;
 
 /// Memory ran out.
 const OUT_OF_MEMORY: Fault = Fault::Refused(FastLanesError::OutOfMemory);

@@ -27,7 +27,7 @@ use Rattle.fl_metadata.specs.declared.patches.PatchesMetadata.{PatchesMetadata}
 use Rattle.fl_array.specs.Trees.{BitPackedBlocked, BitPackedGlobal, Constant, Delta, FoRChunked, FoRGlobal, Primitive, RLE, Tree, column}
 use Rattle.fl_array.specs.Trees as tree
 use Rattle.fl_serialized.specs.Nodes.{And, Head, NoMore, Node, Nodes, Of, depth, depth_of, nodes_of}
-use Rattle.fl_plugin.specs.Writing.{chunk_offset_nodes, head_written, item_count, metadata_of, packed_nodes, patch_nodes, scalar_text, validity_nodes, written}
+use Rattle.fl_serde.specs.Writing.{chunk_offset_nodes, head_written, item_count, metadata_of, packed_nodes, patch_nodes, scalar_bytes, validity_nodes, written}
 use Rattle.flcol_container.specs.Container.{node_count}
 use Rattle.flcol_container.specs.Outcomes.{IsWriting}
 use Rattle.flcol_container.specs.Room.{has_room, have_room, head_has_room}
@@ -104,7 +104,7 @@ patches_slot tag (Some m) = omega (arith, bytes_field tag (patches_text m), patc
 with_patches : (a b c : Slot) → length (payload_text_at a.tag a.payload) ≤ 20 → length (payload_text_at b.tag b.payload) ≤ 20 → length (payload_text_at c.tag c.payload) ≤ 120 → length (message_text (a ∷ b ∷ c ∷ [])) ≤ 160
 with_patches a b c first second third = omega (arith, slot_written a (b ∷ c ∷ []), slot_written b (c ∷ []), slot_written c [], none_written, first, second, third)
 
-scalar_short : (scalar : ScalarParts) → length (scalar_text scalar) ≤ 160
+scalar_short : (scalar : ScalarParts) → length (scalar_bytes scalar) ≤ 160
 scalar_short scalar = omega (arith, numbers_short (scalar_slots (unwrap_or (integer_type scalar.dtype) U8) scalar.value) (stated_slot _ _, tt))
 
 metadata_short : (t : Tree) → length (metadata_of t) ≤ 160

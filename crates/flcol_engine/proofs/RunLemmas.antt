@@ -6,7 +6,7 @@ use Rattle.fl_types.specs.declared.error.FastLanesError.{FastLanesError}
 use Rattle.fl_column.specs.Columns.{Column, PrimitiveParts}
 use Rattle.fl_array.specs.ToBlocked.{to_blocked_tree}
 use Rattle.fl_array.specs.Trees.{Tree, column}
-use Rattle.fl_plugin.specs.Writing.{id_of}
+use Rattle.fl_serde.specs.Writing.{id_of}
 use Rattle.fl_ops.specs.Operations.{Step, and_then, run_columns}
 use Rattle.fl_ops.specs.Results.{IsResult}
 use Rattle.flcol_engine.specs.declared.commands.Encode.{Encode}

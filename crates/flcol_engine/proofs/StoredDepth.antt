@@ -7,7 +7,7 @@ use Rattle.fl_array.specs.Trees.{BitPackedBlocked, BitPackedGlobal, Constant, De
 use Rattle.fl_array.specs.Trees as tree
 use Rattle.fl_array.specs.ToBlocked.{to_blocked_tree}
 use Rattle.fl_serialized.specs.Nodes.{depth, depth_of, nodes_of}
-use Rattle.fl_plugin.specs.Writing.{validity_nodes, written}
+use Rattle.fl_serde.specs.Writing.{validity_nodes, written}
 use Rattle.fl_ops.specs.Normalized.{SameShown, normalized}
 
 plain_depth : (n m : ℕ) (v : Validity) → depth_of (nodes_of (validity_nodes n v)) ≡ depth_of (nodes_of (validity_nodes m v))

@@ -6,7 +6,7 @@ use Rattle.fl_bitpacking.specs.Blocks.{boundary_array}
 use Rattle.fl_bitpacking.specs.Columns.{BitPackedParts}
 use Rattle.fl_bitpacking.specs.Encoders.{AnswersUnless, IsPackedAt, IsPackedInBlocks, best_width_of, best_widths_of, width_refusal, widths_refusal}
 use Rattle.fl_codec.specs.Parts.{ByChunk, FoRParts, Nulls, OneReference, RunParts, Whole, compress_deltas, encode_chunked, encode_global, encode_runs}
-use Rattle.fl_array.specs.Trees.{BitPackedBlocked, BitPackedGlobal, Constant, Delta, DeltaParts, FoRChunked, FoRGlobal, Primitive, RLE, Tree, Window, column}
+use Rattle.fl_array.specs.Trees.{BitPackedBlocked, BitPackedGlobal, Constant, Delta, DeltaParts, FoRChunked, FoRGlobal, Primitive, RLE, Tree, OffsetLen, column}
 use Rattle.flcol_engine.specs.declared.commands.Encoding.{Encoding}
 use Rattle.flcol_engine.specs.declared.commands.Encoding.TheVariants as encodings
 use Rattle.flcol_engine.specs.declared.commands.Packing.{Packing}
@@ -81,7 +81,7 @@ abbrev pub HasDeltas : Option Packing → PrimitiveParts → PrimitiveParts → 
 HasDeltas packing bases plain parts t = (deltas : Tree) × IsChild packing plain deltas × (t ≡ Delta (Primitive bases) deltas parts)
 
 -- the array has these runs, the run indices packed where that is asked for
-abbrev pub HasRuns : Option Packing → RunParts → Window → Tree → Type 0
+abbrev pub HasRuns : Option Packing → RunParts → OffsetLen → Tree → Type 0
 HasRuns packing runs window t = (indices : Tree) × IsChild packing runs.indices indices × (t ≡ RLE (Primitive runs.values) indices (Primitive runs.offsets) window)
 
 -- ---- encodings

@@ -3,9 +3,9 @@ use Rattle.std.specs.Prelude.{◌≡◌, ◌≢◌, ◌<◌, ℕ, List, [], ◌�
 use Rattle.std.specs.Io.KnownBytes.{Appends}
 use Rattle.fl_types.specs.declared.error.FastLanesError.{FastLanesError}
 use Rattle.fl_serialized.specs.Nodes.{Node, depth}
-use Rattle.fl_plugin.specs.Reading.{reading}
-use Rattle.fl_plugin.specs.RoundTrip.{IsReadBack}
-use Rattle.fl_plugin.specs.Writing.{id_of, written}
+use Rattle.fl_serde.specs.Reading.{reading}
+use Rattle.fl_serde.specs.RoundTrip.{IsReadBack}
+use Rattle.fl_serde.specs.Writing.{id_of, written}
 use Rattle.flcol_container.specs.Container.{IsContainer, IsNoContainer, max_depth}
 use Rattle.fl_column.specs.Columns.{PrimitiveParts}
 use Rattle.fl_array.specs.ToBlocked.{to_blocked_tree}

@@ -1,7 +1,7 @@
 //! The commands of the program, as its words say them.
 
-use vortex_fastlanes::array::Op;
-use vortex_fastlanes::{BetweenOptions, CompareOperator, Nullability, PType};
+use fl_column::{BetweenOptions, CompareOperator, Nullability, PType};
+use fl_ops::Op;
 
 /// The command `pack`: the type of the column, and the bits that are kept of each item.
 #[derive(Clone, Copy, Debug, PartialEq, Eq)]

@@ -4,7 +4,7 @@ ghost use Rattle.flcol_engine.specs.Outputs.{IsEncodeOutput, Meets};
 
 use crate::commands::Encode;
 use crate::fault::Fault;
-use crate::runs::store;
+use crate::query::store;
 use crate::{encoding, text};
 use std::alloc::Global;
 

@@ -13,18 +13,19 @@ ghost use Rattle.fl_array.specs.Trees as tree;
 ghost use Rattle.flcol_engine.specs.Encodings.{EncodesAs, HasChunkReferences, HasDeltas, HasOneReference, HasReference, HasReferences, HasRuns, IsChild, IsPackedAs, Makes, child_refusal, one_reference_refusal, packing_refusal, references_refusal};
 
 use crate::commands::{Encoding, Packing};
+use fl_array::bitpacking::bitpack_compress::{
+    bitpack_blocked_to_best_bit_widths, bitpack_encode, bitpack_to_best_bit_width,
+};
+use fl_array::delta::Delta;
+use fl_array::for_::FoR;
+use fl_array::rle::RLE;
+use fl_array::{ArrayRef, IntoArray};
 use fl_codec::for_::{EncodedFoR, GlobalFoR};
 use fl_codec::laws::{chunked_for_and_back, deltas_and_back, global_for_and_back, runs_and_back};
 use fl_codec::rle::Runs;
 use fl_codec::{delta, for_, rle};
+use fl_column::{ConstantArray, FastLanesError, PType, PrimitiveArray, Scalar, Validity};
 use std::alloc::Global;
-use vortex_fastlanes::array::{ArrayRef, IntoArray};
-use vortex_fastlanes::bitpack_compress::{
-    bitpack_blocked_to_best_bit_widths, bitpack_encode, bitpack_to_best_bit_width,
-};
-use vortex_fastlanes::{
-    ConstantArray, Delta, FastLanesError, FoR, PType, PrimitiveArray, RLE, Scalar, Validity,
-};
 
 /// The array, packed.
 ///

@@ -7,14 +7,14 @@ ghost use Rattle.flcol_engine.specs.Command.{parts_of_run};
 ghost use Rattle.flcol_engine.specs.Outputs.{IsEncodeOutput, IsOutcomeOf, IsRunOutput};
 
 use crate::commands::{Encode, Pack, Run};
-use crate::ends::{Sink, Source};
 use crate::fault::Fault;
+use crate::io::{Sink, Source};
 use crate::transfer::{read_all, write_all};
 use crate::{encodes, runs, text};
 use bytes::Bytes;
+use fl_bitpacking::bitpack_compress::bitpack_unchecked;
+use fl_column::FastLanesError;
 use std::alloc::Global;
-use vortex_fastlanes::FastLanesError;
-use vortex_fastlanes::bitpack_compress::bitpack_unchecked;
 
 /// The packed bytes of the column that a text says.
 fn packed(alloc: Global, command: Pack, text: &[u8]) -> Result<Bytes, Fault>

@@ -5,11 +5,11 @@ ghost use Rattle.fl_types.specs.declared.error.FastLanesError.TheVariants.{OutOf
 ghost use Rattle.flcol_engine.specs.declared.fault.Fault.TheVariants as faults;
 ghost use Rattle.flcol_engine.specs.Faults.{fault_line, fault_number, of_container};
 
-use crate::ends::{ReadFault, WriteFault};
+use crate::io::{ReadFault, WriteFault};
+use fl_column::FastLanesError;
 use flcol_container::ContainerError;
 use std::alloc::{AllocError, AllocFailed};
 use thiserror::Error;
-use vortex_fastlanes::FastLanesError;
 
 /// What a run can be refused with. Each has a number, and is shown by its name.
 #[derive(Clone, Copy, Debug, PartialEq, Eq, Error)]

@@ -4,7 +4,7 @@ ghost use Rattle.std.specs.Prelude.{◌≡◌};
 ghost use Rattle.fl_array.specs.ToBlocked.{to_blocked_tree};
 ghost use Rattle.fl_array.specs.Trees.{Tree};
 ghost use Rattle.fl_serialized.specs.Nodes.{depth};
-ghost use Rattle.fl_plugin.specs.Writing.{written};
+ghost use Rattle.fl_serde.specs.Writing.{written};
 ghost use Rattle.fl_ops.specs.Normalized.{SameShown};
 
 /// Arrays that are the same but for slots under nulls stand as many nodes deep, as they are and with a width for each

@@ -9,11 +9,12 @@ ghost use Rattle.fl_types.specs.declared.dtype.DType.TheVariants.{Primitive};
 ghost use Rattle.fl_types.specs.declared.mask.Mask.TheVariants.{Values};
 ghost use Rattle.flcol_engine.specs.Words.{bits_in_text, column_type_in_word, each_says, index_in_text, indices_array, is_bit, list_in_text, named_operation, operation_in_word, pair_in_text, range_in_text};
 
-use crate::word_parts::{list, pair, split_once};
-use crate::words::column_type;
+use crate::arg_parts::{list, pair, split_once};
+use crate::args::column_type;
+use fl_array::{ArrayRef, IntoArray};
+use fl_column::{BitList, DType, FastLanesError, Mask, PrimitiveArray};
+use fl_ops::Op;
 use std::alloc::Global;
-use vortex_fastlanes::array::{ArrayRef, IntoArray, Op};
-use vortex_fastlanes::{BitList, DType, FastLanesError, Mask, PrimitiveArray};
 
 /// The indices, where none is null.
 fn all_indices(alloc: Global, indices: &[Option<u64>]) -> Result<Option<Vec<u64>>, FastLanesError>

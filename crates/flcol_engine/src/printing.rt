@@ -11,12 +11,10 @@ ghost use Rattle.fl_types.specs.Values.{bool_number, integer_of, scalar_parts};
 ghost use Rattle.fl_column.specs.Columns.{column_of_bools, column_of_primitive};
 ghost use Rattle.flcol_engine.specs.Printing.{column_text, line, scalar_text, text_of_item, truth_text};
 
+use fl_column::{BoolArray, FastLanesError, NativePType, PValue, PrimitiveArray, Scalar, Validity};
 use fl_types::{is_less, match_each_integer_ptype};
 use itoa::Buffer;
 use std::alloc::Global;
-use vortex_fastlanes::{
-    BoolArray, FastLanesError, NativePType, PValue, PrimitiveArray, Scalar, Validity,
-};
 
 /// Adds an integer in decimal digits, and a line feed.
 fn push_integer<T: NativePType>(text: &mut Vec<u8>, x: T) -> Result<(), FastLanesError>
@@ -148,8 +146,8 @@ pub fn print_scalar(alloc: Global, scalar: Scalar) -> Result<Vec<u8>, FastLanesE
 {
     match scalar {
         Scalar::Integer(value, _) => print_integer(alloc, value),
-        Scalar::Truth(truth, _) => print_truth(alloc, truth),
-        Scalar::NullInteger(_) | Scalar::NullTruth => Ok(Vec::from_slice(alloc, b"null\n")?),
+        Scalar::Bool(truth, _) => print_truth(alloc, truth),
+        Scalar::NullInteger(_) | Scalar::NullBool => Ok(Vec::from_slice(alloc, b"null\n")?),
     }
 }
 

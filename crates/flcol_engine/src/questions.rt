@@ -15,13 +15,14 @@ ghost use Rattle.flcol_engine.specs.Replies.{constant_of_type, reply};
 
 use crate::commands::ColumnQuestion;
 use crate::printing::{print_bools, print_integers, print_scalar, print_truth};
-use fl_types::match_each_integer_ptype;
-use std::alloc::Global;
-use vortex_fastlanes::array::{ArrayOps, ArrayRef};
-use vortex_fastlanes::{
+use fl_array::ArrayRef;
+use fl_column::{
     BetweenOptions, CompareOperator, DType, FastLanesError, NativePType, Nullability, PType,
     PValue, Scalar,
 };
+use fl_ops::ArrayOps;
+use fl_types::match_each_integer_ptype;
+use std::alloc::Global;
 
 fn typed_value<T: NativePType>(value: i128) -> Option<PValue>
     ensures value { option_map integer_of result ≡ (if fits T.PTYPE value then Some value else None) }

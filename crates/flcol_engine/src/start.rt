@@ -7,12 +7,12 @@ ghost use Rattle.flcol_engine.specs.Faults.{fault_line};
 ghost use Rattle.flcol_engine.specs.Command.{IsRun, IsUsage, command_of, parts_of_command, report_of, status_of, usage_line};
 
 use crate::commands::Command;
-use crate::ends::{Sink, Source};
 use crate::fault::Fault;
+use crate::io::{Sink, Source};
 use crate::transfer::write_all;
 use crate::{engine, words};
+use fl_column::FastLanesError;
 use std::alloc::Global;
-use vortex_fastlanes::FastLanesError;
 
 /// Memory ran out.
 const OUT_OF_MEMORY: Fault = Fault::Refused(FastLanesError::OutOfMemory);

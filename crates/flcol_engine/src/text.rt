@@ -11,11 +11,11 @@ ghost use Rattle.flcol_engine.specs.Text.{AreParts, column_in_text, integer_in_t
 ghost use Rattle.flcol_engine.specs.Faults.{IsOutcome};
 
 use crate::fault::Fault;
-use fl_types::match_each_integer_ptype;
-use std::alloc::Global;
-use vortex_fastlanes::{
+use fl_column::{
     BitList, FastLanesError, NativePType, Nullability, PType, PrimitiveArray, Validity,
 };
+use fl_types::match_each_integer_ptype;
+use std::alloc::Global;
 
 /// The first line, without its line feed, and what comes behind it.
 fn first_line(text: &[u8]) -> (&[u8], &[u8])

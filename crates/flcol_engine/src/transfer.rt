@@ -5,8 +5,8 @@ ghost use Rattle.std.specs.Io.KnownBytes.{Appends, IsAtEnd};
 ghost use Rattle.flcol_engine.specs.Ends.{Marks, AppendsFront, MarksWhere};
 ghost use Rattle.flcol_engine.specs.Faults.{out_of_memory};
 
-use crate::ends::{Sink, Source, WriteFault};
 use crate::fault::Fault;
+use crate::io::{Sink, Source, WriteFault};
 use std::alloc::{AllocError, Global};
 
 const CHUNK: usize = 65536;

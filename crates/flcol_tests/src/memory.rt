@@ -2,7 +2,7 @@
 
 ghost use Rattle.std.specs.Prelude.{◌≡◌, ◌<◌, None, Some, false};
 
-use flcol_engine::ends::{ReadFault, Sink, Source, WriteFault};
+use flcol_engine::io::{ReadFault, Sink, Source, WriteFault};
 use std::alloc::Global;
 use std::io;
 use std::io::{Read, Write};

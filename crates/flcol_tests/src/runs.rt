@@ -3,8 +3,8 @@
 ghost use Rattle.std.specs.Prelude.{◌<◌};
 
 use crate::memory::{Broken, ByBytes, FromMemory, ToMemory, Unflushed};
-use flcol_engine::ends::{ReadEnd, WriteEnd};
 use flcol_engine::fault::Fault;
+use flcol_engine::io::{ReadEnd, WriteEnd};
 use flcol_engine::start::start;
 use std::alloc::Global;
 use std::io::{Read, Write};

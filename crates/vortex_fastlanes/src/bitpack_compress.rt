@@ -4,8 +4,8 @@ pub use fl_array::bitpacking::bitpack_compress::{
     bitpack_blocked_to_best_bit_widths, bitpack_encode, bitpack_encode_blocked,
     bitpack_encode_unchecked, bitpack_to_best_bit_width,
 };
-pub use fl_bit_widths::{
+pub use fl_bitpacking::bitpack_compress::word_packing::bitpack_primitive;
+pub use fl_bitpacking::bitpack_compress::{bitpack_into, bitpack_unchecked};
+pub use fl_patches::{
     bit_width_histogram, find_best_bit_width, find_best_bit_widths, gather_patches,
 };
-pub use fl_bitpacking::packing::{bitpack_into, bitpack_unchecked};
-pub use fl_bitpacking::word_packing::bitpack_primitive;

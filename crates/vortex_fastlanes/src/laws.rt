@@ -5,6 +5,6 @@ pub use fl_ops::laws::{
     cast_of_cast, differing_is_not_equal, one_result, same_shown, stated_result, sums_rise,
     take_of_slice,
 };
-pub use fl_plugin::laws::{
+pub use fl_serde::laws::{
     node_has_one_column, prove_read_back, round_trip, same_column_and_kind, written_blocked,
 };

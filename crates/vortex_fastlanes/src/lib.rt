@@ -32,5 +32,5 @@ pub use fl_column::{
 };
 pub use fl_metadata::PatchesMetadata;
 pub use fl_patches::Patches;
-pub use fl_plugin::{BitPackedPlugin, FoRPlugin};
+pub use fl_serde::{BitPackedPlugin, FoRPlugin};
 pub use fl_serialized::ids::{bitpacked_v1_id, bitpacked_v2_id, for_v1_id, for_v2_id};

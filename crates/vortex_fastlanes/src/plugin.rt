@@ -2,8 +2,8 @@
 //! tree can be handed to.
 
 pub use fl_metadata::{BitPackedMetadata, DeltaMetadata, RLEMetadata};
-pub use fl_plugin::laws::round_trip;
-pub use fl_plugin::{
+pub use fl_serde::laws::round_trip;
+pub use fl_serde::{
     ArrayForm, BitPackedPlugin, FoRPlugin, SerializedArray, bitpacked_v1_id, bitpacked_v2_id,
     deserialize, for_v1_id, for_v2_id, serialize,
 };

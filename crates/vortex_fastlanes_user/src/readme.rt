@@ -9,7 +9,7 @@ use vortex_fastlanes::*;
 pub fn packed_and_back(alloc: Global, numbers: Vec<u32>) -> Result<Vec<u32>, FastLanesError> {
     let array = PrimitiveArray::new(numbers, Validity::NonNullable)?;
     let histogram = bit_width_histogram(alloc, &array)?;
-    let width = find_best_bit_width(PType::U32, &histogram)?.min(32);
+    let width = find_best_bit_width(PType::U32, &histogram)?;
     let packed = bitpack_unchecked(alloc, &array, width)?;
     let patches = gather_patches(alloc, &array, width, 0)?;
 

@@ -6,7 +6,7 @@ use Rattle.fl_types.specs.declared.dtype.PType.TheVariants.{I16, I8, U16, U64, U
 use Rattle.fl_types.specs.declared.dtype.DType.TheVariants as dtypes
 use Rattle.fl_types.specs.declared.dtype.Nullability.TheVariants.{NonNullable, Nullable}
 use Rattle.fl_types.specs.declared.validity.Validity.TheVariants as valid
-use Rattle.fl_types.specs.Bits.{table}
+use Rattle.fl_types.specs.Bits.{tabulate}
 use Rattle.fl_types.specs.Values.{ScalarParts}
 use Rattle.fl_column.specs.Columns.{Column, PrimitiveParts}
 use Rattle.fl_column.specs.Operations.{slice_of}
@@ -33,7 +33,7 @@ reference ptype z = record { dtype = dtypes.Primitive ptype NonNullable; value =
 -- ---- packed items
 -- 1 at four positions of 128 bytes, else 0
 abbrev four_ones : List ℕ
-four_ones = table (λ i. if i == 0 then 1 else if i == 16 then 1 else if i == 32 then 1 else if i == 48 then 1 else 0) 128
+four_ones = tabulate (λ i. if i == 0 then 1 else if i == 16 then 1 else if i == 32 then 1 else if i == 48 then 1 else 0) 128
 
 -- the patch of seven items of u64 at position 6
 abbrev last_of_seven : PatchesParts
@@ -124,10 +124,10 @@ later_runs = refl
 -- ---- differences
 -- base l of the block of the items i mod 256: 64 times l mod 16 and 8 times O of l div 16, modulo 256
 abbrev bases_in_turn : List ℤ
-bases_in_turn = table (λ l. pos (segment l % 256)) 128
+bases_in_turn = tabulate (λ l. pos (segment l % 256)) 128
 
 -- the block is itself: 128 zeros and then ones, over those bases
-in_turn : (column (tree.Delta (plain U8 bases_in_turn) (plain U8 (replicate 128 (pos 0) ++ replicate 896 (pos 1))) (record { validity = valid.NonNullable; offset = 0; len = 1024 }))).items ≡ table (λ i. Some (pos (i % 256))) 1024
+in_turn : (column (tree.Delta (plain U8 bases_in_turn) (plain U8 (replicate 128 (pos 0) ++ replicate 896 (pos 1))) (record { validity = valid.NonNullable; offset = 0; len = 1024 }))).items ≡ tabulate (λ i. Some (pos (i % 256))) 1024
 unfolding block_integer lane_sum segment segment_lane place
 in_turn = refl
 

@@ -4,7 +4,7 @@ use Rattle.fastlanes.specs.Layout.{row_of, segment}
 use Rattle.fl_types.specs.declared.dtype.PType.TheVariants.{U8, U32, U64, I8, I16}
 use Rattle.fl_types.specs.declared.dtype.DType.TheVariants.{Primitive}
 use Rattle.fl_types.specs.declared.dtype.Nullability.TheVariants.{NonNullable}
-use Rattle.fl_types.specs.Bits.{table}
+use Rattle.fl_types.specs.Bits.{tabulate}
 use Rattle.fl_types.specs.Integers.{pattern_of}
 use Rattle.fl_column.specs.Columns.{Column}
 use Rattle.fl_codec.specs.Deltas.{delta_bases, delta_deltas, delta_of}
@@ -19,12 +19,12 @@ column_of_bytes items = record { dtype = Primitive U8 NonNullable; items = items
 -- ---- frames of reference
 -- -128 to 127 less -128, read without a sign, are 0 to 255
 abbrev signed_bytes : List (Option ℤ)
-signed_bytes = table (λ n. Some (negsuc 127 +ℤ pos n)) 256
+signed_bytes = tabulate (λ n. Some (negsuc 127 +ℤ pos n)) 256
 
 least_byte : least_valid signed_bytes ≡ Some (negsuc 127)
 least_byte = refl
 
-child_of_bytes : map (λ item. pattern_of I8 (minus_reference I8 (negsuc 127) item)) signed_bytes ≡ table (λ n. n) 256
+child_of_bytes : map (λ item. pattern_of I8 (minus_reference I8 (negsuc 127) item)) signed_bytes ≡ tabulate (λ n. n) 256
 child_of_bytes = refl
 
 -- 0, 100, 200 plus 100
@@ -53,7 +53,7 @@ across_chunks = refl
 -- ---- deltas
 -- item i is i modulo 256
 abbrev bytes_in_turn : List (Option ℤ)
-bytes_in_turn = table (λ i. Some (pos (i % 256))) 1024
+bytes_in_turn = tabulate (λ i. Some (pos (i % 256))) 1024
 
 deltas_in_turn : delta_deltas U8 bytes_in_turn ≡ replicate 128 (pos 0) ++ replicate 896 (pos 1)
 unfolding delta_of segment row_of
@@ -68,7 +68,7 @@ bases_of_three : delta_bases U64 (Some (pos 1) ∷ Some (pos 2) ∷ Some (pos 3)
 unfolding segment
 bases_of_three = refl
 
-deltas_of_three : delta_deltas U64 (Some (pos 1) ∷ Some (pos 2) ∷ Some (pos 3) ∷ []) ≡ table (λ i. if i == 128 then pos 1 else if i == 256 then pos 1 else pos 0) 1024
+deltas_of_three : delta_deltas U64 (Some (pos 1) ∷ Some (pos 2) ∷ Some (pos 3) ∷ []) ≡ tabulate (λ i. if i == 128 then pos 1 else if i == 256 then pos 1 else pos 0) 1024
 unfolding delta_of segment row_of
 deltas_of_three = refl
 

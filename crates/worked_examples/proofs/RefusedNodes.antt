@@ -11,9 +11,9 @@ use Rattle.fl_metadata.specs.Messages.{bit_packed_blocked_of, bit_packed_of, del
 use Rattle.fl_metadata.specs.Scalars.{scalar_of}
 use Rattle.fl_array.specs.Trees.{Constant}
 use Rattle.fl_serialized.specs.Nodes.{NoMore, Node, Nodes, Of, bitpacked_v1_id, bitpacked_v2_id, bool_id, constant_id, delta_id, for_v1_id, for_v2_id, nodes_of, primitive_id, rle_id}
-use Rattle.fl_nodes.specs.Leaves.{bit_of_bytes}
-use Rattle.fl_plugin.specs.Plain.{plain_of}
-use Rattle.fl_plugin.specs.Reading.{reading}
+use Rattle.fl_serde.specs.Leaves.{bit_of_bytes}
+use Rattle.fl_serde.specs.Plain.{plain_of}
+use Rattle.fl_serde.specs.Reading.{reading}
 
 -- the types of nodes
 abbrev u8s : DType

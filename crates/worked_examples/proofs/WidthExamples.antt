@@ -3,20 +3,20 @@ use Rattle.std.proofs.Common.{◌≡◌, ◌+◌, ℤ, pos, negsuc, true, false,
 use Rattle.fl_types.specs.declared.dtype.PType.TheVariants.{U8, U16, U32, U64, I8}
 use Rattle.fl_types.specs.declared.error.FastLanesError.TheVariants.{NegativeValue, TooManyWidths}
 use Rattle.fl_types.specs.declared.validity.Validity.TheVariants as valid
-use Rattle.fl_types.specs.Bits.{table}
+use Rattle.fl_types.specs.Bits.{tabulate}
 use Rattle.fl_types.specs.Integers.{smallest_type}
 use Rattle.fl_column.specs.Columns.{PrimitiveParts}
 use Rattle.fl_patches.specs.PatchMaps.{places_from}
-use Rattle.fl_bit_widths.specs.Costs.{best_width, best_widths, block_histogram, choose_width, choose_widths, cost_of, first_widths}
-use Rattle.fl_bit_widths.specs.Exceptions.{bit_count, count_with_bits, exceptions_of, histogram_of, width_of_block}
-use Rattle.fl_bit_widths.specs.PatchParts.{chunk_offsets_of, global_patches}
+use Rattle.fl_patches.specs.Costs.{best_width, best_widths, block_histogram, choose_width, choose_widths, cost_of, first_widths}
+use Rattle.fl_patches.specs.Exceptions.{bit_count, count_with_bits, exceptions_of, histogram_of, width_of_block}
+use Rattle.fl_patches.specs.PatchParts.{chunk_offsets_of, global_patches}
 
 bits : map bit_count (0 ∷ 1 ∷ 2 ∷ 3 ∷ 255 ∷ 256 ∷ 9223372036854775808 ∷ 18446744073709551615 ∷ []) ≡ 0 ∷ 1 ∷ 2 ∷ 2 ∷ 8 ∷ 9 ∷ 64 ∷ 64 ∷ []
 unfolding bit_count
 bits = refl
 
 -- 0 to 23, null from 16 on: a null counts as width 0
-counted : histogram_of U32 (table (λ n. Some (pos n)) 16 ++ replicate 8 None) ≡ 9 ∷ 1 ∷ 2 ∷ 4 ∷ 8 ∷ replicate 28 0
+counted : histogram_of U32 (tabulate (λ n. Some (pos n)) 16 ++ replicate 8 None) ≡ 9 ∷ 1 ∷ 2 ∷ 4 ∷ 8 ∷ replicate 28 0
 unfolding bit_count count_with_bits
 counted = refl
 

@@ -16,10 +16,10 @@ use Rattle.fl_metadata.specs.Scalars.{scalar_of}
 use Rattle.fl_metadata.specs.WrittenText.{field_text, groups_text, message_text, varint_text}
 use Rattle.fl_array.specs.Trees.{BitPackedBlocked, BitPackedGlobal, Constant, Delta, FoRChunked, FoRGlobal, Primitive, Tree}
 use Rattle.fl_serialized.specs.Nodes.{NoMore, Node, Nodes, Of, bitpacked_v1_id, bitpacked_v2_id, bool_id, constant_id, for_v1_id, nodes_of, primitive_id}
-use Rattle.fl_nodes.specs.Leaves.{byte_of_bits, bytes_of_bits, bytes_of_slots}
-use Rattle.fl_plugin.specs.Plain.{plain_of}
-use Rattle.fl_plugin.specs.Reading.{reading}
-use Rattle.fl_plugin.specs.Writing.{metadata_of, written}
+use Rattle.fl_serde.specs.Leaves.{byte_of_bits, bytes_of_bits, bytes_of_slots}
+use Rattle.fl_serde.specs.Plain.{plain_of}
+use Rattle.fl_serde.specs.Reading.{reading}
+use Rattle.fl_serde.specs.Writing.{metadata_of, written}
 
 -- natural numbers as a plain array without nulls
 abbrev plain : PType → List ℕ → PrimitiveParts

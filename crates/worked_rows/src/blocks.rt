@@ -10,11 +10,10 @@ use crate::packing::{show, width_of};
 use crate::shown;
 use crate::text::Text;
 use fastlanes::Work;
-use fl_bit_widths::gather_blocked_patches;
-use fl_bitpacking::decoding::{PackedColumn, unpack_blocked};
-use fl_bitpacking::packing::bitpack_blocked_unchecked;
+use fl_bitpacking::bitpack_compress::bitpack_blocked_unchecked;
+use fl_bitpacking::bitpack_decompress::{PackedColumn, unpack_blocked};
 use fl_column::PrimitiveArray;
-use fl_patches::Patches;
+use fl_patches::{Patches, gather_blocked_patches};
 use fl_types::*;
 use std::alloc::Global;
 

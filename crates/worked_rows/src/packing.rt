@@ -3,7 +3,7 @@
 use crate::columns::{count, type_of};
 use crate::text::Text;
 use crate::{readers, shown};
-use fl_bitpacking::decoding::{PackedColumn, unpack_block_item, unpack_global};
+use fl_bitpacking::bitpack_decompress::{PackedColumn, unpack_block_item, unpack_global};
 use fl_column::PrimitiveArray;
 use fl_patches::Patches;
 use fl_types::*;

@@ -1,7 +1,7 @@
 //! Histograms of bits, the widths of least cost, and the exceptions above a width.
 
 ghost use Rattle.std.specs.Prelude.{◌≡◌, IfSome};
-ghost use Rattle.fl_bit_widths.specs.Costs.{count_above};
+ghost use Rattle.fl_patches.specs.Costs.{count_above};
 
 use crate::columns::type_of;
 use crate::packing::width_of;

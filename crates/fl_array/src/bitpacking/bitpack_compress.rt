@@ -6,8 +6,8 @@ ghost use Rattle.fl_types.specs.declared.error.FastLanesError.TheVariants.{OutOf
 ghost use Rattle.fl_types.specs.Integers.{bits_of_type};
 ghost use Rattle.fl_types.specs.Validities.{items_of};
 ghost use Rattle.fl_column.specs.Columns.{column_of_primitive};
-ghost use Rattle.fl_bit_widths.specs.Costs.{count_above};
-ghost use Rattle.fl_bit_widths.specs.Exceptions.{histogram_of};
+ghost use Rattle.fl_patches.specs.Costs.{count_above};
+ghost use Rattle.fl_patches.specs.Exceptions.{histogram_of};
 ghost use Rattle.fl_bitpacking.specs.Encoders.{AnswersUnless, best_width_of, best_widths_of, width_refusal, widths_refusal};
 ghost use Rattle.fl_array.specs.BitPackedArrays.{tree_of_bitpacked};
 ghost use Rattle.fl_array.specs.EncodedBitPacked.{IsEncodedAt, IsEncodedInBlocks};
@@ -15,12 +15,12 @@ ghost use Rattle.fl_array.specs.Trees.{column};
 
 use crate::array::IntoArray;
 use crate::bitpacking::BitPackedArray;
-use fl_bit_widths::count_exceptions;
-use fl_bit_widths::laws::histogram_counts_each;
-use fl_bitpacking::encoding::{
+use fl_bitpacking::bitpack_compress::encoding::{
     encode_at_best_width, encode_at_best_widths, encode_blocked, encode_global, pack_unpatched,
 };
 use fl_column::{FastLanesError, PrimitiveArray};
+use fl_patches::count_exceptions;
+use fl_patches::laws::histogram_counts_each;
 use std::alloc::Global;
 
 /// How many items have more bits than a width by the array's histogram, 0 without one.

@@ -1,5 +1,8 @@
 //! Decoding of bit-packed arrays, and single items as they are stored.
 
+mod constant_boundaries;
+mod unfor;
+
 ghost use Rattle.std.specs.Prelude.{◌≡◌, ◌<◌, IfErr, Ok, false};
 ghost use Rattle.fl_types.specs.declared.error.FastLanesError.TheVariants.{NotGlobal};
 ghost use Rattle.fl_types.specs.Refusals.{Answers};

@@ -11,7 +11,7 @@ ghost use Rattle.fl_array.specs.DeltaCasts.{cast_delta};
 ghost use Rattle.fl_array.specs.Trees.{column};
 
 use crate::delta::DeltaArray;
-use fl_bitpacking::casting::cast_validity;
+use fl_bitpacking::compute::cast::cast_validity;
 use fl_column::{FastLanesError, Nullability};
 use std::alloc::Global;
 

@@ -108,8 +108,8 @@ impl fmt::Display for ScalarText {
                 let (number, name) = (value.as_i128(), ptype_name(value.ptype()));
                 write!(f, "{number}{name}")
             }
-            Scalar::Truth(value, _) => f.write_str(if value { "true" } else { "false" }),
-            Scalar::NullInteger(_) | Scalar::NullTruth => f.write_str("null"),
+            Scalar::Bool(value, _) => f.write_str(if value { "true" } else { "false" }),
+            Scalar::NullInteger(_) | Scalar::NullBool => f.write_str("null"),
         }
     }
 }

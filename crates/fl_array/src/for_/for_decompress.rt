@@ -17,7 +17,7 @@ use crate::array::ArrayRef;
 use crate::bitpacking::BitPackedArray;
 use crate::for_::{FoRArray, FoRReferences};
 use fastlanes::Work;
-use fl_bitpacking::for_decoding::References;
+use fl_bitpacking::bitpack_decompress::unfor::References;
 use fl_column::{FastLanesError, PValue, PrimitiveArray, Scalar};
 use std::alloc::Global;
 

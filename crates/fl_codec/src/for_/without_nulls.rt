@@ -4,7 +4,7 @@
 ghost use Rattle.std.specs.Prelude.{◌≡◌, ◌<◌, ◌≤◌, ◌+◌, ◌-◌, ◌*◌, ◌/◌, ◌^◌, ◌+ℤ◌, ◌-ℤ◌, ℕ, pos, Some, IfOk, length, map, min, option_map, slice_index_or};
 ghost use Rattle.fl_types.specs.Integers.{wrap};
 ghost use Rattle.fl_codec.specs.Chunks.{chunks_of};
-ghost use Rattle.fl_codec.specs.FoRColumns.{chunked_slots, chunked_sums, least_valid, lesser};
+ghost use Rattle.fl_codec.specs.FoRColumns.{chunked_slots, chunked_sums, least_valid, min_valid};
 
 use crate::chunks::{chunk_count, chunk_end};
 use fastlanes::FL_CHUNK_SIZE;
@@ -12,9 +12,9 @@ use fl_types::NativePType;
 use num_traits::{WrappingAdd, WrappingSub};
 use std::alloc::{AllocError, Global};
 
-/// The lesser of two integers.
+/// The min_valid of two integers.
 fn less<T: NativePType>(x: T, y: T) -> T
-    ensures { Some (T.value result) ≡ lesser (Some (T.value x)) (Some (T.value y)) }
+    ensures { Some (T.value result) ≡ min_valid (Some (T.value x)) (Some (T.value y)) }
 {
     if y < x { y } else { x }
 }

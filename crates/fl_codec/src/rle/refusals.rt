@@ -25,7 +25,7 @@ fn is_named<I: NativePType>(index: Option<I>, count: usize) -> bool
     }
 }
 
-fn are_named_typed<I: NativePType>(indices: &PrimitiveArray, k: usize, count: usize) -> bool
+fn indices_in_range<I: NativePType>(indices: &PrimitiveArray, k: usize, count: usize) -> bool
     requires same { indices.now.ptype ≡ I.PTYPE }
     requires chunk { 1024 * (k + 1) ≤ length indices.now.slots }
     ensures { result ≡ list_all (is_run_index count) (chunk k (items_of_primitive indices.now)) }
@@ -44,7 +44,7 @@ fn are_named(indices: &PrimitiveArray, k: usize, count: usize) -> bool
     requires { 1024 * (k + 1) ≤ length indices.now.slots }
     ensures { result ≡ list_all (is_run_index count) (chunk k (items_of_primitive indices.now)) }
 {
-    match_each_integer_ptype!(indices.ptype(), are_named_typed(indices, k, count))
+    match_each_integer_ptype!(indices.ptype(), indices_in_range(indices, k, count))
 }
 
 /// Whether chunk `k` does not start before the first one, and has from 1 to 1024 run values.

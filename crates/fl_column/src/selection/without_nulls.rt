@@ -13,7 +13,7 @@ use fl_types::{FastLanesError, NativePType, PrimitiveBuffer, Validity, match_eac
 use std::alloc::Global;
 
 /// Whether all items are valid by the form of their validity.
-pub(crate) fn is_full(validity: &Validity) -> bool
+pub fn is_full(validity: &Validity) -> bool
     ensures { result ≡ is_full validity.now }
 {
     matches!(validity, Validity::NonNullable | Validity::AllValid)

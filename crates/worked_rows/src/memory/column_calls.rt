@@ -11,8 +11,8 @@ use crate::columns::{count, type_of};
 use crate::packing::width_of;
 use crate::types::value_of;
 use crate::widths;
-use fl_bit_widths::gather_blocked_patches;
 use fl_column::{PrimitiveArray, chunk_count};
+use fl_patches::gather_blocked_patches;
 use std::alloc::Global;
 use vortex_fastlanes::array::Op;
 use vortex_fastlanes::bitpack_compress::{

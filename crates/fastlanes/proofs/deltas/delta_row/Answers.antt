@@ -14,10 +14,10 @@ returns-clause-before g c j h =
 pub returns-clause-written : goal.returns-clause-written
 returns-clause-written g c =
     row_written g.W.FastLanes.T g.W.FastLanes.LANES (item_delta g.W.FastLanes.T (pattern_at g.W.FastLanes.pattern c.args.bases.now) (pattern_at g.W.FastLanes.pattern c.args.items.now)) c.args.g c.args.r _
-    (pattern_at g.W.FastLanes.pattern c.args.deltas.now) (pattern_at g.W.FastLanes.pattern c.store.new.words) (g.W.FastLanes.lane c.subtract.result)
+    (pattern_at g.W.FastLanes.pattern c.args.deltas.now) (pattern_at g.W.FastLanes.pattern c.store.new.words) (g.W.FastLanes.lane c.sub.result)
     g.met.W.FastLanes.shape c.requires.row c.requires.group c.pos-at.ensures c.store.ensures.lanes c.store.ensures.others
     (λ j h. delta_here g.W.FastLanes.T (pattern_at g.W.FastLanes.pattern c.args.bases.now) (pattern_at g.W.FastLanes.pattern c.args.items.now) c.args.r c.args.g j _ _ _ _
-    c.pos-at.ensures (c.load-row.ensures.lanes j h) (c.requires.before j h) (c.subtract.ensures.lanes j h))
+    c.pos-at.ensures (c.load-row.ensures.lanes j h) (c.requires.before j h) (c.sub.ensures.lanes j h))
 
 pub load-row-requires : goal.load-row-requires
 load-row-requires g c =

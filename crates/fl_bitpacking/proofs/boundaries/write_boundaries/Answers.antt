@@ -1,7 +1,7 @@
 use Rattle.std.proofs.Common.{◌≡◌, ◌+◌, ◌*◌, ◌∙◌, ℕ, length, ap, take, arith}
 use Rattle.std.specs.List.{sum}
 use Rattle.std.proofs.lemmas.List.Sums.{sum_by-take-le}
-use Rattle.fl_types.specs.Bits.{table}
+use Rattle.fl_types.specs.Bits.{tabulate}
 use Rattle.fl_bitpacking.proofs.Bounds.{one_more, sum_more}
 use Rattle.fl_bitpacking.proofs.boundaries.write_boundaries.Goals as goal
 
@@ -35,4 +35,4 @@ returns c =
     let xs = c.args.widths.now in
     let i = c.loop-width.width-index in
     let all : i ≡ length xs = omega (arith, c.loop-width-test.false) in
-    one_more (λ (j : ℕ). 128 * sum (take j xs)) i c.loop-width.boundaries.items _ c.loop-width.start c.push_reserved-2.ensures.items c.loop-width.invariant.all c.loop-width.invariant.next ∙ ap (λ (n : ℕ). table (λ (j : ℕ). 128 * sum (take j xs)) (n + 1)) all
+    one_more (λ (j : ℕ). 128 * sum (take j xs)) i c.loop-width.boundaries.items _ c.loop-width.start c.push_reserved-2.ensures.items c.loop-width.invariant.all c.loop-width.invariant.next ∙ ap (λ (n : ℕ). tabulate (λ (j : ℕ). 128 * sum (take j xs)) (n + 1)) all

@@ -1,5 +1,5 @@
 use Rattle.fl_bitpacking.specs.Blocks.{boundary_blocks, boundaries_of, global_blocks}
-use Rattle.fl_bit_widths.specs.PatchParts.{blocked_patches, global_patches}
+use Rattle.fl_patches.specs.PatchParts.{blocked_patches, global_patches}
 use Rattle.fl_bitpacking.proofs.GatheredPatches.{blocked_kept, global_kept}
 use Rattle.fl_bitpacking.proofs.Restores.{column_restored}
 use Rattle.fl_bitpacking.proofs.laws.packed_with_patches_and_back.Goals as goal

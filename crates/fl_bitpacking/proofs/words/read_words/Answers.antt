@@ -1,6 +1,6 @@
 use Rattle.std.proofs.Common.{◌≡◌, ◌/◌, ℕ, ℤ, length, map, List, ap, sym, ◌∙◌, arith, [], ◌∷◌, ◌++◌}
 use Rattle.std.proofs.lemmas.List.{map-append}
-use Rattle.fl_types.specs.Bits.{table}
+use Rattle.fl_types.specs.Bits.{tabulate}
 use Rattle.fl_bitpacking.specs.Words.{word_as}
 use Rattle.fl_bitpacking.proofs.Bounds.{one_more}
 use Rattle.fl_bitpacking.proofs.words.read_words.Goals as goal
@@ -14,4 +14,4 @@ pub returns : goal.returns
 returns g c =
     let width = g.met.T.PhysicalPType.width_law in
     let all : c.loop-m.m ≡ c.args.count = omega (arith, c.loop-m-test.false, c.loop-m.auto) in
-    c.loop-m.invariant ∙ ap (table (word_as g.T.NativePType.PTYPE c.args.bytes.now)) (all ∙ (c.requires ∙ ap (λ (T : ℕ). length c.args.bytes.now / (T / 8)) width))
+    c.loop-m.invariant ∙ ap (tabulate (word_as g.T.NativePType.PTYPE c.args.bytes.now)) (all ∙ (c.requires ∙ ap (λ (T : ℕ). length c.args.bytes.now / (T / 8)) width))

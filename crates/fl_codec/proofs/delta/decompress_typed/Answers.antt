@@ -1,7 +1,7 @@
 use Rattle.std.proofs.Common.{◌≡◌, ◌+◌, ◌*◌, ◌≤◌, ℕ, length, map, arith, rules, refl, ap, ◌∙◌}
 use Rattle.std.proofs.lemmas.Result.{err_from_is_err_and}
 use Rattle.std.proofs.Math.Nat.{mul-le-mul_right}
-use Rattle.fl_types.specs.Bits.{table}
+use Rattle.fl_types.specs.Bits.{tabulate}
 use Rattle.fl_codec.specs.Chunks.{chunks_of}
 use Rattle.fl_codec.specs.Deltas.{delta_integer}
 use Rattle.fl_codec.proofs.delta.decompress_typed.Goals as goal
@@ -24,7 +24,7 @@ returns-clause-items g c =
     let so_far = c.loop-j.invariant.long in
     let within = c.requires.offset in
     let all : length c.loop-j.values.items ≡ c.args.len = omega arith in
-    c.loop-j.invariant.items ∙ ap (table (λ i. item (c.args.offset + i))) all
+    c.loop-j.invariant.items ∙ ap (tabulate (λ i. item (c.args.offset + i))) all
 
 pub returns-clause-long : goal.returns-clause-long
 returns-clause-long g c =

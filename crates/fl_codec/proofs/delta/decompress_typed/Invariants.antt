@@ -1,5 +1,5 @@
 use Rattle.std.proofs.Common.{◌≡◌, ◌+◌, ◌-◌, ◌*◌, min, length, map}
-use Rattle.fl_types.specs.Bits.{table}
+use Rattle.fl_types.specs.Bits.{tabulate}
 use Rattle.fl_codec.specs.Deltas.{delta_integer}
 use Rattle.fl_codec.proofs.delta.decompress_typed.Given as goal
 
@@ -8,5 +8,5 @@ abbrev pub invariant-loop-j : goal.invariant-loop-j
 invariant-loop-j g l =
     let value = g.T.Number.value in record {
       long : length l.values.items ≡ min (1024 * l.j) (l.offset + l.len) - l.offset;
-      items : map value l.values.items ≡ table (λ i. delta_integer g.T.NativePType.PTYPE (map value l.bases) (map value l.deltas) (l.offset + i)) (length l.values.items);
+      items : map value l.values.items ≡ tabulate (λ i. delta_integer g.T.NativePType.PTYPE (map value l.bases) (map value l.deltas) (l.offset + i)) (length l.values.items);
     }

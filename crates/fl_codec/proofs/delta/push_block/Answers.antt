@@ -2,7 +2,7 @@ use Rattle.std.proofs.Common.{◌≡◌, ◌<◌, ◌≤◌, ◌+◌, ◌-◌, �
 use Rattle.std.proofs.lemmas.List.{length-map}
 use Rattle.fastlanes.specs.Layout.{pattern_at}
 use Rattle.fastlanes.proofs.Patterns.{pattern_at_take, pattern_at_drop}
-use Rattle.fl_types.specs.Bits.{table}
+use Rattle.fl_types.specs.Bits.{tabulate}
 use Rattle.fl_types.specs.Integers.{read_as}
 use Rattle.fl_codec.proofs.DeltaLaws.{values_table}
 use Rattle.fl_codec.proofs.ForwardFillLaws.{table_append}
@@ -23,15 +23,15 @@ longer value read new old block low n room e =
 -- the items from an offset on, and n more of them
 more_items : {V W : Type 0} (value : V → ℤ) (pattern : W → ℕ) (read : ℕ → ℤ) (new old : List V) (block : List W) (item : ℕ → ℤ) (offset start low n : ℕ) → low + n ≤ length block → start + low ≡ offset + length old → length block ≡ 1024
     → map value new ≡ map value old ++ map (λ w. read (pattern w)) (take n (drop low block)) → ((q : ℕ) → q < 1024 → read (pattern_at pattern block q) ≡ item (start + q))
-    → map value old ≡ table (λ i. item (offset + i)) (length old) → map value new ≡ table (λ i. item (offset + i)) (length new)
+    → map value old ≡ tabulate (λ i. item (offset + i)) (length old) → map value new ≡ tabulate (λ i. item (offset + i)) (length new)
 more_items value pattern read new old block item offset start low n room here whole e each so_far =
     let words = take n (drop low block) in
     let long : length words ≡ n = let taken = length-take n (drop low block) in let rest = length-drop low block in omega arith in
     let part = values_table pattern read words (λ i. item (offset + (length old + i))) n long
     (λ i h. ap read (pattern_at_take pattern (drop low block) n i h ∙ pattern_at_drop pattern block low i) ∙ (each (low + i) (omega arith) ∙ ap item (omega arith))) in
     let all = longer value (λ w. read (pattern w)) new old block low n room e in
-    e ∙ (ap (λ xs. xs ++ map (λ w. read (pattern w)) words) so_far ∙ (ap (λ xs. table (λ i. item (offset + i)) (length old) ++ xs) part
-    ∙ (table_append (λ i. item (offset + i)) (length old) n ∙ ap (table (λ i. item (offset + i))) (sym all))))
+    e ∙ (ap (λ xs. xs ++ map (λ w. read (pattern w)) words) so_far ∙ (ap (λ xs. tabulate (λ i. item (offset + i)) (length old) ++ xs) part
+    ∙ (table_append (λ i. item (offset + i)) (length old) n ∙ ap (tabulate (λ i. item (offset + i))) (sym all))))
 
 pub returns-clause-long : goal.returns-clause-long
 returns-clause-long g c =

@@ -1,5 +1,5 @@
 use Rattle.std.proofs.Common.{◌≡◌, ◌<◌, map, length, arith, option_map, sym, ap, ◌∙◌}
-use Rattle.fl_types.specs.Bits.{table}
+use Rattle.fl_types.specs.Bits.{tabulate}
 use Rattle.fl_types.specs.Validities.{items_of}
 use Rattle.fl_codec.specs.Chunks.{chunks_of}
 use Rattle.fl_codec.specs.FoRColumns.{chunk_leasts, reference_of_chunk}
@@ -25,12 +25,12 @@ returns-clause-references g c =
     let items = items_of c.args.validity.now (map value c.args.items.now) in
     let each = length-items_read value c.args.validity.now c.args.items.now c.requires in
     let all : c.loop-k.k ≡ chunks_of (length items) = rw each (omega arith) in
-    c.loop-k.invariant.references ∙ ap (table (reference_of_chunk (chunk_leasts items))) all
+    c.loop-k.invariant.references ∙ ap (tabulate (reference_of_chunk (chunk_leasts items))) all
 
 pub returns-clause-long : goal.returns-clause-long
 returns-clause-long g c =
     let value = g.T.Number.value in
     let items = items_of c.args.validity.now (map value c.args.items.now) in
-    let same = length_of_values value c.loop-k.references.items (table (reference_of_chunk (chunk_leasts items)) c.loop-k.k) c.loop-k.invariant.references in
+    let same = length_of_values value c.loop-k.references.items (tabulate (reference_of_chunk (chunk_leasts items)) c.loop-k.k) c.loop-k.invariant.references in
     let all = length-table (reference_of_chunk (chunk_leasts items)) c.loop-k.k in
     omega arith

@@ -15,11 +15,11 @@ less_references-requires-clause-references g c =
     let long = length_of_values g.T.Number.value c.as_slice.result.now c.args.array.now.slots c.as_slice.ensures in
     c.in_ok-references.ensures.long ∙ ap chunks_of long
 
-pub returns-in_ok-less_reference-in-Some : goal.returns-in_ok-less_reference-in-Some
-returns-in_ok-less_reference-in-Some g c =
+pub returns-in_ok-subtract_reference-in-Some : goal.returns-in_ok-subtract_reference-in-Some
+returns-in_ok-subtract_reference-in-Some g c =
     let value = g.T.Number.value in
     let same = references_of_plain value c.args.array.now c.validity.result.now c.as_slice.result.now (map value c.in_ok-references.references.items) (Some (value c.in-Some.reference)) c.validity.ensures.value c.as_slice.ensures c.in_ok-references.ensures.references (rw c.deref.ensures.value at c.in-Some.ensures) in
-    whole_ok _ _ _ _ refl c.in_ok-less_reference-in-Some.ensures (ap Ok (sym same))
+    whole_ok _ _ _ _ refl c.in_ok-subtract_reference-in-Some.ensures (ap Ok (sym same))
 
 pub returns-in-None : goal.returns-in-None
 returns-in-None g c =
@@ -30,5 +30,5 @@ returns-in-None g c =
 pub returns-in_err-references : goal.returns-in_err-references
 returns-in_err-references g c = no_memory _ c.from_residual.result _ c.from_residual.ensures.1
 
-pub returns-in_err-less_reference-in-Some : goal.returns-in_err-less_reference-in-Some
-returns-in_err-less_reference-in-Some g c = no_memory_there _ c.from_residual-in_err-less_reference-in-Some.result _ _ c.from_residual-in_err-less_reference-in-Some.ensures.1 (only_memory _ _ c.in_err-less_reference-in-Some.ensures)
+pub returns-in_err-subtract_reference-in-Some : goal.returns-in_err-subtract_reference-in-Some
+returns-in_err-subtract_reference-in-Some g c = no_memory_there _ c.from_residual-in_err-subtract_reference-in-Some.result _ _ c.from_residual-in_err-subtract_reference-in-Some.ensures.1 (only_memory _ _ c.in_err-subtract_reference-in-Some.ensures)

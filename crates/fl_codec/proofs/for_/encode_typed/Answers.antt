@@ -1,7 +1,7 @@
 use Rattle.std.proofs.Common.{None, Some, Result, subst, ap, sym}
 use Rattle.fl_types.specs.declared.error.FastLanesError.{FastLanesError}
 use Rattle.fl_types.specs.Refusals.{Answers}
-use Rattle.fl_codec.specs.Parts.{OneReference, global_parts, less_least}
+use Rattle.fl_codec.specs.Parts.{OneReference, global_parts, subtract_min}
 use Rattle.fl_codec.proofs.ReferenceLaws.{covered_read, least_of_plain}
 use Rattle.fl_codec.proofs.for_.encode_typed.Goals as goal
 
@@ -11,11 +11,11 @@ least_between-requires-clause-covers g c = covered_read g.T.Number.value c.args.
 pub returns-in-None : goal.returns-in-None
 returns-in-None g c =
     let array = c.args.array.now in
-    ap (less_least array) (least_of_plain g.T.Number.value array c.validity.result.now c.as_slice-items.result.now None c.validity.ensures.value c.validity.ensures.covers c.as_slice-items.ensures c.in-None.ensures)
+    ap (subtract_min array) (least_of_plain g.T.Number.value array c.validity.result.now c.as_slice-items.result.now None c.validity.ensures.value c.validity.ensures.covers c.as_slice-items.ensures c.in-None.ensures)
 
 pub returns-in-Some : goal.returns-in-Some
 returns-in-Some g c =
     let array = c.args.array.now in
     let value = g.T.Number.value in
     let least = least_of_plain value array c.validity.result.now c.as_slice-items.result.now (Some (value c.in-Some.least)) c.validity.ensures.value c.validity.ensures.covers c.as_slice-items.ensures c.in-Some.ensures in
-    subst (λ (m : Result OneReference FastLanesError). Answers global_parts c.less_reference.result m) (sym (ap (less_least array) least)) c.less_reference.ensures
+    subst (λ (m : Result OneReference FastLanesError). Answers global_parts c.subtract_reference.result m) (sym (ap (subtract_min array) least)) c.subtract_reference.ensures

@@ -19,7 +19,7 @@ loop-i-preserved g c =
     let covered : IsTrue (covers c.args.validity.now (length slots)) = rw all c.requires.covers in
     let each : length items ≡ length slots = length-items_of c.args.validity.now slots covered in
     let within : c.loop-i.i < length items = omega arith in
-    rw (c.lesser-least.ensures, c.item_at.ensures) (least_between_more (option_map value c.loop-i.least) items c.args.start c.loop-i.i c.loop-i.auto.i within c.loop-i.invariant)
+    rw (c.min_valid-least.ensures, c.item_at.ensures) (least_between_more (option_map value c.loop-i.least) items c.args.start c.loop-i.i c.loop-i.auto.i within c.loop-i.invariant)
 
 pub returns : goal.returns
 returns g c =

@@ -1,5 +1,5 @@
 use Rattle.std.proofs.Common.{◌≡◌, ◌/◌, ℕ, ℤ, pos, None, map, get_or, length, arith, ap, ◌∙◌, option_map}
-use Rattle.fl_types.specs.Bits.{table}
+use Rattle.fl_types.specs.Bits.{tabulate}
 use Rattle.fl_types.specs.Validities.{items_of}
 use Rattle.fl_codec.specs.FoRColumns.{minus_reference}
 use Rattle.fl_codec.proofs.ReferenceLaws.{length-items_read, length_of_values, length-table, table_push, value_read}
@@ -30,7 +30,7 @@ returns-clause-long g c =
     let less = minus_reference g.T.NativePType.PTYPE in
     let items = items_of c.args.validity.now (map value c.args.items.now) in
     let slot : ℕ → ℤ = λ i. less (get_or (map value c.args.references.now) (i / 1024) (pos 0)) (get_or items i None) in
-    let same = length_of_values value c.loop-i.slots.items (table slot c.loop-i.i) c.loop-i.invariant in
+    let same = length_of_values value c.loop-i.slots.items (tabulate slot c.loop-i.i) c.loop-i.invariant in
     let all = length-table slot c.loop-i.i in
     omega arith
 

@@ -1,6 +1,6 @@
 use Rattle.std.proofs.Common.{◌≡◌, ◌+◌, ℕ, length, map, arith, rules, refl, ap, ◌∙◌}
 use Rattle.std.proofs.lemmas.Result.{err_from_is_err_and}
-use Rattle.fl_types.specs.Bits.{table}
+use Rattle.fl_types.specs.Bits.{tabulate}
 use Rattle.fl_column.specs.Columns.{column_of_primitive, numbers_of}
 use Rattle.fl_codec.specs.Parts.{items_of_primitive}
 use Rattle.fl_codec.specs.RunColumns.{run_integer}
@@ -24,7 +24,7 @@ returns-clause-items g c =
     let so_far = c.loop-k.invariant.long in
     let within = c.requires.offset in
     let all : length c.loop-k.items.items ≡ c.args.len = omega arith in
-    c.loop-k.invariant.items ∙ ap (table (λ i. item (c.args.offset + i))) all
+    c.loop-k.invariant.items ∙ ap (tabulate (λ i. item (c.args.offset + i))) all
 
 pub returns-in_err-items-clause-long : goal.returns-in_err-items-clause-long
 returns-in_err-items-clause-long g c = let failed = err_from_is_err_and c.from_residual.result c.from_residual.ensures.1 in rw failed.1 tt

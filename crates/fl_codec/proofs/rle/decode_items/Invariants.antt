@@ -1,5 +1,5 @@
 use Rattle.std.proofs.Common.{◌≡◌, ◌+◌, ◌-◌, ◌*◌, min, length, map}
-use Rattle.fl_types.specs.Bits.{table}
+use Rattle.fl_types.specs.Bits.{tabulate}
 use Rattle.fl_column.specs.Columns.{column_of_primitive, numbers_of}
 use Rattle.fl_codec.specs.Parts.{items_of_primitive}
 use Rattle.fl_codec.specs.RunColumns.{run_integer}
@@ -10,5 +10,5 @@ abbrev pub invariant-loop-k : goal.invariant-loop-k
 invariant-loop-k g l =
     let value = g.T.Number.value in record {
       long : length l.items.items ≡ min (1024 * l.k) (l.offset + l.len) - l.offset;
-      items : map value l.items.items ≡ table (λ i. run_integer (map value l.values) (items_of_primitive l.indices) (numbers_of (column_of_primitive l.offsets)) (l.offset + i)) (length l.items.items);
+      items : map value l.items.items ≡ tabulate (λ i. run_integer (map value l.values) (items_of_primitive l.indices) (numbers_of (column_of_primitive l.offsets)) (l.offset + i)) (length l.items.items);
     }

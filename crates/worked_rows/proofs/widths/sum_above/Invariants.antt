@@ -1,5 +1,5 @@
 use Rattle.std.proofs.Common.{◌≡◌, ◌+◌, sum, drop}
-use Rattle.fl_bit_widths.specs.Costs.{count_above}
+use Rattle.fl_patches.specs.Costs.{count_above}
 use Rattle.worked_rows.proofs.widths.sum_above.Given as goal
 
 -- what is summed, and what is still to be summed, are all of it

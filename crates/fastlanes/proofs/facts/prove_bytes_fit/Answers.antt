@@ -1,4 +1,0 @@
-use Rattle.fastlanes.proofs.facts.prove_bytes_fit.Goals as goal
-
-pub returns : goal.returns
-returns c i = (c.type_inv.bytes i).fits

@@ -1,0 +1,7 @@
+use Rattle.std.proofs.Common.{arith}
+use Rattle.fastlanes.proofs.Wholes.{same_list, one_item}
+use Rattle.fastlanes.proofs.laws.round_trips.transpose_and_back.Goals as goal
+
+pub returns-clause-back : goal.returns-clause-back
+returns-clause-back g c = same_list g.W.FastLanes.pattern g.met.W.FastLanes.one_word _ _ (omega arith) (λ i h.
+    one_item _ _ _ _ _ g.met.W.FastLanes.shape c.untranspose.ensures.moved c.transpose.ensures.moved i (omega arith))

@@ -1,5 +1,0 @@
-use Rattle.fl_bit_widths.proofs.Counted.{patches_counted}
-use Rattle.fl_bit_widths.proofs.laws.blocked_patches_are_counted.Goals as goal
-
-pub returns : goal.returns
-returns c = patches_counted _ _ c.args._array.now

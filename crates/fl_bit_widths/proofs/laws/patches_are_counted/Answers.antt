@@ -1,5 +1,0 @@
-use Rattle.fl_bit_widths.proofs.Counted.{global_counted}
-use Rattle.fl_bit_widths.proofs.laws.patches_are_counted.Goals as goal
-
-pub returns : goal.returns
-returns c = λ width. global_counted _ width c.args._array.now

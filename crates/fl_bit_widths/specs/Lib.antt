@@ -1,4 +1,0 @@
-pub mod Costs
-pub mod Exceptions
-pub mod PatchParts
-pub mod Widths

@@ -1,0 +1,13 @@
+use Rattle.std.proofs.Common.{◌≡◌, ℕ, ◌+◌, ◌*◌, ◌<◌, length, map}
+use Rattle.fl_types.specs.Integers.{bits_of_type, lanes_of_type}
+use Rattle.fastlanes.specs.Layout.{Packed, word_at}
+use Rattle.fl_column.specs.Chunks.{chunk_count}
+use Rattle.fl_bitpacking.specs.Blocks.{bytes_of_block, global_blocks, pattern_in}
+use Rattle.fl_bitpacking.proofs.bitpack_compress.pack_blocks_into.Given as goal
+
+-- the blocks so far
+abbrev pub invariant-loop-j : goal.invariant-loop-j
+invariant-loop-j g l = record {
+  whole : length l.bytes ≡ 128 * l.width * chunk_count (length l.items);
+  each : (k : ℕ) → k < l.j → Packed (bits_of_type g.T.NativePType.PTYPE) (lanes_of_type g.T.NativePType.PTYPE) l.width (λ q. pattern_in g.T.NativePType.PTYPE (map g.T.Number.value l.items) (1024 * k + q)) (word_at (bits_of_type g.T.NativePType.PTYPE) (bytes_of_block (global_blocks l.width) l.bytes k));
+}

@@ -1,0 +1,49 @@
+use Rattle.std.proofs.Common.{◌+◌, ◌*◌, ◌∙◌, inl, inr, refl, sym, arith}
+use Rattle.std.proofs.lemmas.Bool.{cases_lt}
+use Rattle.fl_bitpacking.specs.Blocks.{blocks_of}
+use Rattle.fl_bitpacking.specs.Parts.{blocks_in}
+use Rattle.fl_bitpacking.specs.RangeTests.{passes}
+use Rattle.fl_bitpacking.proofs.ComparedLaws.{undecided_more, undecided_none, undecided_within}
+use Rattle.fl_bitpacking.proofs.compute.compare.test_blocks.Goals as goal
+
+pub loop-j-init : goal.loop-j-init
+loop-j-init g c =
+    let none = undecided_none c.args.test.ptype (blocks_of c.args.blocks.widths) (passes c.args.test.range) in
+    let fits = c.prove_count_fits.ensures in
+    let empty = c.in_ok-words.ensures.items in
+    record {
+      start = sym c.requires.readable.joined.first;
+      long = rw empty refl;
+      done = λ p h. absurd (omega arith);
+      blocks = omega arith;
+      words = refl;
+    }
+
+pub loop-j-preserved : goal.loop-j-preserved
+loop-j-preserved g c =
+    let j = c.loop-j.j in
+    let more = undecided_more c.args.test.ptype (blocks_of c.args.blocks.widths) (passes c.args.test.range) j in
+    let counted = c.loop-j.invariant.blocks in
+    let counts = c.push_answers.ensures.blocks in
+    let read = c.loop-j.invariant.words in
+    let reads = c.push_answers.ensures.words in
+    record {
+      start = c.in_ok-start.ensures.next;
+      long = c.in_ok-start.ensures.long;
+      done = λ p h. elim (cases_lt p (1024 * j)) [
+        | inl before ↦ c.in_ok-start.ensures.before p before ∙ c.loop-j.invariant.done p before
+        | inr after ↦ c.in_ok-start.ensures.part p after h
+      ];
+      blocks = rw more (omega arith);
+      words = omega arith;
+    }
+
+pub returns-in_err-start-clause-most : goal.returns-in_err-start-clause-most
+returns-in_err-start-clause-most g c =
+    let blocks = blocks_of c.args.blocks.widths in
+    let test = passes c.args.test.range in
+    let more = undecided_more c.args.test.ptype blocks test c.loop-j.j in
+    let within = undecided_within c.args.test.ptype blocks test (c.loop-j.j + 1) (blocks_in c.args.blocks) (omega arith) in
+    let counted = c.loop-j.invariant.blocks in
+    let counts = c.push_answers.ensures.blocks in
+    omega arith

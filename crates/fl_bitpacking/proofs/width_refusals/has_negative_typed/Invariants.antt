@@ -1,8 +1,0 @@
-use Rattle.std.proofs.Common.{◌≡◌, ℕ, ◌<◌, false, get_or, map, None}
-use Rattle.fl_types.specs.Validities.{items_of}
-use Rattle.fl_bit_widths.specs.Exceptions.{is_negative}
-use Rattle.fl_bitpacking.proofs.width_refusals.has_negative_typed.Given as goal
-
--- no item so far is negative
-abbrev pub invariant-loop-i : goal.invariant-loop-i
-invariant-loop-i g l = (k : ℕ) → k < l.i → is_negative (get_or (items_of l.validity (map g.T.Number.value l.items)) k None) ≡ false

@@ -1,0 +1,87 @@
+//! Why an array is not packed at a width, or at widths of its blocks.
+
+ghost use Rattle.std.specs.Prelude.{◌≡◌, ◌==◌, nat_lt};
+ghost use Rattle.std.specs.List.{list_all, list_any};
+ghost use Rattle.fl_types.specs.Validities.{items_of};
+ghost use Rattle.fl_patches.specs.Exceptions.{is_negative};
+ghost use Rattle.fl_bitpacking.specs.Encoders.{width_refusal, widths_refusal};
+
+use fl_column::{PrimitiveArray, chunk_count};
+use fl_patches::block_widths;
+use fl_types::{FastLanesError, NativePType, match_each_integer_ptype};
+
+fn has_negative_in<T: NativePType>(array: &PrimitiveArray) -> bool
+    requires { array.now.ptype ≡ T.PTYPE }
+    ensures { result ≡ list_any is_negative (items_of array.now.validity array.now.slots) }
+{
+    let validity = array.validity();
+    block_widths::has_negative(array.as_slice::<T>(), validity)
+}
+
+/// Whether an item of an array is negative that is no null.
+fn has_negative(array: &PrimitiveArray) -> bool
+    ensures { result ≡ list_any is_negative (items_of array.now.validity array.now.slots) }
+{
+    match_each_integer_ptype!(array.ptype(), has_negative_in(array))
+}
+
+/// Whether a width is above so many bits.
+fn has_wider(widths: &[u8], bits: usize) -> bool
+    ensures { result ≡ list_any (nat_lt bits) widths.now }
+{
+    for j in 0..widths.len() {
+        if bits < usize::from(widths[j]) {
+            return true;
+        }
+    }
+    false
+}
+
+/// Whether each width is so many bits.
+fn are_native(widths: &[u8], bits: usize) -> bool
+    ensures { result ≡ list_all (λ width. width == bits) widths.now }
+{
+    for j in 0..widths.len() {
+        if usize::from(widths[j]) != bits {
+            return false;
+        }
+    }
+    true
+}
+
+/// Why an array is not packed at a width, if it is not: the first of `NegativeValue` where an item is
+/// negative that is no null, and `WidthTooLarge` where the width is not below the type's bits.
+pub fn width_refusal(array: &PrimitiveArray, width: u8) -> Option<FastLanesError>
+    ensures { result ≡ width_refusal array.now width }
+{
+    if has_negative(array) {
+        return Some(FastLanesError::NegativeValue);
+    }
+    if usize::from(width) >= array.ptype().bit_width() {
+        return Some(FastLanesError::WidthTooLarge);
+    }
+    None
+}
+
+/// Why an array's blocks are not packed at these widths, if they are not: the first of `NegativeValue`
+/// where an item is negative that is no null, `BlockCount` where there is not one width for each block,
+/// `WidthTooLarge` where a width is above the type's bits, and `AllBlocksNative` where there are blocks,
+/// and all of their widths are the type's bits.
+pub fn widths_refusal(array: &PrimitiveArray, widths: &[u8]) -> Option<FastLanesError>
+    ensures { result ≡ widths_refusal array.now widths.now }
+{
+    if has_negative(array) {
+        return Some(FastLanesError::NegativeValue);
+    }
+    if widths.len() != chunk_count(array.len()) {
+        return Some(FastLanesError::BlockCount);
+    }
+    let bits = array.ptype().bit_width();
+    if has_wider(widths, bits) {
+        return Some(FastLanesError::WidthTooLarge);
+    }
+    if widths.len() > 0 && are_native(widths, bits) {
+        return Some(FastLanesError::AllBlocksNative);
+    }
+    None
+}

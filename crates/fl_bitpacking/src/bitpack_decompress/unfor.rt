@@ -1,0 +1,164 @@
+//! Packed columns to whose items references are added as their blocks are unpacked.
+
+ghost use Rattle.std.specs.Prelude.{◌≡◌, ◌+◌, ◌*◌, ◌≤◌, IsTrue, Ok, OnOk, length, map, min};
+ghost use Rattle.fl_types.specs.Integers.{bits_of_type};
+ghost use Rattle.fl_types.specs.Refusals.{Answers};
+ghost use Rattle.fl_column.specs.Columns.{column_of_primitive};
+ghost use Rattle.fl_column.specs.Numbers.{numbers};
+ghost use Rattle.fl_bitpacking.specs.Blocks.{are_blocks, blocks_of, boundary_blocks, global_blocks};
+ghost use Rattle.fl_bitpacking.specs.BlockSums.{decoded_column, plus_block_reference};
+ghost use Rattle.fl_bitpacking.specs.Columns.{block_count, column_of_packed};
+ghost use Rattle.fl_bitpacking.specs.Parts.{AreReadable, Fit, blocks_to_read, parts_of};
+ghost use Rattle.fl_bitpacking.specs.References.{AreReferencesOf, plus_references};
+
+use crate::bit_packed::BitPacked;
+use crate::bitpack_decompress::{PackedColumn, decode_blocks, with_patches};
+use crate::blocks::PackedBlocks;
+use fastlanes::Work;
+use fl_column::PrimitiveArray;
+use fl_patches::Widths;
+use fl_types::{FastLanesError, PValue, match_each_integer_ptype};
+use num_traits::WrappingAdd;
+use std::alloc::Global;
+
+/// What is added to the items of a column, modulo 2 to its type's bits.
+#[derive(Clone, Copy)]
+pub enum References<'a> {
+    /// One reference, to all items.
+    Global(PValue),
+    /// Its own to the items of each block.
+    PerBlock(&'a PrimitiveArray),
+}
+
+/// The column of these parts, plus the references: each block is unpacked once, and its reference added to the
+/// items that are unpacked; to a patch is added the reference of its own block.
+fn unfor_by<'a, T: BitPacked + WrappingAdd>(
+    alloc: Global,
+    column: &PackedColumn<'a>,
+    widths: Widths<'a>,
+    references: &[T],
+    work: &mut Work,
+) -> Result<PrimitiveArray, FastLanesError>
+    requires typed { column.now.ptype ≡ T.PTYPE }
+    requires fit { Fit (parts_of column.now) }
+    requires readable { AreReadable (bits_of_type column.now.ptype) (blocks_to_read column.now widths) }
+    ensures column { Answers column_of_primitive result (Ok (decoded_column (plus_block_reference T.PTYPE (map T.value references.now)) (parts_of column.now) (blocks_of widths.entry))) }
+    ensures blocks { OnOk result (work.new.blocks ≡ min (work.old.blocks + block_count (parts_of column.now)) u64.MAX) }
+    ensures most { work.new.blocks ≤ work.old.blocks + block_count (parts_of column.now) }
+    ensures words { work.new.words ≡ work.old.words }
+{
+    let blocks = PackedBlocks {
+        widths,
+        packed: column.packed,
+        offset: column.offset,
+        len: column.len,
+    };
+    let values = decode_blocks(alloc, blocks, references, work)?;
+    let items = with_patches(values, column.patches, references, column.offset);
+    let validity = column.validity.try_clone(alloc)?;
+    PrimitiveArray::new(items, validity)
+}
+
+fn unfor_typed<'a, T: BitPacked + WrappingAdd>(
+    alloc: Global,
+    column: &PackedColumn<'a>,
+    widths: Widths<'a>,
+    references: References,
+    work: &mut Work,
+) -> Result<PrimitiveArray, FastLanesError>
+    requires typed { column.now.ptype ≡ T.PTYPE }
+    requires references { AreReferencesOf T.PTYPE (block_count (parts_of column.now)) references }
+    requires fit { Fit (parts_of column.now) }
+    requires readable { AreReadable (bits_of_type column.now.ptype) (blocks_to_read column.now widths) }
+    ensures column { Answers column_of_primitive result (Ok (plus_references references.entry column.now.offset (column_of_packed (parts_of column.now) (blocks_of widths.entry)))) }
+    ensures blocks { OnOk result (work.new.blocks ≡ min (work.old.blocks + block_count (parts_of column.now)) u64.MAX) }
+    ensures most { work.new.blocks ≤ work.old.blocks + block_count (parts_of column.now) }
+    ensures words { work.new.words ≡ work.old.words }
+{
+    T::prove_fits_in_memory();
+    match references {
+        References::Global(reference) => {
+            let reference = T::from_pvalue(reference).unwrap();
+            unfor_by(alloc, column, widths, &[reference], work)
+        }
+        References::PerBlock(references) => {
+            let references = references.as_slice::<T>();
+            unfor_by(alloc, column, widths, references, work)
+        }
+    }
+}
+
+/// The column of these parts plus the references, where the blocks have these widths.
+fn unfor_column<'a>(
+    alloc: Global,
+    column: &PackedColumn<'a>,
+    widths: Widths<'a>,
+    references: References,
+    work: &mut Work,
+) -> Result<PrimitiveArray, FastLanesError>
+    requires references { AreReferencesOf column.now.ptype (block_count (parts_of column.now)) references }
+    requires fit { Fit (parts_of column.now) }
+    requires readable { AreReadable (bits_of_type column.now.ptype) (blocks_to_read column.now widths) }
+    ensures column { Answers column_of_primitive result (Ok (plus_references references.entry column.now.offset (column_of_packed (parts_of column.now) (blocks_of widths.entry)))) }
+    ensures blocks { OnOk result (work.new.blocks ≡ min (work.old.blocks + block_count (parts_of column.now)) u64.MAX) }
+    ensures most { work.new.blocks ≤ work.old.blocks + block_count (parts_of column.now) }
+    ensures words { work.new.words ≡ work.old.words }
+{
+    match_each_integer_ptype!(
+        column.ptype,
+        unfor_typed(alloc, column, widths, references, work)
+    )
+}
+
+/// The column of these parts plus the references, where all blocks have one width: an item is null where the
+/// validity has none, else its patch or what its bits say, plus its reference. Each block is unpacked once.
+///
+/// The references have the column's type; the width is at most the type's bits, and the blocks lie in the bytes.
+pub fn unfor_global(
+    alloc: Global,
+    column: &PackedColumn,
+    width: usize,
+    references: References,
+    work: &mut Work,
+) -> Result<PrimitiveArray, FastLanesError>
+    requires fit { Fit (parts_of column.now) }
+    requires references { AreReferencesOf column.now.ptype (block_count (parts_of column.now)) references }
+    requires width { width ≤ bits_of_type column.now.ptype }
+    requires room { 128 * width * block_count (parts_of column.now) ≤ length column.now.packed.now }
+    ensures column { Answers column_of_primitive result (Ok (plus_references references.entry column.now.offset (column_of_packed (parts_of column.now) (global_blocks width)))) }
+    ensures blocks { OnOk result (work.new.blocks ≡ min (work.old.blocks + block_count (parts_of column.now)) u64.MAX) }
+    ensures most { work.new.blocks ≤ work.old.blocks + block_count (parts_of column.now) }
+    ensures words { work.new.words ≡ work.old.words }
+{
+    unfor_column(alloc, column, Widths::Global(width), references, work)
+}
+
+/// The column of these parts plus the references, where block `j` lies between the boundaries `j` and `j + 1`,
+/// in bytes counted from the first boundary. Each block is unpacked once.
+///
+/// The references have the column's type. There is one boundary more than there are blocks, and each two
+/// neighbours are those of a block in the bytes, of at most the type's bits.
+pub fn unfor_blocked<'a>(
+    alloc: Global,
+    column: &PackedColumn<'a>,
+    boundaries: &'a PrimitiveArray,
+    references: References,
+    work: &mut Work,
+) -> Result<PrimitiveArray, FastLanesError>
+    requires fit { Fit (parts_of column.now) }
+    requires references { AreReferencesOf column.now.ptype (block_count (parts_of column.now)) references }
+    requires count { length boundaries.now.slots ≡ block_count (parts_of column.now) + 1 }
+    requires blocks { IsTrue (are_blocks (bits_of_type column.now.ptype) (length column.now.packed.now) (numbers boundaries.now)) }
+    ensures column { Answers column_of_primitive result (Ok (plus_references references.entry column.now.offset (column_of_packed (parts_of column.now) (boundary_blocks (numbers boundaries.now))))) }
+    ensures blocks { OnOk result (work.new.blocks ≡ min (work.old.blocks + block_count (parts_of column.now)) u64.MAX) }
+    ensures most { work.new.blocks ≤ work.old.blocks + block_count (parts_of column.now) }
+    ensures words { work.new.words ≡ work.old.words }
+{
+    unfor_column(
+        alloc,
+        column,
+        Widths::Boundaries(boundaries),
+        references,
+        work,
+    )
+}

@@ -1,0 +1,452 @@
+//! Tests of a range on packed blocks: a block is compared in the order of its lanes, and not unpacked where its width decides.
+
+mod packed_data;
+
+ghost use Rattle.std.specs.Prelude.{◌≡◌, ◌==◌, ◌+◌, ◌*◌, ◌/◌, ◌<◌, ◌≤◌, ◌^◌, ℕ, IfOk, IfSome, IsTrue, OnOk, Ok, false, length, map, min, not, option_map, pos, slice_index_or, slice_set, unwrap_or, if◌then◌else◌};
+ghost use Rattle.std.specs.Option.{option_copied};
+ghost use Rattle.fastlanes.specs.Compared.{has_bit, is_bit_set};
+ghost use Rattle.fastlanes.specs.Layout.{unpacked_item, word_at};
+ghost use Rattle.fl_types.specs.Bits.{is_set};
+ghost use Rattle.fl_types.specs.Integers.{bits_of_type};
+ghost use Rattle.fl_types.specs.Refusals.{Answers};
+ghost use Rattle.fl_column.specs.Columns.{column_of_bools};
+ghost use Rattle.fl_column.specs.Numbers.{numbers, numbers_by};
+ghost use Rattle.fl_column.specs.Questions.{tested};
+ghost use Rattle.fl_patches.specs.PatchMaps.{patched, patched_in};
+ghost use Rattle.fl_bitpacking.specs.Blocks.{are_blocks, block_item, blocks_of, boundary_blocks, global_blocks, item_of_blocks};
+ghost use Rattle.fl_bitpacking.specs.Columns.{block_count, column_of_packed};
+ghost use Rattle.fl_bitpacking.specs.Compared.{IsPackedTest};
+ghost use Rattle.fl_bitpacking.specs.Decided.{is_decided, undecided_below, undecided_blocks};
+ghost use Rattle.fl_bitpacking.specs.Parts.{AreReadable, Fit, blocks_in, blocks_to_read, parts_of};
+ghost use Rattle.fl_bitpacking.specs.Placed.{ArePlaced, value_beside};
+ghost use Rattle.fl_bitpacking.specs.RangeTests.{answer_of, in_range, passes};
+
+use crate::bitpack_decompress::PackedColumn;
+use crate::blocks::{PackedBlocks, block_at, prove_count_fits};
+use crate::compute::ordered_word::OrderedWord;
+use crate::compute::range_test::{PatternTest, RangeTest};
+use crate::patching::place_of;
+use fastlanes::{Work, transpose_bits, unpack_cmp_bytes};
+use fl_column::{BoolArray, PrimitiveArray};
+use fl_patches::{Patches, Widths};
+use fl_types::{BitList, FastLanesError, NativePType, PType, match_each_integer_ptype};
+use std::alloc::{AllocError, Global};
+
+/// A test of packed items of a type.
+#[derive(Clone, Copy)]
+struct PackedTest {
+    /// The test.
+    range: RangeTest,
+    /// The integer type.
+    ptype: PType,
+    /// The same test, of the items' patterns.
+    patterns: PatternTest,
+}
+
+impl PackedTest {
+    /// The test of packed items of a type.
+    fn new(range: RangeTest, ptype: PType) -> PackedTest
+        ensures range { result.range ≡ range }
+        ensures typed { result.ptype ≡ ptype }
+        ensures same { IsPackedTest result }
+    {
+        PackedTest {
+            range,
+            ptype,
+            patterns: range.on_patterns(ptype),
+        }
+    }
+}
+
+/// Whether a word less `low`, modulo 2 to its bits, is at most `span`.
+#[inline(always)]
+#[tactic(auto, unfolding(crate::specs::RangeTests::in_range))]
+fn is_in_range<W: OrderedWord>(word: W, low: W, span: W) -> bool
+    ensures { result ≡ in_range W.T (W.pattern low) (W.pattern span) (W.pattern word) }
+{
+    word.wrapping_difference(low).at_most(span)
+}
+
+/// Sets bit `i` where the pattern of item `i` of a packed block less `low`, modulo 2 to its bits, is at most `span`, and no
+/// other bit.
+fn compare_block<W: OrderedWord>(
+    width: usize,
+    block: &[u8],
+    low: W,
+    span: W,
+    bits: &mut [u64; 16],
+    work: &mut Work,
+)
+    requires width { width ≤ W.T }
+    requires block { length block.now ≡ 128 * width }
+    ensures bits { (i : ℕ) → i < 1024 → has_bit bits.new i ≡ in_range W.T (W.pattern low) (W.pattern span) (unpacked_item W.T W.LANES width (word_at W.T block.now) i) }
+    ensures whole { length bits.new ≡ 16 }
+    ensures blocks { work.new.blocks ≡ min (work.old.blocks + 1) u64.MAX }
+    ensures words { work.new.words ≡ work.old.words }
+{
+    let mut lanes = [0u64; 16];
+    unpack_cmp_bytes(
+        width,
+        block,
+        &mut lanes,
+        |item, low| is_in_range(item, low, span),
+        low,
+        work,
+    );
+    transpose_bits::<W>(&lanes, bits);
+}
+
+/// The word of which each bit is turned round.
+fn flipped(word: u64) -> u64
+    ensures { (j : ℕ) → j < 64 → is_bit_set result j ≡ not (is_bit_set word j) }
+{
+    !word
+}
+
+/// Turns each bit round.
+fn negate(bits: &mut [u64; 16])
+    ensures bits { (i : ℕ) → i < 1024 → has_bit bits.new i ≡ not (has_bit bits.old i) }
+    ensures whole { length bits.new ≡ 16 }
+{
+    for k in 0..16usize {
+        bits[k] = flipped(bits[k]);
+    }
+}
+
+/// The word whose bits all are `on`.
+fn uniform_word(on: bool) -> u64
+    ensures { (j : ℕ) → j < 64 → is_bit_set result j ≡ on }
+{
+    if on { u64::MAX } else { 0 }
+}
+
+/// Sets all bits, or none.
+fn fill(bits: &mut [u64; 16], on: bool)
+    ensures bits { (i : ℕ) → i < 1024 → has_bit bits.new i ≡ on }
+    ensures whole { length bits.new ≡ 16 }
+{
+    let word = uniform_word(on);
+    for k in 0..16usize {
+        bits[k] = word;
+    }
+}
+
+/// Sets bit `i` where item `i` of a packed block passes the test, and no other bit.
+fn compare_patterns<W: OrderedWord>(
+    test: PatternTest,
+    width: usize,
+    block: &[u8],
+    bits: &mut [u64; 16],
+    work: &mut Work,
+)
+    requires low { test.low < 2 ^ W.T }
+    requires span { test.span < 2 ^ W.T }
+    requires width { width ≤ W.T }
+    requires block { length block.now ≡ 128 * width }
+    ensures bits { (i : ℕ) → i < 1024 → has_bit bits.new i ≡ answer_of test.negated (in_range W.T test.low test.span (unpacked_item W.T W.LANES width (word_at W.T block.now) i)) }
+    ensures whole { length bits.new ≡ 16 }
+    ensures blocks { work.new.blocks ≡ min (work.old.blocks + 1) u64.MAX }
+    ensures words { work.new.words ≡ work.old.words }
+{
+    let (low, span) = (W::from_number(test.low), W::from_number(test.span));
+    compare_block(width, block, low, span, bits, work);
+    if test.negated {
+        negate(bits);
+    }
+}
+
+/// Sets bit `i` where item `i` of a packed block passes the test, and no other bit. Nothing is unpacked where the block's width
+/// decides the test.
+fn test_block<W: OrderedWord>(
+    test: PackedTest,
+    width: usize,
+    block: &[u8],
+    bits: &mut [u64; 16],
+    work: &mut Work,
+)
+    requires test { IsPackedTest test }
+    requires word { W.T ≡ bits_of_type test.ptype }
+    requires width { width ≤ bits_of_type test.ptype }
+    requires block { length block.now ≡ 128 * width }
+    ensures bits { (i : ℕ) → i < 1024 → has_bit bits.new i ≡ passes test.range (block_item test.ptype width block.now i) }
+    ensures whole { length bits.new ≡ 16 }
+    ensures blocks { work.new.blocks ≡ min (work.old.blocks + (if is_decided test.ptype width (passes test.range) then 0 else 1)) u64.MAX }
+    ensures words { work.new.words ≡ work.old.words }
+{
+    prove_count_fits(work);
+    if test.range.is_decided(test.ptype, width) {
+        fill(bits, test.range.is_passed_by(0));
+    } else {
+        compare_patterns::<W>(test.patterns, width, block, bits, work);
+    }
+}
+
+impl PackedBlocks<'_> {
+    /// Adds the answers of a test for the items of block `j`, whose bytes start at `start`, and gives where those of the next
+    /// block start.
+    fn push_answers<W: OrderedWord>(
+        self,
+        test: PackedTest,
+        j: usize,
+        start: usize,
+        words: &mut Vec<u64>,
+        work: &mut Work,
+    ) -> Result<usize, AllocError>
+        requires test { IsPackedTest test }
+        requires word { W.T ≡ bits_of_type test.ptype }
+        requires readable { AreReadable (bits_of_type test.ptype) self }
+        requires block { j < blocks_in self }
+        requires start { start ≡ (blocks_of self.widths).start j }
+        requires begun { length words.old.items ≡ 16 * j }
+        ensures long { OnOk result (length words.new.items ≡ 16 * (j + 1)) }
+        ensures before { OnOk result ((p : ℕ) → p < 1024 * j → is_set words.new.items p ≡ is_set words.old.items p) }
+        ensures part { OnOk result ((p : ℕ) → 1024 * j ≤ p → p < 1024 * (j + 1) → is_set words.new.items p ≡ passes test.range (item_of_blocks test.ptype (blocks_of self.entry.widths) self.entry.packed.now p)) }
+        ensures next { IfOk result (λ next. next ≡ (blocks_of self.entry.widths).start (j + 1)) }
+        ensures blocks { work.new.blocks ≡ min (work.old.blocks + (if is_decided test.ptype ((blocks_of self.entry.widths).width j) (passes test.range) then 0 else 1)) u64.MAX }
+        ensures words { work.new.words ≡ work.old.words }
+    {
+        let width = self.widths.of_block(j);
+        let block = block_at(self.packed, start, width);
+        let mut bits = [0u64; 16];
+        test_block::<W>(test, width, block, &mut bits, work);
+        words.extend_from_slice(&bits)?;
+        Ok(start + block.len())
+    }
+}
+
+/// The answers of a test for all items of packed blocks, also of those that are cut off: bit `i` for the item at position `i`.
+fn test_blocks<W: OrderedWord>(
+    alloc: Global,
+    blocks: PackedBlocks,
+    test: PackedTest,
+    work: &mut Work,
+) -> Result<Vec<u64>, AllocError>
+    requires test { IsPackedTest test }
+    requires word { W.T ≡ bits_of_type test.ptype }
+    requires readable { AreReadable (bits_of_type test.ptype) blocks }
+    ensures long { IfOk result (λ v. length v.items ≡ 16 * blocks_in blocks.entry) }
+    ensures bits { IfOk result (λ v. (p : ℕ) → p < 1024 * blocks_in blocks.entry → is_set v.items p ≡ passes test.range (item_of_blocks test.ptype (blocks_of blocks.entry.widths) blocks.entry.packed.now p)) }
+    ensures blocks { OnOk result (work.new.blocks ≡ min (work.old.blocks + undecided_below test.ptype (blocks_of blocks.entry.widths) (passes test.range) (blocks_in blocks.entry)) u64.MAX) }
+    ensures most { work.new.blocks ≤ work.old.blocks + undecided_below test.ptype (blocks_of blocks.entry.widths) (passes test.range) (blocks_in blocks.entry) }
+    ensures words { work.new.words ≡ work.old.words }
+{
+    prove_count_fits(work);
+    let mut words = Vec::with_capacity(alloc, 16 * blocks.count())?;
+    let mut start = 0;
+    for j in 0..blocks.count() {
+        start = blocks.push_answers::<W>(test, j, start, &mut words, work)?;
+    }
+    Ok(words)
+}
+
+/// The same by words of the type's bits.
+fn test_words(
+    alloc: Global,
+    blocks: PackedBlocks,
+    test: PackedTest,
+    work: &mut Work,
+) -> Result<Vec<u64>, AllocError>
+    requires test { IsPackedTest test }
+    requires readable { AreReadable (bits_of_type test.ptype) blocks }
+    ensures long { IfOk result (λ v. length v.items ≡ 16 * blocks_in blocks.entry) }
+    ensures bits { IfOk result (λ v. (p : ℕ) → p < 1024 * blocks_in blocks.entry → is_set v.items p ≡ passes test.range (item_of_blocks test.ptype (blocks_of blocks.entry.widths) blocks.entry.packed.now p)) }
+    ensures blocks { OnOk result (work.new.blocks ≡ min (work.old.blocks + undecided_below test.ptype (blocks_of blocks.entry.widths) (passes test.range) (blocks_in blocks.entry)) u64.MAX) }
+    ensures most { work.new.blocks ≤ work.old.blocks + undecided_below test.ptype (blocks_of blocks.entry.widths) (passes test.range) (blocks_in blocks.entry) }
+    ensures words { work.new.words ≡ work.old.words }
+{
+    match test.ptype {
+        PType::U8 | PType::I8 => test_blocks::<u8>(alloc, blocks, test, work),
+        PType::U16 | PType::I16 => test_blocks::<u16>(alloc, blocks, test, work),
+        PType::U32 | PType::I32 => test_blocks::<u32>(alloc, blocks, test, work),
+        PType::U64 | PType::I64 => test_blocks::<u64>(alloc, blocks, test, work),
+    }
+}
+
+/// The answers of a test for the items of packed blocks. Where there is no item, nothing is unpacked.
+fn test_items(
+    alloc: Global,
+    blocks: PackedBlocks,
+    test: PackedTest,
+    work: &mut Work,
+) -> Result<BitList, AllocError>
+    requires test { IsPackedTest test }
+    requires readable { AreReadable (bits_of_type test.ptype) blocks }
+    ensures long { IfOk result (λ b. length b ≡ blocks.entry.len) }
+    ensures bits { IfOk result (λ b. (i : ℕ) → i < blocks.entry.len → slice_index_or b i false ≡ passes test.range (item_of_blocks test.ptype (blocks_of blocks.entry.widths) blocks.entry.packed.now (blocks.entry.offset + i))) }
+    ensures blocks { OnOk result (work.new.blocks ≡ min (work.old.blocks + (if blocks.entry.len == 0 then 0 else undecided_below test.ptype (blocks_of blocks.entry.widths) (passes test.range) (blocks_in blocks.entry))) u64.MAX) }
+    ensures most { work.new.blocks ≤ work.old.blocks + (if blocks.entry.len == 0 then 0 else undecided_below test.ptype (blocks_of blocks.entry.widths) (passes test.range) (blocks_in blocks.entry)) }
+    ensures words { work.new.words ≡ work.old.words }
+{
+    prove_count_fits(work);
+    if blocks.len == 0 {
+        return Ok(BitList::new(alloc));
+    }
+    let words = test_words(alloc, blocks, test, work)?;
+    Ok(BitList::from_words(words, blocks.offset, blocks.len))
+}
+
+/// The answer of a test for a value.
+fn passes_at<T: NativePType>(test: RangeTest, values: &[T], k: usize) -> bool
+    requires { k < length values.now }
+    ensures { result ≡ passes test (slice_index_or (map T.value values.now) k (pos 0)) }
+{
+    let value = values[k];
+    test.is_passed_by(value.as_i128())
+}
+
+/// Puts the answers for values in the places of their indices.
+fn write_answers<T: NativePType, I: NativePType>(
+    test: RangeTest,
+    indices: &[I],
+    values: &[T],
+    offset: usize,
+    bits: &mut BitList,
+)
+    requires { ArePlaced (numbers_by I.value indices.now) (length values.now) offset (length bits.old) }
+    ensures long { length bits.new ≡ length bits.old }
+    ensures bits { (i : ℕ) → i < length bits.old → slice_index_or bits.new i false ≡ unwrap_or (option_map (passes test) (value_beside (numbers_by I.value indices.now) (map T.value values.now) (offset + i))) (slice_index_or bits.old i false) }
+{
+    for k in 0..indices.len() {
+        let answer = passes_at(test, values, k);
+        bits.set(place_of(indices, k, offset), answer);
+    }
+}
+
+fn write_typed<T: NativePType, I: NativePType>(
+    test: RangeTest,
+    indices: &PrimitiveArray,
+    values: &[T],
+    offset: usize,
+    bits: &mut BitList,
+)
+    requires typed { indices.now.ptype ≡ I.PTYPE }
+    requires placed { ArePlaced (numbers indices.now) (length values.now) offset (length bits.old) }
+    ensures long { length bits.new ≡ length bits.old }
+    ensures bits { (i : ℕ) → i < length bits.old → slice_index_or bits.new i false ≡ unwrap_or (option_map (passes test) (value_beside (numbers indices.now) (map T.value values.now) (offset + i))) (slice_index_or bits.old i false) }
+{
+    write_answers(test, indices.as_slice::<I>(), values, offset, bits);
+}
+
+/// Puts the answers for values in the places of their indices.
+fn write_in<T: NativePType>(
+    test: RangeTest,
+    indices: &PrimitiveArray,
+    values: &[T],
+    offset: usize,
+    bits: &mut BitList,
+)
+    requires { ArePlaced (numbers indices.now) (length values.now) offset (length bits.old) }
+    ensures long { length bits.new ≡ length bits.old }
+    ensures bits { (i : ℕ) → i < length bits.old → slice_index_or bits.new i false ≡ unwrap_or (option_map (passes test) (value_beside (numbers indices.now) (map T.value values.now) (offset + i))) (slice_index_or bits.old i false) }
+{
+    match_each_integer_ptype!(
+        indices.ptype(),
+        write_typed::<T>(test, indices, values, offset, bits)
+    )
+}
+
+fn test_patches_typed<T: NativePType>(test: RangeTest, patches: &Patches, bits: &mut BitList)
+    requires values { patches.now.values.ptype ≡ T.PTYPE }
+    requires long { length bits.old ≡ patches.now.array_len }
+    ensures long { length bits.new ≡ length bits.old }
+    ensures bits { (i : ℕ) → i < length bits.old → slice_index_or bits.new i false ≡ unwrap_or (option_map (passes test) (patched patches.now i)) (slice_index_or bits.old i false) }
+{
+    patches.prove_well_formed();
+    let offset = patches.offset();
+    let indices = patches.indices();
+    let values = patches.values();
+    write_in(test, indices, values.as_slice::<T>(), offset, bits);
+}
+
+/// Puts the answers for the patches' values in their places.
+fn test_patches(test: RangeTest, patches: &Patches, bits: &mut BitList)
+    requires long { length bits.old ≡ patches.now.array_len }
+    ensures long { length bits.new ≡ length bits.old }
+    ensures bits { (i : ℕ) → i < length bits.old → slice_index_or bits.new i false ≡ unwrap_or (option_map (passes test) (patched patches.now i)) (slice_index_or bits.old i false) }
+{
+    match_each_integer_ptype!(
+        patches.values().ptype(),
+        test_patches_typed(test, patches, bits)
+    )
+}
+
+/// These answers, with those for the patches in their places, if there are patches.
+fn with_patches(test: RangeTest, mut bits: BitList, patches: Option<&Patches>) -> BitList
+    requires { IfSome (option_copied patches) (λ p. p.array_len ≡ length bits) }
+    ensures long { length result ≡ length bits }
+    ensures bits { (i : ℕ) → i < length bits → slice_index_or result i false ≡ unwrap_or (option_map (passes test) (patched_in (option_copied patches.entry) i)) (slice_index_or bits i false) }
+{
+    if let Some(patches) = patches {
+        test_patches(test, patches, &mut bits);
+    }
+    bits
+}
+
+/// The answers of a test for the items of these parts, whose blocks have these widths; a null stays a null.
+pub(crate) fn test_column(
+    alloc: Global,
+    column: &PackedColumn,
+    widths: Widths,
+    range: RangeTest,
+    work: &mut Work,
+) -> Result<BoolArray, FastLanesError>
+    requires fit { Fit (parts_of column.now) }
+    requires readable { AreReadable (bits_of_type column.now.ptype) (blocks_to_read column.now widths) }
+    ensures column { Answers column_of_bools result (Ok (tested (passes range) (column_of_packed (parts_of column.now) (blocks_of widths.entry)))) }
+    ensures blocks { OnOk result (work.new.blocks ≡ min (work.old.blocks + undecided_blocks (parts_of column.now) (blocks_of widths.entry) (passes range)) u64.MAX) }
+    ensures most { work.new.blocks ≤ work.old.blocks + undecided_blocks (parts_of column.now) (blocks_of widths.entry) (passes range) }
+    ensures words { work.new.words ≡ work.old.words }
+{
+    let blocks = PackedBlocks {
+        widths,
+        packed: column.packed,
+        offset: column.offset,
+        len: column.len,
+    };
+    let test = PackedTest::new(range, column.ptype);
+    let stored = test_items(alloc, blocks, test, work)?;
+    let bits = with_patches(range, stored, column.patches);
+    let validity = column.validity.try_clone(alloc)?;
+    BoolArray::new(bits, validity)
+}
+
+/// The same of parts whose blocks all have one width. The width is at most the type's bits, and the blocks lie in the bytes.
+pub(crate) fn test_global(
+    alloc: Global,
+    column: &PackedColumn,
+    width: usize,
+    range: RangeTest,
+    work: &mut Work,
+) -> Result<BoolArray, FastLanesError>
+    requires fit { Fit (parts_of column.now) }
+    requires width { width ≤ bits_of_type column.now.ptype }
+    requires room { 128 * width * block_count (parts_of column.now) ≤ length column.now.packed.now }
+    ensures column { Answers column_of_bools result (Ok (tested (passes range) (column_of_packed (parts_of column.now) (global_blocks width)))) }
+    ensures blocks { OnOk result (work.new.blocks ≡ min (work.old.blocks + undecided_blocks (parts_of column.now) (global_blocks width) (passes range)) u64.MAX) }
+    ensures most { work.new.blocks ≤ work.old.blocks + undecided_blocks (parts_of column.now) (global_blocks width) (passes range) }
+    ensures words { work.new.words ≡ work.old.words }
+{
+    test_column(alloc, column, Widths::Global(width), range, work)
+}
+
+/// The same of parts whose block `j` lies between the boundaries `j` and `j + 1`, in bytes counted from the first boundary.
+///
+/// There is one boundary more than there are blocks, and each two neighbours are those of a block in the bytes, of at most the
+/// type's bits.
+pub(crate) fn test_blocked(
+    alloc: Global,
+    column: &PackedColumn,
+    boundaries: &PrimitiveArray,
+    range: RangeTest,
+    work: &mut Work,
+) -> Result<BoolArray, FastLanesError>
+    requires fit { Fit (parts_of column.now) }
+    requires count { length boundaries.now.slots ≡ block_count (parts_of column.now) + 1 }
+    requires blocks { IsTrue (are_blocks (bits_of_type column.now.ptype) (length column.now.packed.now) (numbers boundaries.now)) }
+    ensures column { Answers column_of_bools result (Ok (tested (passes range) (column_of_packed (parts_of column.now) (boundary_blocks (numbers boundaries.now))))) }
+    ensures blocks { OnOk result (work.new.blocks ≡ min (work.old.blocks + undecided_blocks (parts_of column.now) (boundary_blocks (numbers boundaries.now)) (passes range)) u64.MAX) }
+    ensures most { work.new.blocks ≤ work.old.blocks + undecided_blocks (parts_of column.now) (boundary_blocks (numbers boundaries.now)) (passes range) }
+    ensures words { work.new.words ≡ work.old.words }
+{
+    test_column(alloc, column, Widths::Boundaries(boundaries), range, work)
+}

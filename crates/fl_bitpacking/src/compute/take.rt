@@ -1,0 +1,470 @@
+//! Items of packed columns at positions: those that indices name.
+
+mod patch_values;
+mod positions;
+mod runs;
+
+ghost use Rattle.std.specs.Prelude.{◌≡◌, ◌||◌, ◌+◌, ◌*◌, ◌<◌, ◌≤◌, ℕ, false, IfOk, IsTrue, None, Ok, OnOk, drop, length, not, option_map, slice_index, slice_index_or};
+ghost use Rattle.fl_types.specs.declared.dtype.DType.TheVariants.{Primitive};
+ghost use Rattle.fl_types.specs.declared.dtype.Nullability.TheVariants.{Nullable};
+ghost use Rattle.fl_types.specs.Integers.{bits_of_type};
+ghost use Rattle.fl_types.specs.Refusals.{Answers};
+ghost use Rattle.fl_types.specs.Types.{can_be_null, either_nullable};
+ghost use Rattle.fl_types.specs.Validities.{nullability_of};
+ghost use Rattle.fl_column.specs.Columns.{column_of_constant, column_of_primitive, numbers_of};
+ghost use Rattle.fl_column.specs.Numbers.{numbers};
+ghost use Rattle.fl_column.specs.Operations.{item_named, take_column};
+ghost use Rattle.fl_bitpacking.specs.Blocks.{are_blocks, blocks_of, boundary_blocks, global_blocks, value_at};
+ghost use Rattle.fl_bitpacking.specs.Columns.{block_count, column_of_packed, packed_item};
+ghost use Rattle.fl_bitpacking.specs.Parts.{AreReadable, Fit, blocks_to_read, parts_of};
+ghost use Rattle.fl_bitpacking.specs.Taken.{AreBelow, ArePositions, AreSlots, HasStarts, items_named, items_taken, named_positions};
+
+use crate::bit_packed::BitPacked;
+use crate::bitpack_decompress::{PackedColumn, unpack_values, with_values};
+use crate::blocks::PackedBlocks;
+use crate::compute::take::patch_values::with_patches_at;
+use crate::compute::take::positions::named_positions;
+use crate::compute::take::runs::take_stored;
+use crate::packed_data::PackedData;
+use fastlanes::Work;
+use fl_column::{ConstantArray, PhysicalPType, PrimitiveArray, PrimitiveBuilder, is_full};
+use fl_patches::Widths;
+use fl_types::{FastLanesError, NativePType, Nullability, Validity, match_each_integer_ptype};
+use num_traits::WrappingAdd;
+use std::alloc::{AllocError, Global};
+
+/// Positions of items of a packed column, in any order.
+#[derive(Clone, Copy)]
+struct Taking<'a> {
+    column: PackedColumn<'a>,
+    widths: Widths<'a>,
+    positions: &'a [usize],
+}
+
+/// One of these items.
+fn read<T: NativePType>(items: &[T], i: usize) -> T
+    requires { i < length items.now }
+    ensures { T.value result ≡ value_at T.value items.now i }
+{
+    items[i]
+}
+
+/// The items at these positions.
+fn gather<T: NativePType>(
+    alloc: Global,
+    items: &[T],
+    positions: &[usize],
+) -> Result<Vec<T>, AllocError>
+    requires { AreBelow (length items.now) positions.now }
+    ensures long { IfOk result (λ v. length v.items ≡ length positions.now) }
+    ensures items { IfOk result (λ v. (i : ℕ) → i < length positions.now → value_at T.value v.items i ≡ value_at T.value items.now (slice_index positions.now i)) }
+{
+    let mut taken = Vec::with_capacity(alloc, positions.len())?;
+    for k in 0..positions.len() {
+        taken.push(read(items, positions[k]))?;
+    }
+    Ok(taken)
+}
+
+impl<'a> Taking<'a> {
+    /// The blocks of the column.
+    fn blocks(self) -> PackedBlocks<'a>
+        ensures { result ≡ blocks_to_read self.entry.column self.entry.widths }
+    {
+        PackedBlocks {
+            widths: self.widths,
+            packed: self.column.packed,
+            offset: self.column.offset,
+            len: self.column.len,
+        }
+    }
+
+    /// What stands at the positions, where the blocks are unpacked or read run by run.
+    fn slots_by_runs<T: BitPacked + PhysicalPType>(
+        self,
+        alloc: Global,
+        work: &mut Work,
+    ) -> Result<Vec<T>, AllocError>
+        requires typed { self.column.ptype ≡ T.PTYPE }
+        requires fit { Fit (parts_of self.column) }
+        requires readable { AreReadable (bits_of_type self.column.ptype) (blocks_to_read self.column self.widths) }
+        requires starts { HasStarts self.widths }
+        requires below { AreBelow self.column.len self.positions.now }
+        ensures slots { IfOk result (λ v. AreSlots T.value self.entry v.items) }
+        ensures blocks { 17 * work.new.blocks ≤ 17 * work.old.blocks + length self.entry.positions.now }
+        ensures words { work.new.words ≤ work.old.words + 2 * length self.entry.positions.now }
+    {
+        let items = take_stored(alloc, self.blocks(), self.positions, work)?;
+        Ok(with_patches_at(items, self.column.patches, self.positions))
+    }
+
+    /// What stands at the positions, where all blocks are unpacked first.
+    fn slots_of_all<T: BitPacked + WrappingAdd>(
+        self,
+        alloc: Global,
+        work: &mut Work,
+    ) -> Result<Vec<T>, AllocError>
+        requires typed { self.column.ptype ≡ T.PTYPE }
+        requires fit { Fit (parts_of self.column) }
+        requires readable { AreReadable (bits_of_type self.column.ptype) (blocks_to_read self.column self.widths) }
+        requires below { AreBelow self.column.len self.positions.now }
+        ensures slots { IfOk result (λ v. AreSlots T.value self.entry v.items) }
+    {
+        let values = unpack_values(alloc, self.blocks(), work)?;
+        let items = with_values(values, self.column.patches);
+        gather(alloc, &items, self.positions)
+    }
+
+    /// What stands at the positions.
+    fn taken_slots<T: BitPacked + PhysicalPType + WrappingAdd>(
+        self,
+        alloc: Global,
+        whole: bool,
+        work: &mut Work,
+    ) -> Result<Vec<T>, AllocError>
+        requires typed { self.column.ptype ≡ T.PTYPE }
+        requires fit { Fit (parts_of self.column) }
+        requires readable { AreReadable (bits_of_type self.column.ptype) (blocks_to_read self.column self.widths) }
+        requires starts { HasStarts self.widths }
+        requires below { AreBelow self.column.len self.positions.now }
+        ensures slots { IfOk result (λ v. AreSlots T.value self.entry v.items) }
+        ensures blocks { whole ≡ false → 17 * work.new.blocks ≤ 17 * work.old.blocks + length self.entry.positions.now }
+        ensures words { whole ≡ false → work.new.words ≤ work.old.words + 2 * length self.entry.positions.now }
+    {
+        if whole {
+            self.slots_of_all(alloc, work)
+        } else {
+            self.slots_by_runs(alloc, work)
+        }
+    }
+
+    /// The item at the k-th position, of which `slots` has what stands there, also under a null.
+    fn item<T: NativePType>(self, slots: &[T], k: usize) -> Option<T>
+        requires fit { Fit (parts_of self.column) }
+        requires below { AreBelow self.column.len self.positions.now }
+        requires slots { AreSlots T.value self slots.now }
+        requires range { k < length slots.now }
+        ensures { option_map T.value result ≡ packed_item (parts_of self.entry.column) (blocks_of self.entry.widths) (slice_index self.entry.positions.now k) }
+    {
+        if self
+            .column
+            .validity
+            .is_valid(self.positions[k], self.column.len)
+        {
+            Some(read(slots, k))
+        } else {
+            None
+        }
+    }
+
+    /// The items at the positions, some of which may be null.
+    fn items_or_nulls<T: NativePType>(
+        self,
+        alloc: Global,
+        slots: &[T],
+        nullability: Nullability,
+    ) -> Result<PrimitiveArray, FastLanesError>
+        requires typed { self.column.ptype ≡ T.PTYPE }
+        requires fit { Fit (parts_of self.column) }
+        requires below { AreBelow self.column.len self.positions.now }
+        requires slots { AreSlots T.value self slots.now }
+        requires nulls { IsTrue (can_be_null nullability) }
+        ensures { Answers column_of_primitive result (Ok (record { dtype = Primitive self.entry.column.ptype nullability; items = items_taken self.entry })) }
+    {
+        let mut taken = PrimitiveBuilder::with_capacity(alloc, slots.len())?;
+        for k in 0..slots.len() {
+            taken.push(alloc, self.item(slots, k))?;
+        }
+        Ok(taken.finish(nullability))
+    }
+
+    /// The items at the positions, in their order.
+    fn items<T: NativePType>(
+        self,
+        alloc: Global,
+        slots: Vec<T>,
+        nullability: Nullability,
+    ) -> Result<PrimitiveArray, FastLanesError>
+        requires typed { self.column.ptype ≡ T.PTYPE }
+        requires fit { Fit (parts_of self.column) }
+        requires below { AreBelow self.column.len self.positions.now }
+        requires slots { AreSlots T.value self slots.items }
+        requires nulls { IsTrue (can_be_null nullability || not (can_be_null (nullability_of self.column.validity.now))) }
+        ensures { Answers column_of_primitive result (Ok (record { dtype = Primitive self.entry.column.ptype nullability; items = items_taken self.entry })) }
+    {
+        if is_full(self.column.validity) {
+            Ok(PrimitiveArray::without_nulls(slots, nullability))
+        } else {
+            self.items_or_nulls(alloc, &slots, nullability)
+        }
+    }
+
+    /// The item that the k-th index names, null where the index is null, and the number of positions up to there,
+    /// of which `next` come before.
+    fn next_item<T: NativePType>(
+        self,
+        slots: &[T],
+        indices: &PrimitiveArray,
+        k: usize,
+        next: usize,
+    ) -> (Option<T>, usize)
+        requires fit { Fit (parts_of self.column) }
+        requires below { AreBelow self.column.len self.positions.now }
+        requires slots { AreSlots T.value self slots.now }
+        requires range { k < length indices.now.slots }
+        requires few { next ≤ k }
+        requires named { named_positions (drop k (column_of_primitive indices.now).items) ≡ drop next self.positions.now }
+        ensures item { option_map T.value result.0 ≡ item_named (column_of_packed (parts_of self.entry.column) (blocks_of self.entry.widths)).items (slice_index_or (column_of_primitive indices.now).items k None) }
+        ensures few { result.1 ≤ k + 1 }
+        ensures named { named_positions (drop (k + 1) (column_of_primitive indices.now).items) ≡ drop result.1 self.entry.positions.now }
+    {
+        if indices.validity().is_valid(k, indices.len()) {
+            (self.item(slots, next), next + 1)
+        } else {
+            (None, next)
+        }
+    }
+
+    /// The items at the positions, with a null where an index is null. The positions are those of the other
+    /// indices.
+    fn items_between_nulls<T: NativePType>(
+        self,
+        alloc: Global,
+        slots: &[T],
+        indices: &PrimitiveArray,
+    ) -> Result<PrimitiveArray, FastLanesError>
+        requires typed { self.column.ptype ≡ T.PTYPE }
+        requires fit { Fit (parts_of self.column) }
+        requires below { AreBelow self.column.len self.positions.now }
+        requires slots { AreSlots T.value self slots.now }
+        requires named { self.positions.now ≡ named_positions (column_of_primitive indices.now).items }
+        ensures { Answers column_of_primitive result (Ok (record { dtype = Primitive self.entry.column.ptype Nullable; items = items_named self.entry (column_of_primitive indices.now).items })) }
+    {
+        let mut taken = PrimitiveBuilder::with_capacity(alloc, indices.len())?;
+        let mut next = 0;
+        for k in 0..indices.len() {
+            let (item, after) = self.next_item(slots, indices, k, next);
+            taken.push(alloc, item)?;
+            next = after;
+        }
+        Ok(taken.finish(Nullability::Nullable))
+    }
+
+    /// Whether nulls may stand in what indices take.
+    fn nullability_over(self, indices: &PrimitiveArray) -> Nullability
+        ensures { result ≡ either_nullable (nullability_of self.entry.column.validity.now) (nullability_of indices.now.validity) }
+    {
+        self.column.validity.nullability().or(indices.nullability())
+    }
+
+    /// The items that indices name, null where an index is null. The positions are those of the other indices.
+    fn named_items<T: NativePType>(
+        self,
+        alloc: Global,
+        slots: Vec<T>,
+        indices: &PrimitiveArray,
+    ) -> Result<PrimitiveArray, FastLanesError>
+        requires typed { self.column.ptype ≡ T.PTYPE }
+        requires fit { Fit (parts_of self.column) }
+        requires slots { AreSlots T.value self slots.items }
+        requires positions { ArePositions self.column.len (column_of_primitive indices.now).items self.positions.now }
+        ensures { Answers column_of_primitive result (take_column (column_of_primitive indices.now) (column_of_packed (parts_of self.entry.column) (blocks_of self.entry.widths))) }
+    {
+        if indices.has_null() {
+            return self.items_between_nulls(alloc, &slots, indices);
+        }
+        let nullability = self.nullability_over(indices);
+        self.items(alloc, slots, nullability)
+    }
+}
+
+fn take_typed<T: BitPacked + PhysicalPType + WrappingAdd>(
+    alloc: Global,
+    taking: Taking,
+    indices: &PrimitiveArray,
+    whole: bool,
+    work: &mut Work,
+) -> Result<PrimitiveArray, FastLanesError>
+    requires typed { taking.column.ptype ≡ T.PTYPE }
+    requires fit { Fit (parts_of taking.column) }
+    requires readable { AreReadable (bits_of_type taking.column.ptype) (blocks_to_read taking.column taking.widths) }
+    requires starts { HasStarts taking.widths }
+    requires positions { ArePositions taking.column.len (column_of_primitive indices.now).items taking.positions.now }
+    ensures column { Answers column_of_primitive result (take_column (column_of_primitive indices.now) (column_of_packed (parts_of taking.entry.column) (blocks_of taking.entry.widths))) }
+    ensures blocks { whole ≡ false → 17 * work.new.blocks ≤ 17 * work.old.blocks + length (column_of_primitive indices.now).items }
+    ensures words { whole ≡ false → work.new.words ≤ work.old.words + 2 * length (column_of_primitive indices.now).items }
+{
+    let slots = taking.taken_slots::<T>(alloc, whole, work)?;
+    taking.named_items(alloc, slots, indices)
+}
+
+/// The items that indices name, null where an index is null.
+fn take_at(
+    alloc: Global,
+    taking: Taking,
+    indices: &PrimitiveArray,
+    whole: bool,
+    work: &mut Work,
+) -> Result<PrimitiveArray, FastLanesError>
+    requires fit { Fit (parts_of taking.column) }
+    requires readable { AreReadable (bits_of_type taking.column.ptype) (blocks_to_read taking.column taking.widths) }
+    requires starts { HasStarts taking.widths }
+    requires positions { ArePositions taking.column.len (column_of_primitive indices.now).items taking.positions.now }
+    ensures column { Answers column_of_primitive result (take_column (column_of_primitive indices.now) (column_of_packed (parts_of taking.entry.column) (blocks_of taking.entry.widths))) }
+    ensures blocks { whole ≡ false → 17 * work.new.blocks ≤ 17 * work.old.blocks + length (column_of_primitive indices.now).items }
+    ensures words { whole ≡ false → work.new.words ≤ work.old.words + 2 * length (column_of_primitive indices.now).items }
+{
+    match_each_integer_ptype!(
+        taking.column.ptype,
+        take_typed(alloc, taking, indices, whole, work)
+    )
+}
+
+/// The items that indices name, null where an index is null. Where `is_global`, more than an eighth of the items
+/// are taken out of all, which are unpacked first.
+fn take_named(
+    alloc: Global,
+    column: &PackedColumn,
+    widths: Widths,
+    indices: &PrimitiveArray,
+    is_global: bool,
+    work: &mut Work,
+) -> Result<PrimitiveArray, FastLanesError>
+    requires fit { Fit (parts_of column.now) }
+    requires readable { AreReadable (bits_of_type column.now.ptype) (blocks_to_read column.now widths) }
+    requires starts { HasStarts widths }
+    ensures column { Answers column_of_primitive result (take_column (column_of_primitive indices.now) (column_of_packed (parts_of column.now) (blocks_of widths.entry))) }
+    ensures blocks { is_global ≡ false → 17 * work.new.blocks ≤ 17 * work.old.blocks + length (column_of_primitive indices.now).items }
+    ensures words { is_global ≡ false → work.new.words ≤ work.old.words + 2 * length (column_of_primitive indices.now).items }
+{
+    let positions = named_positions(alloc, indices, column.len)?;
+    let whole = is_global && positions.len() > column.len / 8;
+    let taking = Taking {
+        column: *column,
+        widths,
+        positions: &positions,
+    };
+    take_at(alloc, taking, indices, whole, work)
+}
+
+/// The items that indices name of a column whose blocks all have one width, null where an index is null. The
+/// integer under a null index is never looked at. A take of more than an eighth of the items unpacks all
+/// blocks; any other unpacks those of which it takes many items in a row.
+///
+/// The width is at most the type's bits, and the blocks lie in the bytes.
+///
+/// # Errors
+/// `IndexOutOfBounds` where an index is negative or not below the length.
+pub fn take_global(
+    alloc: Global,
+    column: &PackedColumn,
+    width: usize,
+    indices: &PrimitiveArray,
+    work: &mut Work,
+) -> Result<PrimitiveArray, FastLanesError>
+    requires fit { Fit (parts_of column.now) }
+    requires width { width ≤ bits_of_type column.now.ptype }
+    requires room { 128 * width * block_count (parts_of column.now) ≤ length column.now.packed.now }
+    ensures { Answers column_of_primitive result (take_column (column_of_primitive indices.now) (column_of_packed (parts_of column.now) (global_blocks width))) }
+{
+    take_named(alloc, column, Widths::Global(width), indices, true, work)
+}
+
+/// The items that indices name of a column whose block `j` lies between the boundaries `j` and `j + 1`, in bytes
+/// counted from the first boundary, null where an index is null. The integer under a null index is never looked
+/// at. A block is unpacked for more than sixteen indices in a row at least; for each of the others at most two
+/// words are read.
+///
+/// There is one boundary more than there are blocks, and each two neighbours are those of a block in
+/// the bytes, of at most the type's bits.
+///
+/// # Errors
+/// `IndexOutOfBounds` where an index is negative or not below the length.
+pub fn take_blocked(
+    alloc: Global,
+    column: &PackedColumn,
+    boundaries: &PrimitiveArray,
+    indices: &PrimitiveArray,
+    work: &mut Work,
+) -> Result<PrimitiveArray, FastLanesError>
+    requires fit { Fit (parts_of column.now) }
+    requires count { length boundaries.now.slots ≡ block_count (parts_of column.now) + 1 }
+    requires blocks { IsTrue (are_blocks (bits_of_type column.now.ptype) (length column.now.packed.now) (numbers boundaries.now)) }
+    ensures column { Answers column_of_primitive result (take_column (column_of_primitive indices.now) (column_of_packed (parts_of column.now) (boundary_blocks (numbers boundaries.now)))) }
+    ensures blocks { 17 * work.new.blocks ≤ 17 * work.old.blocks + length (column_of_primitive indices.now).items }
+    ensures words { work.new.words ≤ work.old.words + 2 * length (column_of_primitive indices.now).items }
+{
+    take_named(
+        alloc,
+        column,
+        Widths::Boundaries(boundaries),
+        indices,
+        false,
+        work,
+    )
+}
+
+impl PackedData {
+    /// The items that indices name, null where an index is null, where all blocks have one width. The integer
+    /// under a null index is never looked at.
+    ///
+    /// # Errors
+    /// `IndexOutOfBounds` where an index is negative or not below the length.
+    pub fn take_global(
+        &self,
+        alloc: Global,
+        width: usize,
+        indices: &PrimitiveArray,
+        work: &mut Work,
+    ) -> Result<PrimitiveArray, FastLanesError>
+        requires width { width ≤ bits_of_type self.now.ptype }
+        requires room { 128 * width * block_count self.now ≤ length self.now.packed }
+        ensures { Answers column_of_primitive result (take_column (column_of_primitive indices.now) (column_of_packed self.now (global_blocks width))) }
+    {
+        self.prove_well_formed();
+        take_global(alloc, &self.column(), width, indices, work)
+    }
+
+    /// The items that indices name, null where an index is null, where the blocks lie between the boundaries. The
+    /// integer under a null index is never looked at.
+    ///
+    /// # Errors
+    /// `IndexOutOfBounds` where an index is negative or not below the length.
+    pub fn take_blocked(
+        &self,
+        alloc: Global,
+        boundaries: &PrimitiveArray,
+        indices: &PrimitiveArray,
+        work: &mut Work,
+    ) -> Result<PrimitiveArray, FastLanesError>
+        requires count { length boundaries.now.slots ≡ block_count self.now + 1 }
+        requires blocks { IsTrue (are_blocks (bits_of_type self.now.ptype) (length self.now.packed) (numbers boundaries.now)) }
+        ensures column { Answers column_of_primitive result (take_column (column_of_primitive indices.now) (column_of_packed self.now (boundary_blocks (numbers boundaries.now)))) }
+        ensures blocks { 17 * work.new.blocks ≤ 17 * work.old.blocks + length (column_of_primitive indices.now).items }
+        ensures words { work.new.words ≤ work.old.words + 2 * length (column_of_primitive indices.now).items }
+    {
+        self.prove_well_formed();
+        take_blocked(alloc, &self.column(), boundaries, indices, work)
+    }
+
+    /// The items that indices name, null where an index is null, where the blocks lie between boundaries that are all
+    /// equal: no block has a byte. The integer under a null index is never looked at.
+    ///
+    /// # Errors
+    /// `IndexOutOfBounds` where an index is negative or not below the length.
+    pub fn take_without_bytes(
+        &self,
+        alloc: Global,
+        boundaries: &ConstantArray,
+        indices: &PrimitiveArray,
+        work: &mut Work,
+    ) -> Result<PrimitiveArray, FastLanesError>
+        ensures column { Answers column_of_primitive result (take_column (column_of_primitive indices.now) (column_of_packed self.now (boundary_blocks (numbers_of (column_of_constant boundaries.now))))) }
+        ensures blocks { 17 * work.new.blocks ≤ 17 * work.old.blocks + length (column_of_primitive indices.now).items }
+        ensures words { work.new.words ≤ work.old.words + 2 * length (column_of_primitive indices.now).items }
+    {
+        self.prove_well_formed();
+        let widths = Widths::Global(0);
+        take_named(alloc, &self.column(), widths, indices, false, work)
+    }
+}

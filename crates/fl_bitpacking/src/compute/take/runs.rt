@@ -1,0 +1,211 @@
+//! Items of packed blocks at positions, run by run: consecutive positions that fall into one block.
+
+ghost use Rattle.std.specs.Prelude.{◌≡◌, ◌+◌, ◌-◌, ◌*◌, ◌/◌, ◌%◌, ◌<◌, ◌≤◌, ◌^◌, ℕ, IfOk, OnOk, length, slice_index};
+ghost use Rattle.fl_types.specs.Integers.{bits_of_type};
+ghost use Rattle.fl_patches.specs.Widths.{Names};
+ghost use Rattle.fl_bitpacking.specs.Blocks.{blocks_of};
+ghost use Rattle.fl_bitpacking.specs.Parts.{AreReadable};
+ghost use Rattle.fl_bitpacking.specs.Taken.{AreBelow, AreTaken, HasStarts, IsRun, unpack_threshold};
+
+use crate::bit_packed::BitPacked;
+use crate::bitpack_decompress::unpack_block_item;
+use crate::blocks::{PackedBlocks, block_at};
+use crate::patching::write_at;
+use fastlanes::{FL_CHUNK_SIZE, Work};
+use fl_column::PhysicalPType;
+use fl_patches::Widths;
+use std::alloc::{AllocError, Global};
+
+/// The most positions of one block that are read one by one, in a type of this many bits. Of more, the
+/// block is unpacked whole.
+fn unpack_threshold(bits: usize) -> usize
+    ensures { result ≡ unpack_threshold bits }
+{
+    match bits {
+        8 => 16,
+        16 => 32,
+        32 => 64,
+        _ => 160,
+    }
+}
+
+/// Where the run that begins at `from` ends: the positions before that lie in one block.
+fn run_end(offset: usize, positions: &[usize], from: usize) -> usize
+    requires some { from < length positions.now }
+    requires few { (i : ℕ) → i < length positions.now → offset + slice_index positions.now i < 2 ^ 64 }
+    ensures later { from < result }
+    ensures within { result ≤ length positions.now }
+    ensures same { (i : ℕ) → from ≤ i → i < result → (offset + slice_index positions.now i) / 1024 ≡ (offset + slice_index positions.now from) / 1024 }
+{
+    let block = (offset + positions[from]) / FL_CHUNK_SIZE;
+    for k in from + 1..positions.len() {
+        if (offset + positions[k]) / FL_CHUNK_SIZE != block {
+            return k;
+        }
+    }
+    positions.len()
+}
+
+/// The byte at which block `j` starts, which lies in memory.
+fn block_start(widths: Widths, j: usize) -> usize
+    requires starts { HasStarts widths }
+    requires named { Names widths j }
+    requires few { (blocks_of widths).start j + 128 * (blocks_of widths).width j < 2 ^ 64 }
+    ensures { result ≡ (blocks_of widths.entry).start j }
+{
+    match widths {
+        Widths::Global(width) => FL_CHUNK_SIZE / 8 * width * j,
+        Widths::Boundaries(boundaries) => {
+            let (first, start) = (boundaries.number_at(0), boundaries.number_at(j));
+            start.saturating_sub(first)
+        }
+        Widths::PerBlock(_) => unreachable!(),
+    }
+}
+
+/// Consecutive positions that lie in one block, and the bytes and the width of the block.
+#[derive(Clone, Copy)]
+struct Run<'a> {
+    /// The place of the first one in the list of positions.
+    from: usize,
+    /// The place behind the last one.
+    to: usize,
+    /// The width of the block.
+    width: usize,
+    /// The bytes of the block.
+    block: &'a [u8],
+}
+
+/// The run that begins at `from`, of blocks whose items have this many bits.
+fn run_from<'a>(blocks: PackedBlocks<'a>, positions: &[usize], from: usize, bits: usize) -> Run<'a>
+    requires readable { AreReadable bits blocks }
+    requires starts { HasStarts blocks.widths }
+    requires below { AreBelow blocks.len positions.now }
+    requires some { from < length positions.now }
+    ensures run { IsRun bits blocks.entry positions.now result }
+    ensures first { result.from ≡ from }
+{
+    let j = (blocks.offset + positions[from]) / FL_CHUNK_SIZE;
+    let width = blocks.widths.of_block(j);
+    let _size = blocks.packed.len();
+    let start = block_start(blocks.widths, j);
+    Run {
+        from,
+        to: run_end(blocks.offset, positions, from),
+        width,
+        block: block_at(blocks.packed, start, width),
+    }
+}
+
+/// Writes the items of a run out of its block, which is unpacked whole.
+fn pick_run<T: BitPacked>(
+    blocks: PackedBlocks,
+    run: Run,
+    positions: &[usize],
+    items: &mut [T],
+    scratch: &mut [T; FL_CHUNK_SIZE],
+    work: &mut Work,
+)
+    requires run { IsRun (bits_of_type T.PTYPE) blocks positions.now run }
+    requires below { AreBelow blocks.len positions.now }
+    requires few { blocks.offset + blocks.len < 2 ^ 64 }
+    requires long { length items.old ≡ length positions.now }
+    requires begun { AreTaken T.value T.PTYPE blocks positions.now run.from items.old }
+    ensures taken { AreTaken T.value T.PTYPE blocks.entry positions.now run.entry.to items.new }
+    ensures blocks { work.new.blocks ≤ work.old.blocks + 1 }
+    ensures words { work.new.words ≡ work.old.words }
+{
+    T::unpack_block(run.width, run.block, scratch, work);
+    for k in run.from..run.to {
+        write_at(
+            items,
+            k,
+            scratch[(blocks.offset + positions[k]) % FL_CHUNK_SIZE],
+        );
+    }
+}
+
+/// Writes the items of a run, each read without its neighbours.
+fn read_run<T: PhysicalPType>(
+    blocks: PackedBlocks,
+    run: Run,
+    positions: &[usize],
+    items: &mut [T],
+    work: &mut Work,
+)
+    requires run { IsRun (bits_of_type T.PTYPE) blocks positions.now run }
+    requires below { AreBelow blocks.len positions.now }
+    requires few { blocks.offset + blocks.len < 2 ^ 64 }
+    requires long { length items.old ≡ length positions.now }
+    requires begun { AreTaken T.value T.PTYPE blocks positions.now run.from items.old }
+    ensures taken { AreTaken T.value T.PTYPE blocks.entry positions.now run.entry.to items.new }
+    ensures blocks { work.new.blocks ≡ work.old.blocks }
+    ensures words { work.new.words + 2 * run.entry.from ≤ work.old.words + 2 * run.entry.to }
+{
+    for k in run.from..run.to {
+        let index = (blocks.offset + positions[k]) % FL_CHUNK_SIZE;
+        write_at(
+            items,
+            k,
+            unpack_block_item(run.width, run.block, index, work),
+        );
+    }
+}
+
+/// Writes the items of the run that begins at `from`, and gives where it ends.
+fn take_run<T: BitPacked + PhysicalPType>(
+    blocks: PackedBlocks,
+    positions: &[usize],
+    from: usize,
+    items: &mut [T],
+    scratch: &mut [T; FL_CHUNK_SIZE],
+    work: &mut Work,
+) -> usize
+    requires readable { AreReadable (bits_of_type T.PTYPE) blocks }
+    requires starts { HasStarts blocks.widths }
+    requires below { AreBelow blocks.len positions.now }
+    requires long { length items.old ≡ length positions.now }
+    requires more { from < length positions.now }
+    requires begun { AreTaken T.value T.PTYPE blocks positions.now from items.old }
+    ensures taken { AreTaken T.value T.PTYPE blocks.entry positions.now result items.new }
+    ensures later { from < result }
+    ensures within { result ≤ length positions.now }
+    ensures blocks { 17 * work.new.blocks + from ≤ 17 * work.old.blocks + result }
+    ensures words { work.new.words + 2 * from ≤ work.old.words + 2 * result }
+{
+    let bits = T::PTYPE.bit_width();
+    let run = run_from(blocks, positions, from, bits);
+    if run.to - run.from > unpack_threshold(bits) {
+        pick_run(blocks, run, positions, items, scratch, work);
+    } else {
+        read_run(blocks, run, positions, items, work);
+    }
+    run.to
+}
+
+/// The items at these positions as their bits are stored. A block is unpacked for a run of more than
+/// 16 positions of it, or more by the type; of any other two words are read for each position at most.
+pub(crate) fn take_stored<T: BitPacked + PhysicalPType>(
+    alloc: Global,
+    blocks: PackedBlocks,
+    positions: &[usize],
+    work: &mut Work,
+) -> Result<Vec<T>, AllocError>
+    requires readable { AreReadable (bits_of_type T.PTYPE) blocks }
+    requires starts { HasStarts blocks.widths }
+    requires below { AreBelow blocks.len positions.now }
+    ensures long { IfOk result (λ v. length v.items ≡ length positions.now) }
+    ensures taken { IfOk result (λ v. AreTaken T.value T.PTYPE blocks.entry positions.now (length positions.now) v.items) }
+    ensures blocks { 17 * work.new.blocks ≤ 17 * work.old.blocks + length positions.now }
+    ensures words { work.new.words ≤ work.old.words + 2 * length positions.now }
+{
+    T::prove_fits_in_memory();
+    let mut items = Vec::new(alloc);
+    items.resize(positions.len(), T::zero())?;
+    let mut scratch = [T::zero(); FL_CHUNK_SIZE];
+    let mut from = 0;
+    while from < positions.len() {
+        from = take_run(blocks, positions, from, &mut items, &mut scratch, work);
+    }
+    Ok(items)
+}

@@ -1,0 +1,6 @@
+//! What plain arrays of integers answer: comparisons, range tests, constancy and order.
+
+mod between;
+mod compare;
+mod is_constant;
+mod is_sorted;

@@ -1,2 +1,0 @@
-pub mod LeafLaws
-pub mod NodeLaws

@@ -1,4 +1,0 @@
-pub mod Leaves
-pub mod Kinds
-pub mod Shapes
-pub mod Checks

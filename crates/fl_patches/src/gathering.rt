@@ -1,0 +1,264 @@
+//! The patches of the items that a width leaves out.
+
+ghost use Rattle.std.specs.Prelude.{◌≡◌, ◌+◌, ◌*◌, ◌/◌, ◌<◌, ◌≤◌, ◌^◌, ◌++◌, ◌∷◌, [], ℕ, ℤ, pos, List, Option, IfOk, IsTrue, OnOk, None, Ok, Some, length, map, min, slice_index, slice_index_or};
+ghost use Rattle.fl_types.specs.Bits.{between, tabulate};
+ghost use Rattle.fl_types.specs.Integers.{pattern_of, smallest_type};
+ghost use Rattle.fl_types.specs.Refusals.{Answers};
+ghost use Rattle.fl_types.specs.Validities.{covers, full_validity, items_of, masked, nullability_of};
+ghost use Rattle.fl_column.specs.Chunks.{chunk_count};
+ghost use Rattle.fl_patches.specs.PatchMaps.{ArePatches, places_from};
+ghost use Rattle.fl_patches.specs.Exceptions.{bit_count, exception, exceptions_of, one_width, width_of_block};
+ghost use Rattle.fl_patches.specs.PatchParts.{AreChunked, AreGathered, HasBlocks, blocked_patches, counts_before, exception_at, exception_patches, global_patches, patches_with};
+ghost use Rattle.fl_patches.specs.Widths.{NamesAll, width_at};
+
+use crate::Patches;
+use crate::patterns::{bit_count, bits_of};
+use crate::widths::Widths;
+use fl_column::{PhysicalPType, PrimitiveArray, chunk_bounds, chunk_count, index_array};
+use fl_types::{BitList, FastLanesError, Validity, match_each_integer_ptype};
+use std::alloc::{AllocError, Global};
+
+/// Exceptions that are found one by one: their places, rising, and beside each its value.
+#[derive(Drop)]
+struct PatchesBuilder<T> {
+    places: Vec<u64>,
+    values: Vec<T>,
+}
+
+impl<T: PhysicalPType> PatchesBuilder<T> {
+    /// None yet, with room for this many.
+    fn with_capacity(alloc: Global, count: usize) -> Result<PatchesBuilder<T>, AllocError>
+        ensures { IfOk result (λ f. AreGathered f.places.items (map T.value f.values.items) []) }
+    {
+        Ok(PatchesBuilder {
+            places: Vec::with_capacity(alloc, count)?,
+            values: Vec::with_capacity(alloc, count)?,
+        })
+    }
+
+    /// Adds the value of an exception at a place.
+    fn push(&mut self, place: usize, value: T) -> Result<(), AllocError>
+        ensures { OnOk result ((before : List (Option ℤ)) → length before ≡ place → AreGathered self.old.places.items (map T.value self.old.values.items) before → AreGathered self.new.places.items (map T.value self.new.values.items) (before ++ Some (T.value value) ∷ [])) }
+    {
+        self.places.push(place as u64)?;
+        self.values.push(value)?;
+        Ok(())
+    }
+
+    /// Adds the exceptions at a width among the items from `start` to below `end`, where those are
+    /// null whose bit isn't set.
+    fn push_masked(
+        &mut self,
+        items: &[T],
+        bits: &BitList,
+        width: usize,
+        start: usize,
+        end: usize,
+    ) -> Result<(), AllocError>
+        requires even { length bits.now ≡ length items.now }
+        requires order { start ≤ end }
+        requires range { end ≤ length items.now }
+        ensures { OnOk result ((before : List (Option ℤ)) → length before ≡ start → AreGathered self.old.places.items (map T.value self.old.values.items) before → AreGathered self.new.places.items (map T.value self.new.values.items) (before ++ map (exception T.PTYPE width) (between start end (masked bits.now (map T.value items.now))))) }
+    {
+        for i in start..end {
+            if bits_of(items[i]) > width && bits.get(i) {
+                self.push(i, items[i])?;
+            }
+        }
+        Ok(())
+    }
+
+    /// Adds the exceptions at a width among the items from `start` to below `end`, where none is null.
+    fn push_present(
+        &mut self,
+        items: &[T],
+        width: usize,
+        start: usize,
+        end: usize,
+    ) -> Result<(), AllocError>
+        requires order { start ≤ end }
+        requires range { end ≤ length items.now }
+        ensures { OnOk result ((before : List (Option ℤ)) → length before ≡ start → AreGathered self.old.places.items (map T.value self.old.values.items) before → AreGathered self.new.places.items (map T.value self.new.values.items) (before ++ map (exception T.PTYPE width) (between start end (map (λ z. Some z) (map T.value items.now))))) }
+    {
+        for i in start..end {
+            if bits_of(items[i]) > width {
+                self.push(i, items[i])?;
+            }
+        }
+        Ok(())
+    }
+
+    /// Adds the exceptions at a width among the items from `start` to below `end`.
+    fn push_part(
+        &mut self,
+        items: &[T],
+        validity: &Validity,
+        width: usize,
+        start: usize,
+        end: usize,
+    ) -> Result<(), AllocError>
+        requires covers { IsTrue (covers validity.now (length items.now)) }
+        requires order { start ≤ end }
+        requires range { end ≤ length items.now }
+        ensures { OnOk result ((before : List (Option ℤ)) → length before ≡ start → AreGathered self.old.places.items (map T.value self.old.values.items) before → AreGathered self.new.places.items (map T.value self.new.values.items) (before ++ map (exception T.PTYPE width) (between start end (items_of validity.now (map T.value items.now))))) }
+    {
+        if bit_count(union_of(&items[start..end])) <= width {
+            return Ok(());
+        }
+        match validity {
+            Validity::NonNullable | Validity::AllValid => {
+                self.push_present(items, width, start, end)
+            }
+            Validity::AllInvalid => Ok(()),
+            Validity::Array(bits) => self.push_masked(items, bits, width, start, end),
+        }
+    }
+
+    /// Adds the exceptions at a width among the items of a block, and to the offsets how many stand
+    /// before the block.
+    fn push_block(
+        &mut self,
+        offsets: &mut Vec<u64>,
+        items: &[T],
+        validity: &Validity,
+        width: usize,
+        block: usize,
+    ) -> Result<(), AllocError>
+        requires covers { IsTrue (covers validity.now (length items.now)) }
+        requires begun { 1024 * block < length items.now }
+        ensures { OnOk result ((width_at : ℕ → ℕ) → ((i : ℕ) → 1024 * block ≤ i → i < 1024 * (block + 1) → width_at i ≡ width) → HasBlocks self.old.places.items (map T.value self.old.values.items) offsets.old.items (exceptions_of T.PTYPE width_at (items_of validity.now (map T.value items.now))) block → HasBlocks self.new.places.items (map T.value self.new.values.items) offsets.new.items (exceptions_of T.PTYPE width_at (items_of validity.now (map T.value items.now))) (block + 1)) }
+    {
+        offsets.push(self.places.len() as u64)?;
+        let (start, end) = chunk_bounds(block, items.len());
+        self.push_part(items, validity, width, start, end)
+    }
+}
+
+/// A pattern with every bit that a pattern of the items has.
+fn union_of<T: PhysicalPType>(items: &[T]) -> u64
+    ensures { (i : ℕ) → i < length items.now → pattern_of T.PTYPE (slice_index_or (map T.value items.now) i (pos 0)) ≤ result }
+{
+    let mut union = 0;
+    for item in items {
+        union |= item.pattern();
+    }
+    union
+}
+
+/// The exceptions at the widths of the blocks, and how many of them stand before each block.
+fn find<T: PhysicalPType>(
+    alloc: Global,
+    items: &[T],
+    validity: &Validity,
+    widths: Widths,
+    hint: usize,
+) -> Result<(PatchesBuilder<T>, Vec<u64>), AllocError>
+    requires covers { IsTrue (covers validity.now (length items.now)) }
+    requires names { NamesAll widths (chunk_count (length items.now)) }
+    ensures found { IfOk result (λ r. AreGathered r.0.places.items (map T.value r.0.values.items) (exceptions_of T.PTYPE (width_at widths.entry) (items_of validity.now (map T.value items.now)))) }
+    ensures offsets { IfOk result (λ r. r.1.items ≡ counts_before (exceptions_of T.PTYPE (width_at widths.entry) (items_of validity.now (map T.value items.now))) (chunk_count (length items.now))) }
+{
+    let blocks = chunk_count(items.len());
+    let mut found = PatchesBuilder::with_capacity(alloc, hint.min(items.len()))?;
+    let mut offsets = Vec::with_capacity(alloc, blocks)?;
+    for block in 0..blocks {
+        found.push_block(&mut offsets, items, validity, widths.of_block(block), block)?;
+    }
+    Ok((found, offsets))
+}
+
+/// The patches of an array's exceptions, which were found with how many stand before each block, or
+/// `None` where there is none. The indices are of the smallest type that holds a number.
+fn patches_of<T: PhysicalPType>(
+    alloc: Global,
+    array: &PrimitiveArray,
+    found: PatchesBuilder<T>,
+    offsets: Vec<u64>,
+    holds: usize,
+) -> Result<Option<Patches>, FastLanesError>
+    requires same { array.now.ptype ≡ T.PTYPE }
+    requires chunked { AreChunked found.places.items (map T.value found.values.items) offsets.items (length array.now.slots) }
+    requires holds { length array.now.slots ≤ holds }
+    ensures { Answers (λ o. o) result (Ok (patches_with (smallest_type holds) (length array.now.slots) array.now.ptype (nullability_of array.now.validity) found.places.items (map T.value found.values.items))) }
+{
+    let PatchesBuilder { places, values } = found;
+    if places.len() == 0 {
+        return Ok(None);
+    }
+    let indices = index_array(alloc, places, holds)?;
+    let values = PrimitiveArray::without_nulls(values, array.nullability());
+    let offsets = Some(PrimitiveArray::non_nullable(offsets));
+    let patches = Patches::new_unchecked(array.len(), 0, indices, values, offsets);
+    Ok(Some(patches))
+}
+
+/// The patches at the widths of the blocks. The indices are of the smallest type that holds a number.
+fn gather_typed<T: PhysicalPType>(
+    alloc: Global,
+    array: &PrimitiveArray,
+    widths: Widths,
+    holds: usize,
+    hint: usize,
+) -> Result<Option<Patches>, FastLanesError>
+    requires same { array.now.ptype ≡ T.PTYPE }
+    requires names { NamesAll widths (chunk_count (length array.now.slots)) }
+    requires holds { length array.now.slots ≤ holds }
+    ensures parts { Answers (λ o. o) result (Ok (exception_patches (smallest_type holds) (width_at widths.entry) array.now)) }
+    ensures map { IfOk result (λ o. ArePatches o (length array.now.slots) (exception_at (width_at widths.entry) array.now)) }
+{
+    let items = array.as_slice::<T>();
+    let (found, offsets) = find(alloc, items, array.validity(), widths, hint)?;
+    patches_of(alloc, array, found, offsets, holds)
+}
+
+/// The same at the type of the array's items.
+fn gather(
+    alloc: Global,
+    array: &PrimitiveArray,
+    widths: Widths,
+    holds: usize,
+    hint: usize,
+) -> Result<Option<Patches>, FastLanesError>
+    requires names { NamesAll widths (chunk_count (length array.now.slots)) }
+    requires holds { length array.now.slots ≤ holds }
+    ensures parts { Answers (λ o. o) result (Ok (exception_patches (smallest_type holds) (width_at widths.entry) array.now)) }
+    ensures map { IfOk result (λ o. ArePatches o (length array.now.slots) (exception_at (width_at widths.entry) array.now)) }
+{
+    match_each_integer_ptype!(
+        array.ptype(),
+        gather_typed(alloc, array, widths, holds, hint)
+    )
+}
+
+/// The patches of an array's items that are valid and have more bits than a width, or `None` where
+/// there is none. The indices are `U8` for a length below 255, `U16` below 65535, `U32` below
+/// 4294967295, else `U64`. The values may be null where the array's items may, and none is. Each chunk
+/// of 1024 items has a chunk offset, as `U64`. `hint` is about how many patches there are, and changes
+/// no answer.
+pub fn gather_patches(
+    alloc: Global,
+    array: &PrimitiveArray,
+    width: u8,
+    hint: usize,
+) -> Result<Option<Patches>, FastLanesError>
+    ensures parts { Answers (λ o. o) result (Ok (global_patches width array.now)) }
+    ensures map { IfOk result (λ o. ArePatches o (length array.now.slots) (exception_at (one_width width) array.now)) }
+{
+    let holds = array.len().saturating_add(1);
+    gather(alloc, array, Widths::Global(width as usize), holds, hint)
+}
+
+/// The same at a width for each block of 1024 items, a short last one too. The indices are of the
+/// smallest type that holds the length.
+pub fn gather_blocked_patches(
+    alloc: Global,
+    array: &PrimitiveArray,
+    widths: &[u8],
+    hint: usize,
+) -> Result<Option<Patches>, FastLanesError>
+    requires { length widths.now ≡ chunk_count (length array.now.slots) }
+    ensures parts { Answers (λ o. o) result (Ok (blocked_patches widths.now array.now)) }
+    ensures map { IfOk result (λ o. ArePatches o (length array.now.slots) (exception_at (width_of_block widths.now) array.now)) }
+{
+    gather(alloc, array, Widths::PerBlock(widths), array.len(), hint)
+}

@@ -1,0 +1,125 @@
+//! How many items have how many bits.
+
+ghost use Rattle.std.specs.Prelude.{◌≡◌, ◌+◌, ◌<◌, ◌≤◌, [], ℕ, IfOk, IsTrue, None, Ok, Some, length, map, slice_index_or};
+ghost use Rattle.fl_types.specs.Bits.{between};
+ghost use Rattle.fl_types.specs.Integers.{bits_of_type};
+ghost use Rattle.fl_types.specs.Refusals.{Answers};
+ghost use Rattle.fl_types.specs.Validities.{covers, items_of, masked};
+ghost use Rattle.fl_patches.specs.Exceptions.{bits_of_item, histogram_of};
+
+use crate::patterns::{bits_of, type_bits};
+use fl_column::{PhysicalPType, PrimitiveArray};
+use fl_types::{BitList, FastLanesError, Validity, match_each_integer_ptype};
+use std::alloc::{AllocError, Global};
+
+/// Makes every entry 0.
+#[tactic(auto, using(crate::proofs::Histograms::histogram_none))]
+pub(crate) fn clear<T: PhysicalPType>(entries: &mut [usize])
+    requires { length entries.old ≡ bits_of_type T.PTYPE + 1 }
+    ensures { entries.new ≡ histogram_of T.PTYPE [] }
+{
+    for entry in entries.iter_mut() {
+        *entry = 0;
+    }
+}
+
+/// Entries for the bits of a type, all 0.
+#[tactic(auto, using(crate::proofs::Histograms::histogram_zeros))]
+fn no_entries<T: PhysicalPType>(alloc: Global) -> Result<Vec<usize>, AllocError>
+    ensures { IfOk result (λ v. v.items ≡ histogram_of T.PTYPE []) }
+{
+    vec![in alloc; 0usize; type_bits::<T>() + 1]
+}
+
+/// The bits of an item, 0 of a null.
+fn bits_at<T: PhysicalPType>(items: &[T], bits: &BitList, i: usize) -> usize
+    requires even { length bits.now ≡ length items.now }
+    requires range { i < length items.now }
+    ensures value { result ≡ bits_of_item T.PTYPE (slice_index_or (masked bits.now (map T.value items.now)) i None) }
+    ensures most { result ≤ bits_of_type T.PTYPE }
+{
+    if bits.get(i) { bits_of(items[i]) } else { 0 }
+}
+
+/// Counts the items from `start` to below `end` by their bits, where those are null whose bit isn't
+/// set. All entries are 0 before.
+fn count_masked<T: PhysicalPType>(
+    items: &[T],
+    bits: &BitList,
+    start: usize,
+    end: usize,
+    entries: &mut [usize],
+)
+    requires even { length bits.now ≡ length items.now }
+    requires order { start ≤ end }
+    requires range { end ≤ length items.now }
+    requires empty { entries.old ≡ histogram_of T.PTYPE [] }
+    ensures { entries.new ≡ histogram_of T.PTYPE (between start end (masked bits.now (map T.value items.now))) }
+{
+    for i in start..end {
+        let count = bits_at(items, bits, i);
+        entries[count] += 1;
+    }
+}
+
+/// Counts the items from `start` to below `end` by their bits, where none is null. All entries are 0
+/// before.
+fn count_present<T: PhysicalPType>(items: &[T], start: usize, end: usize, entries: &mut [usize])
+    requires order { start ≤ end }
+    requires range { end ≤ length items.now }
+    requires empty { entries.old ≡ histogram_of T.PTYPE [] }
+    ensures { entries.new ≡ histogram_of T.PTYPE (between start end (map (λ z. Some z) (map T.value items.now))) }
+{
+    for i in start..end {
+        let count = bits_of(items[i]);
+        entries[count] += 1;
+    }
+}
+
+/// Counts the items from `start` to below `end` by their bits. All entries are 0 before.
+pub(crate) fn count_items<T: PhysicalPType>(
+    items: &[T],
+    validity: &Validity,
+    start: usize,
+    end: usize,
+    entries: &mut [usize],
+)
+    requires covers { IsTrue (covers validity.now (length items.now)) }
+    requires order { start ≤ end }
+    requires range { end ≤ length items.now }
+    requires empty { entries.old ≡ histogram_of T.PTYPE [] }
+    ensures { entries.new ≡ histogram_of T.PTYPE (between start end (items_of validity.now (map T.value items.now))) }
+{
+    match validity {
+        Validity::NonNullable | Validity::AllValid => count_present(items, start, end, entries),
+        Validity::AllInvalid => entries[0] += end - start,
+        Validity::Array(bits) => count_masked(items, bits, start, end, entries),
+    }
+}
+
+fn histogram_typed<T: PhysicalPType>(
+    alloc: Global,
+    array: &PrimitiveArray,
+) -> Result<Vec<usize>, FastLanesError>
+    requires { array.now.ptype ≡ T.PTYPE }
+    ensures counts { Answers (λ v. v.items) result (Ok (histogram_of array.now.ptype (items_of array.now.validity array.now.slots))) }
+    ensures long { IfOk result (λ v. length v.items ≡ bits_of_type array.now.ptype + 1) }
+{
+    let items = array.as_slice::<T>();
+    let mut entries = no_entries::<T>(alloc)?;
+    count_items(items, array.validity(), 0, items.len(), &mut entries);
+    Ok(entries)
+}
+
+/// How many items of an array have how many bits: entry `b`, from 0 to the bits of the type, counts
+/// the items whose bit pattern has `b` bits, which is the bits of the type less its leading zeros.
+/// A null has none, whatever is stored under it.
+pub fn bit_width_histogram(
+    alloc: Global,
+    array: &PrimitiveArray,
+) -> Result<Vec<usize>, FastLanesError>
+    ensures counts { Answers (λ v. v.items) result (Ok (histogram_of array.now.ptype (items_of array.now.validity array.now.slots))) }
+    ensures long { IfOk result (λ v. length v.items ≡ bits_of_type array.now.ptype + 1) }
+{
+    match_each_integer_ptype!(array.ptype(), histogram_typed(alloc, array))
+}

@@ -1,0 +1,14 @@
+pub mod Leaves
+pub mod Kinds
+pub mod Children
+pub mod Checks
+pub mod Writing
+pub mod Plain
+pub mod Reading
+pub mod EarlyRefusals
+pub mod TypeAndLength
+pub mod Firsts
+pub mod Encodings
+pub mod RoundTrip
+pub mod NodeColumns
+pub mod NodeIds
