@@ -4,7 +4,7 @@ use Rattle.std.specs.Fmt.{signed_decimal}
 use Rattle.fl_types.specs.declared.dtype.PType.{PType}
 use Rattle.fl_types.specs.declared.dtype.PType.TheVariants.{U8, U16, U32, U64, I8, I16, I32, I64}
 use Rattle.fl_types.specs.declared.scalar.Scalar.{Scalar}
-use Rattle.fl_types.specs.declared.scalar.Scalar.TheVariants.{Integer, NullInteger, NullBool, Bool}
+use Rattle.fl_types.specs.declared.scalar.Scalar.TheVariants as scalars
 use Rattle.fl_types.specs.Values.{ScalarParts, integer_of, ptype_of_value}
 use Rattle.fl_array.specs.FoRArrays.{ChunkReferences, FoRReferencesParts, GlobalReference}
 use Rattle.fl_array.specs.OffsetData.{offset_text}
@@ -37,10 +37,10 @@ bool_text false = codes "false"
 
 -- an integer and the name of its type, a boolean, or a null
 abbrev pub scalar_text : Scalar → List ℕ
-scalar_text (Integer value nullability) = signed_decimal (integer_of value) ++ ptype_text (ptype_of_value value)
-scalar_text (Bool value nullability) = bool_text value
-scalar_text (NullInteger ptype) = codes "null"
-scalar_text NullBool = codes "null"
+scalar_text (scalars.Integer value nullability) = signed_decimal (integer_of value) ++ ptype_text (ptype_of_value value)
+scalar_text (scalars.Bool value nullability) = bool_text value
+scalar_text (scalars.NullInteger ptype) = codes "null"
+scalar_text scalars.NullBool = codes "null"
 
 -- the one reference, if there is one
 abbrev pub reference_text : Option Scalar → List ℕ

@@ -3,7 +3,7 @@ use Rattle.std.specs.Prelude.{[], ◌+◌, ◌*◌, List, Option, length, nat_le
 use Rattle.std.specs.Borrow.{Fml, RattleType, MutBor, Array, Lends, LendsIf}
 use mir.Syntax.{named}
 use Rattle.fl_bitpacking.specs.WholeBlocks.{WholeBlocks, one_more}
-use Rattle.fl_bitpacking.specs.contracts.bit_unpack_iterator.BitUnpackIterator.{the_row}
+use Rattle.fl_bitpacking.specs.contracts.unpack_iter.bit_unpack_iterator.BitUnpackIterator.{the_row}
 use Rattle.fl_bitpacking.specs.declared.unpack_iter.bit_unpack_iterator.BitUnpackIterator.{BitUnpackIterator}
 use Rattle.fl_bitpacking.specs.declared.bit_packed.BitCount as bits
 

@@ -4,7 +4,7 @@ use Rattle.std.specs.Borrow.{Fml, RattleType, MutBor, Array, follows}
 use mir.Syntax.{named}
 use Rattle.fastlanes.specs.contracts.counts.Work.{the_row as work_row}
 use Rattle.fl_bitpacking.specs.Readers.{Reader}
-use Rattle.fl_bitpacking.specs.contracts.bit_unpacked_chunks.BitUnpackedChunks.{the_row}
+use Rattle.fl_bitpacking.specs.contracts.unpack_iter.bit_unpacked_chunks.BitUnpackedChunks.{the_row}
 use Rattle.fl_bitpacking.specs.declared.bit_packed.BitCount as bits
 use Rattle.fl_bitpacking.specs.declared.unpack_iter.bit_unpack_iterator.BitUnpackIterator.{BitUnpackIterator}
 use Rattle.fl_bitpacking.specs.declared.unpack_iter.unpacked_items.UnpackedItems.{UnpackedItems}

@@ -2,7 +2,7 @@
 use Rattle.std.specs.Prelude.{List}
 use Rattle.std.specs.Borrow.{Fml, RattleType, MutBor, Array, Lends}
 use Rattle.fl_bitpacking.specs.UnpackedBlocks.{BlockItems}
-use Rattle.fl_bitpacking.specs.contracts.unpacked_block.UnpackedBlock.{the_row}
+use Rattle.fl_bitpacking.specs.contracts.unpack_iter.unpacked_block.UnpackedBlock.{the_row}
 use Rattle.fl_bitpacking.specs.declared.bit_packed.BitCount as bits
 
 module _ (T : RattleType) (g : bits.Ghosts T.Denot) where

@@ -10,7 +10,7 @@ use crate::commands::{Encode, Pack, Run};
 use crate::fault::Fault;
 use crate::io::{Sink, Source};
 use crate::transfer::{read_all, write_all};
-use crate::{encodes, runs, text};
+use crate::{encodes, query, text};
 use bytes::Bytes;
 use fl_bitpacking::bitpack_compress::bitpack_unchecked;
 use fl_column::FastLanesError;
@@ -122,7 +122,7 @@ pub fn run<S: Source, K: Sink>(
     ensures write_fault { IsErrOf result Fault.WriteFault ↔ IsTrue (K.has_failed sink.new) }
 {
     let input = read_all(alloc, source)?;
-    let answer = runs::run(alloc, command, input)?;
+    let answer = query::run(alloc, command, input)?;
     write_all(sink, &answer)?;
     Ok(())
 }

@@ -10,7 +10,7 @@ use crate::commands::Command;
 use crate::fault::Fault;
 use crate::io::{Sink, Source};
 use crate::transfer::write_all;
-use crate::{engine, words};
+use crate::{args, engine};
 use fl_column::FastLanesError;
 use std::alloc::Global;
 
@@ -23,7 +23,7 @@ pub fn usage<E: Sink>(errors: &mut E) -> u8
     ensures status { result ≡ 2 }
     ensures said { AppendsUnless (E.has_failed errors.new) (E.written errors.old) (E.written errors.new) usage_line }
 {
-    let _ = write_all(errors, words::usage().as_bytes());
+    let _ = write_all(errors, args::usage().as_bytes());
     2
 }
 
@@ -83,7 +83,7 @@ pub fn start<S: Source, K: Sink, E: Sink>(
         × IsRun command outcome (S.left source.old) (S.left source.new) (S.has_failed source.new)
         (K.written sink.old) (K.written sink.new) (K.has_failed sink.new) (K.is_flushed sink.new)) }
 {
-    match words::command(alloc, words) {
+    match args::command(alloc, words) {
         Ok(Some(command)) => match perform(alloc, &command, source, sink) {
             Ok(()) => 0,
             Err(fault) => refuse(errors, fault),

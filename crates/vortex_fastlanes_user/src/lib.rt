@@ -1,4 +1,4 @@
-//! The library as its users call it, by its public names alone: the README's example, and arrays of each plain kind.
+//! The library as its users call it, by its public names alone: the README's example, what callers prove, and arrays of each plain kind.
 //! What each call makes of them, and packing, row by row, is asked by `worked_rows`.
 #![tactic(auto)]
 
@@ -6,4 +6,5 @@
 mod arrays;
 #[cfg(test)]
 mod encoded;
+pub mod proved;
 pub mod readme;

@@ -143,7 +143,8 @@ fn ask_again(
     }
 }
 
-/// The kinds that `each` stands for, beside the plain one: each encoding, and the one that is decoded in one pass over two.
+/// The kinds that `each` stands for, beside the plain one: each encoding, the one that is decoded in one pass over two, and
+/// those whose inner arrays are encoded too.
 const KINDS: &[&str] = &[
     "bitpacked:3",
     "blocked:3",
@@ -152,6 +153,10 @@ const KINDS: &[&str] = &[
     "forc",
     "delta",
     "rle",
+    "blocked:3,2@for/bitpacked:9",
+    "forc@bitpacked:3+blocked:2,1",
+    "delta@for+bitpacked:4",
+    "rle@delta@for+bitpacked:2",
 ];
 
 /// Answers what a call gives on an array of each kind: once, and again where a kind answers something else.

@@ -5,7 +5,7 @@ use crate::columns::{count, dtype_of};
 use crate::types;
 use std::alloc::Global;
 use vortex_fastlanes::array::{ArrayOps, ArrayRef, IntoArray, Op};
-use vortex_fastlanes::{FastLanesError, PrimitiveArray};
+use vortex_fastlanes::{FastLanesError, Mask, PrimitiveArray};
 
 /// What reads an operation.
 type Read = Result<Op, FastLanesError>;
@@ -47,12 +47,14 @@ pub(super) fn split<'a>(words: &'a [&'a str]) -> (&'a [&'a str], &'a [&'a str]) 
     (&[], words)
 }
 
-/// The operation that a word names: `slice:1:3`, `ranges:2:1,0:2` or `cast:u8?`.
+/// The operation that a word names: `slice:1:3`, `ranges:2:1,0:2`, `cast:u8?`, or `filter_none:9`, whose mask keeps none
+/// of nine items by its form.
 fn without_column(alloc: Global, word: &str) -> Read {
     let (name, rest) = word.split_once(':').unwrap_or((word, ""));
     match name {
         "slice" => Ok(slice(rest)),
         "ranges" => Ok(Op::TakeRanges(pairs_of(alloc, rest)?)),
+        "filter_none" => Ok(Op::Filter(Mask::AllFalse(count(rest)))),
         _ => Ok(Op::Cast(dtype_of(rest))),
     }
 }

@@ -47,20 +47,20 @@ fn pack(alloc: Global, column: &PrimitiveArray, width: u8) -> Came {
     Ok(Outcome::Bytes(bitpack_unchecked(alloc, column, width)?))
 }
 
-/// The sum of the bytes that a few items are packed into.
+/// The sum of the bytes that items are packed into, at most those of 49 blocks at width 1.
 fn pack_into(column: &PrimitiveArray, width: u8) -> Came {
     let len = column.len();
     if usize::from(width) > column.ptype().bit_width() || len >= 1 << 32 {
         return Err(FastLanesError::WidthTooLarge);
     }
-    let mut room = [0u8; 1024];
+    let mut room = [0u8; 6272];
     let size = 128 * usize::from(width) * len.div_ceil(1024);
-    if size > 1024 {
+    if size > 6272 {
         return Err(FastLanesError::PackedLength);
     }
     bitpack_into(column, width, &mut room[..size]);
     let mut sum = 0usize;
-    for i in 0..1024usize {
+    for i in 0..6272usize {
         sum = sum.saturating_add(usize::from(room[i]));
     }
     Ok(Outcome::Number(sum))

@@ -11,7 +11,7 @@ use flcol_container::write_container;
 use flcol_engine::commands::Command;
 use flcol_engine::fault::Fault;
 use flcol_engine::io::{ReadFault, Sink, Source, WriteFault};
-use flcol_engine::{engine, words};
+use flcol_engine::{args, engine};
 use std::alloc::Global;
 use vortex_fastlanes::FastLanesError;
 use vortex_fastlanes::plugin::serialize;
@@ -122,7 +122,7 @@ fn words_of(alloc: Global, line: &[&str]) -> Result<Vec<String>, FastLanesError>
 /// The command that words name.
 fn command(alloc: Global, line: &[&str]) -> Result<Command, FastLanesError> {
     let words = words_of(alloc, line)?;
-    match words::command(alloc, &words)? {
+    match args::command(alloc, &words)? {
         Some(command) => Ok(command),
         None => Err(FastLanesError::UnknownId),
     }
@@ -201,7 +201,7 @@ fn answer_run(alloc: Global, made: Run, answer: &mut Text) {
 /// Answers whether words are a command.
 fn answer_words(alloc: Global, words: &[String], answer: &mut Text) {
     mark(alloc);
-    let came = words::command(alloc, words);
+    let came = args::command(alloc, words);
     mark(alloc);
     match came {
         Ok(Some(_)) => answer.word("command"),

@@ -71,13 +71,13 @@ fn sum_lent<T: BitPacked>(array: &BitPackedArray) -> Came
     }
 }
 
-/// The sum of the items, at most 1024 of them, that a reader of blocks writes.
+/// The sum of the items, at most those of 49 blocks, that a reader of blocks writes.
 fn read<T: BitPacked>(bytes: &[u8], width: usize, offset: usize, len: usize) -> Came {
     T::prove_fits_in_memory();
-    if width > T::PTYPE.bit_width() || len > 1024 {
+    if width > T::PTYPE.bit_width() || len > 50_176 {
         return Err(FastLanesError::LengthOverflow);
     }
-    let (mut scratch, mut room) = ([T::zero(); FL_CHUNK_SIZE], [T::zero(); 1024]);
+    let (mut scratch, mut room) = ([T::zero(); FL_CHUNK_SIZE], [T::zero(); 50_176]);
     let strategy = BitPackingStrategy;
     match UnpackedChunks::try_new_with_strategy(strategy, bytes, width, offset, len, &mut scratch) {
         Ok(mut chunks) => {
