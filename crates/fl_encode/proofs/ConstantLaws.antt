@@ -1,22 +1,26 @@
 -- Copies of one item: when a column is them, and that the references of chunks are not.
-use Rattle.std.proofs.Common.{◌≡◌, ◌&&◌, ℕ, ℤ, pos, Bool, true, false, List, [], ◌∷◌, length, map, replicate, Option, Some, None, IsTrue, refl, ap, sym, subst, ◌∙◌, inl, inr}
-use Rattle.std.specs.Prelude.{is_none, nat_lt, slice_index_or, if◌then◌else◌}
+use Rattle.std.proofs.Common.{◌≡◌, ◌&&◌, ℕ, ℤ, pos, Bool, true, false, List, [], ◌∷◌, length, map, replicate, Option, Some, None, Ok, IsTrue, refl, ap, sym, subst, ◌∙◌, inl, inr}
+use Rattle.std.specs.Prelude.{Result, is_none, nat_lt, slice_index_or, if◌then◌else◌}
 use Rattle.std.specs.List.{list_all}
 use Rattle.std.specs.Ordering.{int_eq}
 use Rattle.std.proofs.lemmas.Bool.{cases_Bool}
 use Rattle.std.proofs.lemmas.Bool.Decides.{Decides-int_eq}
+use Rattle.fl_types.specs.declared.error.FastLanesError.{FastLanesError}
 use Rattle.fl_types.specs.Validities.{covers}
-use Rattle.fl_column.specs.Columns.{Column, PrimitiveParts, column_of_constant, column_of_primitive}
+use Rattle.fl_types.specs.Values.{ScalarParts}
+use Rattle.fl_column.specs.Columns.{Column, ConstantParts, PrimitiveParts, column_of_constant, column_of_primitive, new_constant}
 use Rattle.fl_column.specs.Questions.{are_constant, same_item}
 use Rattle.fl_column.proofs.ConstantLaws.{constant_is_constant}
 use Rattle.fl_column.proofs.ItemLaws.{length-items_of}
 use Rattle.fl_column.proofs.ListLaws.{and_first, and_second}
 use Rattle.fl_codec.specs.FoRColumns.{chunk_references, common_reference}
-use Rattle.fl_codec.specs.Parts.{ByChunk, FoRParts, Nulls, encode_chunked, items_of_primitive, less_chunk_leasts, less_common, non_nullable, null_constant, reference_scalar}
+use Rattle.fl_codec.specs.Parts.{ByChunk, Nulls, encode_chunked, items_of_primitive, less_chunk_leasts, less_common, non_nullable, null_constant, reference_scalar}
 use Rattle.fl_array.specs.Reads.{constant_in}
 use Rattle.fl_array.specs.Trees.{BitPackedBlocked, BitPackedGlobal, Constant, Delta, FoRChunked, FoRGlobal, Primitive, RLE, Tree, column}
 use Rattle.fl_array.specs.Trees as tree
-use Rattle.fl_encode.specs.Packings.{constant_of}
+use Rattle.fl_array.proofs.EncodedRLE.{ok_is}
+use Rattle.fl_encode.specs.Encodings.{Makes}
+use Rattle.fl_encode.specs.Packings.{constant_of, constant_refusal}
 
 -- ---- a constant array
 is_same : (x y : Option ℤ) → same_item x y ≡ true → y ≡ x
@@ -41,6 +45,23 @@ constant_column p covered h =
     let long : length (column_of_primitive p).items ≡ length p.slots = length-items_of p.validity p.slots covered in
     let items = ap (λ n. replicate n (slice_index_or (column_of_primitive p).items 0 (Some (pos 0)))) (sym long) ∙ repeated (column_of_primitive p).items (Some (pos 0)) h in
     ap (λ (xs : List (Option ℤ)). record { dtype = (column_of_primitive p).dtype; items = xs }) items
+
+repeated_parts : (p : PrimitiveParts) (scalar : ScalarParts) (n : ℕ) (k : ConstantParts) → scalar ≡ (constant_of p).scalar → n ≡ length p.slots → ◌≡◌ {A = Result ConstantParts FastLanesError} (Ok k) (new_constant scalar n) → k ≡ constant_of p
+repeated_parts p scalar n k e f is =
+    let there : ◌≡◌ {A = Result ConstantParts FastLanesError} (Ok k) (new_constant (constant_of p).scalar (length p.slots)) = is ∙ (ap (λ (s : ScalarParts). new_constant s n) e ∙ ap (new_constant (constant_of p).scalar) f) in
+    ok_is k (constant_of p) there
+
+-- the constant array of items that are equal
+pub repeat_made : (p : PrimitiveParts) (scalar : ScalarParts) (n : ℕ) (k : ConstantParts) (t : Tree) (equal : Bool) → IsTrue (covers p.validity (length p.slots)) → equal ≡ are_constant (column_of_primitive p).items → equal ≡ true → scalar ≡ (constant_of p).scalar → n ≡ length p.slots
+    → ◌≡◌ {A = Result ConstantParts FastLanesError} (Ok k) (new_constant scalar n) → t ≡ Constant k → Makes (constant_refusal p) (λ s. s ≡ Constant (constant_of p)) (column_of_primitive p) (Ok t)
+repeat_made p scalar n k t equal covered is so e f made own =
+    let all : are_constant (column_of_primitive p).items ≡ true = sym is ∙ so in
+    let parts : t ≡ Constant (constant_of p) = own ∙ ap (λ (c : ConstantParts). Constant c) (repeated_parts p scalar n k e f made) in
+    record {
+      refused = rw all tt;
+      form = parts;
+      stands_for = ap column parts ∙ constant_column p covered all;
+    }
 
 -- ---- the references of chunks differ
 and_false : (b : Bool) → (b && false) ≡ false

@@ -1,6 +1,6 @@
 -- What encoding by a scheme answers, by what encoding the children answers.
 use Rattle.std.proofs.Common.{◌≡◌, ℕ, length, Option, Some, None, Ok, Err, refl, ap, sym, subst, ◌∙◌, inl, inr}
-use Rattle.std.specs.Prelude.{Result, pos, unwrap_or}
+use Rattle.std.specs.Prelude.{IsErrAnd, Result, pos, unwrap_or}
 use Rattle.fl_types.specs.declared.error.FastLanesError.{FastLanesError}
 use Rattle.fl_types.specs.declared.error.FastLanesError.TheVariants.{OutOfMemory}
 use Rattle.fl_types.specs.declared.validity.Validity.{Validity}
@@ -13,11 +13,13 @@ use Rattle.fl_codec.specs.FoRColumns.{chunked_for, global_for}
 use Rattle.fl_codec.specs.Parts.{ByChunk, FoRParts, Nulls, OneReference, RunParts, Whole, compress_deltas, encode_chunked, encode_global, encode_runs}
 use Rattle.fl_codec.specs.RunRefusals.{rle_refusal}
 use Rattle.fl_bitpacking.specs.Encoders.{AnswersUnless}
-use Rattle.fl_bitpacking.specs.Refusals.{otherwise}
-use Rattle.fl_array.specs.FoRArrays.{ChunkReferences, for_refusal, reference_count_refusal, reference_refusal, reference_type_refusal}
+use Rattle.fl_bitpacking.specs.Refusals.{accepted, otherwise}
+use Rattle.fl_array.specs.FoRArrays.{ChunkReferences, FoRArrayParts, FoRReferencesParts, for_chunked_refusal, for_refusal, new_for_chunked, reference_count_refusal, reference_refusal, reference_type_refusal, references_of}
+use Rattle.fl_array.specs.Reads.{constant_in}
 use Rattle.fl_array.specs.Trees.{DeltaParts, OffsetLen, Tree, column, column_of_delta, column_of_rle}
 use Rattle.fl_array.specs.Trees as tree
 use Rattle.fl_array.proofs.EncodedRLE.{ok_is}
+use Rattle.fl_array.proofs.FoRSound.{no_constant}
 use Rattle.fl_encode.specs.declared.scheme.Scheme.{Scheme, FoR', FoRChunked', Delta', RLE', Held-Scheme-FoR-0 as ChildScheme}
 use Rattle.fl_encode.specs.Encodings.{EncodesAs, EncodesChildAs, HasChunkReferences, HasDeltas, HasOneReference, HasReference, HasReferences, HasRuns, IsChildAs, Makes, child_refusal, one_reference_refusal, references_refusal}
 
@@ -47,7 +49,7 @@ neither_of None other e f = f
 neither_of (Some g) other e f = cc
 
 -- a call that is refused in nothing may run out of memory
-only_memory : (e : FastLanesError) (t : Tree) → Refuses e (let r : Result Tree FastLanesError = Ok t in r) → e ≡ OutOfMemory
+only_memory : {X : Type 0} (e : FastLanesError) (t : X) → Refuses e (let r : Result X FastLanesError = Ok t in r) → e ≡ OutOfMemory
 only_memory e t h = elim (Refuses_cases e (Ok t) h) [
   | inl is ↦ is
   | inr other ↦ absurd cc
@@ -55,6 +57,11 @@ only_memory e t h = elim (Refuses_cases e (Ok t) h) [
 
 pub refused : (refusal : Option FastLanesError) (Is : Tree → Type 0) (c : Column) (e : FastLanesError) → AnswersUnless {X = Tree} refusal (Err e) → Makes refusal Is c (Err e)
 refused refusal Is c e h = record { refused = h; form = tt; stands_for = tt }
+
+-- the same of a call that passes a refusal on
+pub passed_on : (scheme : Scheme) (p : PrimitiveParts) (r : Result Tree FastLanesError) (e : FastLanesError) → IsErrAnd r (λ f. f ≡ e) → EncodesAs scheme p (Err e) → EncodesAs scheme p r
+passed_on scheme p (Ok t) e h made = absurd h
+passed_on scheme p (Err f) e h made = subst (λ (g : FastLanesError). EncodesAs scheme p (Err g)) (sym h) made
 
 -- ---- what is made
 pub made : (refusal : Option FastLanesError) (Is : Tree → Type 0) (c : Column) (t : Tree) (r : Result Tree FastLanesError) → refusal ≡ None → Is t → column t ≡ c → Answers (λ (s : Tree). s) r (Ok t) → Makes refusal Is c r
@@ -92,6 +99,25 @@ no_reference scheme p e h = refused (one_reference_refusal (child_refusal scheme
 ])
 
 -- ---- a reference for each chunk
+first_none : (first other : Option FastLanesError) → otherwise first other ≡ None → first ≡ None
+first_none None other h = refl
+first_none (Some f) other h = cc
+
+chunked_accepted : (t u : Tree) → for_refusal (column t) (ChunkReferences u 0) ≡ None → constant_in u ≡ None → new_for_chunked t u 0 ≡ Ok (record { encoded = t; references = ChunkReferences u 0 })
+chunked_accepted t u h k =
+    let count = reference_count_refusal 0 (length (column t).items) (column t).dtype (length (column u).items) in
+    let kept : references_of u 0 ≡ ChunkReferences u 0 = no_constant u 0 k in
+    let counted : count ≡ None = first_none count (reference_type_refusal (column t).dtype (column u).dtype) h in
+    let none : for_chunked_refusal (column t) u 0 ≡ None = ap (λ (r : FoRReferencesParts). otherwise count (for_refusal (column t) r)) kept ∙ neither_of count (for_refusal (column t) (ChunkReferences u 0)) counted h in
+    ap (λ (r : FoRReferencesParts). accepted (let a : FoRArrayParts = record { encoded = t; references = r } in a) (for_chunked_refusal (column t) u 0)) kept ∙ ap (accepted (let a : FoRArrayParts = record { encoded = t; references = ChunkReferences u 0 } in a)) none
+
+pub chunked_memory : (t u : Tree) (r : Result Tree FastLanesError) (e : FastLanesError) → for_refusal (column t) (ChunkReferences u 0) ≡ None → constant_in u ≡ None → IsErrAnd r (λ f. f ≡ e) → Refuses e (new_for_chunked t u 0) → Answers (λ (s : Tree). s) r (Ok (tree.FoRChunked t u 0))
+chunked_memory t u (Ok s) e h k is refuses = absurd is
+chunked_memory t u (Err f) e h k is refuses =
+    let there = subst (λ (m : Result FoRArrayParts FastLanesError). Refuses e m) (chunked_accepted t u h k) refuses in
+    let memory : e ≡ OutOfMemory = only_memory e (let a : FoRArrayParts = record { encoded = t; references = ChunkReferences u 0 } in a) there in
+    rw (is, memory) tt
+
 pub references_accepted : (p others : PrimitiveParts) (t u : Tree) → column t ≡ column_of_primitive p → column u ≡ column_of_primitive others → for_refusal (column_of_primitive p) (ChunkReferences (tree.Primitive others) 0) ≡ None → for_refusal (column t) (ChunkReferences u 0) ≡ None
 references_accepted p others t u same also h =
     let judged : Column → Column → Option FastLanesError = λ c d. otherwise (reference_count_refusal 0 (length c.items) c.dtype (length d.items)) (reference_type_refusal c.dtype d.dtype) in

@@ -77,10 +77,11 @@ fn first_item(array: &PrimitiveArray) -> Scalar
 pub(crate) fn repeat(array: &PrimitiveArray) -> Result<ArrayRef, FastLanesError>
     ensures { Makes (constant_refusal array.now) (λ t. t ≡ Constant (constant_of array.now)) (column_of_primitive array.now) result }
 {
+    let (len, _validity) = (array.len(), array.validity());
     if !array.is_constant() {
         return Err(FastLanesError::CastOutOfRange);
     }
-    let constant = ConstantArray::new(first_item(array), array.len())?;
+    let constant = ConstantArray::new(first_item(array), len)?;
     Ok(constant.into_array())
 }
 
