@@ -1,26 +1,24 @@
 -- What shows before patches are decoded is what they are refused for.
 use Rattle.std.proofs.Common.{◌≡◌, ◌∙◌, ℕ, ℤ, pos, ◌<◌, Bool, true, false, List, [], ◌∷◌, length, map, take, Option, Some, None, Result, Ok, Err, refl, sym, ap, arith}
-use Rattle.std.specs.Prelude.{◌==◌, ◌&&◌, if◌then◌else◌, nat_lt, not, option_map, slice_index_or, unsigned_abs, unwrap_or}
+use Rattle.std.specs.Prelude.{◌&&◌, if◌then◌else◌, nat_lt, not, option_map, slice_index_or, unsigned_abs, unwrap_or}
 use Rattle.std.proofs.lemmas.List.{length-map}
 use Rattle.fl_types.specs.declared.dtype.DType.{DType}
 use Rattle.fl_types.specs.declared.dtype.DType.TheVariants as dtypes
-use Rattle.fl_types.specs.declared.dtype.Nullability.{Nullability}
 use Rattle.fl_types.specs.declared.dtype.Nullability.TheVariants.{NonNullable, Nullable}
-use Rattle.fl_types.specs.declared.dtype.PType.{PType}
 use Rattle.fl_types.specs.declared.error.FastLanesError.{FastLanesError}
-use Rattle.fl_types.specs.declared.error.FastLanesError.TheVariants.{NotInteger, PatchContent, PatchLength, PatchType}
+use Rattle.fl_types.specs.declared.error.FastLanesError.TheVariants.{PatchContent, PatchLength, PatchType}
 use Rattle.fl_types.specs.Refusals.{Refuses}
 use Rattle.fl_types.specs.Types.{is_index_type, is_integer}
-use Rattle.fl_column.specs.Columns.{Column, PrimitiveParts, column_of_primitive, numbers_of, option_all}
+use Rattle.fl_column.specs.Columns.{Column, column_of_primitive, numbers_of, option_all}
 use Rattle.fl_column.specs.Numbers.{numbers}
-use Rattle.fl_patches.specs.PatchMaps.{PatchesParts, accepted, is_rising, new_patches, patch_contents_fit, patch_lengths_fit, patch_types_fit, refusal_of}
+use Rattle.fl_patches.specs.PatchMaps.{PatchesParts, accepted, is_rising, new_patches, patch_contents_fit, patch_lengths_fit, patch_types_fit}
 use Rattle.fl_metadata.specs.Schemas.{◌>>=◌}
 use Rattle.fl_array.proofs.Refused.{Refuses_same}
 use Rattle.fl_array.specs.Trees.{Tree, column}
 use Rattle.fl_array.specs.Reads.{integer_column}
-use Rattle.fl_serde.specs.EarlyRefusals.{are_integers, early_refusal, have_index_types, have_patch_lengths}
-use Rattle.fl_serde.specs.Plain.{decoded, plain_of}
-use Rattle.fl_serde.specs.Reading.{decoded_offsets, plain_patches}
+use Rattle.fl_serde.specs.EarlyRefusals.{early_refusal, have_index_types, have_patch_lengths}
+use Rattle.fl_serde.specs.Plain.{plain_of}
+use Rattle.fl_serde.specs.Reading.{plain_patches}
 
 -- ---- the first two
 items_short : (items : List (Option ℤ)) → length items < 2 → is_rising (take 2 (map unsigned_abs (map (λ item. unwrap_or item (pos 0)) items))) ≡ true

@@ -1,6 +1,5 @@
 -- Loops that write or read leaves.
-use Rattle.std.proofs.Common.{◌≡◌, ◌∙◌, ℕ, ℤ, Bool, false, ◌+◌, ◌*◌, ◌^◌, ◌<◌, List, [], ◌∷◌, ◌++◌, append_assoc, length, map, take, get_or, refl, sym, ap, arith}
-use Rattle.std.specs.Prelude.{flat_map}
+use Rattle.std.proofs.Common.{◌≡◌, ℕ, ℤ, Bool, false, ◌+◌, ◌*◌, ◌^◌, ◌<◌, List, [], ◌∷◌, ◌++◌, length, map, take, get_or, refl, sym, arith}
 use Rattle.std.proofs.lemmas.List.{flat_map_more}
 use Rattle.fl_types.specs.Bits.{tabulate}
 use Rattle.fl_types.specs.declared.dtype.PType.{PType}

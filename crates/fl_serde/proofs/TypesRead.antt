@@ -1,5 +1,5 @@
 -- What is read of a node has the node's type and its length.
-use Rattle.std.proofs.Common.{◌≡◌, ◌∙◌, ℕ, ℤ, ◌+◌, ◌-◌, ◌*◌, ◌/◌, Bool, true, false, eqb, List, [], ◌∷◌, ◌++◌, length, map, Option, Some, None, Result, Ok, Err, refl, sym, ap, subst, arith}
+use Rattle.std.proofs.Common.{◌≡◌, ◌∙◌, ℕ, ℤ, ◌+◌, ◌-◌, ◌*◌, ◌/◌, Bool, true, false, eqb, List, [], ◌∷◌, length, Option, Some, None, Result, Ok, Err, refl, sym, ap, subst, arith}
 use Rattle.std.specs.Prelude.{◌==◌, ◌&&◌, ◌||◌, IfOk, if◌then◌else◌, is_none, is_some, not, ok_or, option_map, slice_get, unwrap_or}
 use Rattle.std.proofs.lemmas.Bool.{eqb-true, ne_eqb}
 use Rattle.std.proofs.lemmas.List.{length-append, length-map, length-replicate}
@@ -43,7 +43,7 @@ use Rattle.fl_serde.specs.declared.children.ExpectedChild.{ExpectedChild}
 use Rattle.fl_serde.specs.Checks.{buffers_refusal, checked, count_refusal, info_of, info_of_type, integer_info, node_refusal, own_bytes}
 use Rattle.fl_serde.specs.Kinds.{kind_of_id}
 use Rattle.fl_serde.specs.Leaves.{bits_of_bytes, slots_of_bytes}
-use Rattle.fl_serde.specs.Children.{back_children, child_count, expected_children, front_children, has_validity, same_dtype, takes_validity, validity_children}
+use Rattle.fl_serde.specs.Children.{back_children, child_count, expected_children, front_children, has_validity, same_dtype, takes_validity}
 use Rattle.fl_serde.specs.TypeAndLength.{HasTypeAndLength}
 use Rattle.fl_serde.specs.Reading.{Child, bitpacked_over, blocked_over, delta_over, fitting, for_chunked_over, for_over, found_children, made, parts_over, patches_found, read_children, read_node, reading, rle_over, scalar_over, validity_of, validity_over}
 use Rattle.fl_serde.proofs.NestedAgain.{code_once, holds, none_otherwise}

@@ -1,5 +1,5 @@
 -- What a node says of its array, and the refusals before its children are read.
-use Rattle.std.specs.Prelude.{◌≡◌, ◌%◌, ◌==◌, ◌&&◌, ◌||◌, ℕ, Bool, not, List, [], ◌∷◌, length, Option, Some, None, ok_or, is_none, is_some, Result, Ok, Err, slice_index_or, IfSome, if◌then◌else◌}
+use Rattle.std.specs.Prelude.{◌≡◌, ◌%◌, ◌==◌, ◌&&◌, ◌||◌, ℕ, not, List, [], length, Option, Some, None, ok_or, is_none, is_some, Result, Ok, Err, slice_index_or, IfSome, if◌then◌else◌}
 use Rattle.fl_types.specs.declared.dtype.DType.{DType}
 use Rattle.fl_types.specs.declared.dtype.DType.TheVariants as dtypes
 use Rattle.fl_types.specs.declared.dtype.PType.{PType}

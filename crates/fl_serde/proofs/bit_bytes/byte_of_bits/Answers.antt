@@ -1,4 +1,4 @@
-use Rattle.std.proofs.Common.{◌≡◌, ◌∙◌, ◌+◌, ◌*◌, ℕ, get_or, false, refl, ap}
+use Rattle.std.proofs.Common.{◌+◌, ◌*◌, get_or, false, refl}
 use Rattle.fastlanes.specs.Layout.{bit_value, from_bits}
 use Rattle.fastlanes.proofs.BitSums.{bit_value_small, from_bits_below}
 use Rattle.fl_serde.proofs.LeafLaws.{bits_more}

@@ -1,4 +1,4 @@
-use Rattle.std.proofs.Common.{◌≡◌, ◌+◌, ◌*◌, ◌<◌, ◌^◌, get_or, false}
+use Rattle.std.proofs.Common.{◌≡◌, ◌+◌, ◌*◌, get_or, false}
 use Rattle.fastlanes.specs.Layout.{bit_value, from_bits}
 use Rattle.fl_serde.proofs.bit_bytes.byte_of_bits.Given as goal
 
