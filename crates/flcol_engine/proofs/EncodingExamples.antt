@@ -7,7 +7,7 @@ use Rattle.fl_column.specs.Columns.{PrimitiveParts}
 use Rattle.fl_codec.specs.Parts.{non_nullable, null_constant, reference_scalar}
 use Rattle.fl_array.specs.Trees.{Constant, FoRGlobal, Primitive}
 use Rattle.flcol_engine.specs.declared.commands.Encoding.TheVariants.{BitPacked, ChunkedFoR, FoR}
-use Rattle.flcol_engine.specs.declared.commands.Packing.TheVariants.{Width}
+use Rattle.fl_encode.specs.declared.scheme.Packing.TheVariants.{Width}
 use Rattle.flcol_engine.specs.Encodings.{EncodesAs, encoding_refusal}
 
 -- ---- refusals

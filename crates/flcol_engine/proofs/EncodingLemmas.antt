@@ -1,72 +1,90 @@
--- What an encoding answers, by what its parts answer.
-use Rattle.std.proofs.Common.{◌≡◌, ℕ, length, Option, Ok, Err, sym, subst, inl, inr}
+-- What an encoding answers is what its scheme answers.
+use Rattle.std.proofs.Common.{◌≡◌, Option, Some, None, Ok, Err, refl, subst}
 use Rattle.std.specs.Prelude.{Result}
 use Rattle.fl_types.specs.declared.error.FastLanesError.{FastLanesError}
-use Rattle.fl_types.specs.declared.error.FastLanesError.TheVariants.{OutOfMemory}
-use Rattle.fl_types.specs.declared.validity.Validity.{Validity}
-use Rattle.fl_types.specs.Refusals.{Answers, Refuses}
-use Rattle.fl_types.specs.Values.{ScalarParts}
-use Rattle.fl_types.proofs.RefusalLaws.{Refuses_cases}
-use Rattle.fl_column.specs.Columns.{Column, ConstantParts, PrimitiveParts, column_of_primitive}
-use Rattle.fl_codec.specs.Parts.{ByChunk, FoRParts, Nulls, OneReference, RunParts, compress_deltas, encode_chunked, encode_global, encode_runs}
-use Rattle.fl_array.specs.Trees.{Constant, Delta, FoRChunked, FoRGlobal, Primitive, RLE, Tree, column}
-use Rattle.fl_array.proofs.EncodedRLE.{ok_is}
-use Rattle.flcol_engine.specs.declared.commands.Packing.{Packing}
-use Rattle.flcol_engine.specs.Encodings.{HasChunkReferences, HasDeltas, HasOneReference, HasReference, HasReferences, HasRuns, Makes, child_refusal, one_reference_refusal, references_refusal}
+use Rattle.fl_column.specs.Columns.{PrimitiveParts}
+use Rattle.fl_codec.specs.Parts.{ByChunk, FoRParts, Nulls, OneReference, RunParts, Whole, compress_deltas, encode_chunked, encode_global, encode_runs}
+use Rattle.fl_bitpacking.specs.Encoders.{AnswersUnless}
+use Rattle.fl_bitpacking.specs.Refusals.{otherwise}
+use Rattle.fl_array.specs.Trees.{Delta, DeltaParts, FoRChunked, OffsetLen, Primitive, RLE, Tree}
+use Rattle.fl_encode.specs.declared.scheme.Packing.{Packing}
+use Rattle.fl_encode.specs.declared.scheme.Scheme.{Scheme, Held-Scheme-FoR-0 as ChildScheme, None' as NoScheme, Some' as HasScheme}
+use Rattle.fl_encode.specs.declared.scheme.Scheme as schemes
+use Rattle.fl_encode.specs.Encodings.{IsChildAs}
+use Rattle.fl_encode.specs.Encodings as defined
+use Rattle.flcol_engine.specs.declared.commands.Encoding.{Encoding}
+use Rattle.flcol_engine.specs.declared.commands.Encoding.TheVariants as encodings
+use Rattle.flcol_engine.specs.Encodings.{EncodesAs, HasDeltas, HasReference, HasReferences, HasRuns, IsChild, IsEncodedAs, IsSchemeOf, PacksAs, child_refusal, encoding_refusal, one_reference_refusal, references_refusal}
 
--- ---- frames of reference
--- one reference
-pub one_reference_made : (packing : Option Packing) (p : PrimitiveParts) (parts : OneReference) (r : Result Tree FastLanesError) → encode_global p ≡ Ok parts
-    → column (FoRGlobal (Primitive parts.child) parts.reference) ≡ column_of_primitive p
-    → Makes (child_refusal packing parts.child) (HasOneReference packing parts) (column (FoRGlobal (Primitive parts.child) parts.reference)) r
-    → Makes (one_reference_refusal packing (encode_global p)) (HasReference packing (encode_global p)) (column_of_primitive p) r
-one_reference_made packing p parts r e back h =
-    let there = subst (λ (c : Column). Makes (child_refusal packing parts.child) (HasOneReference packing parts) c r) back h in
-    subst (λ (o : Result OneReference FastLanesError). Makes (one_reference_refusal packing o) (HasReference packing o) (column_of_primitive p) r) (sym e) there
+-- ---- children
+same_refusal : (packing : Option Packing) (scheme : ChildScheme) (p : PrimitiveParts) → PacksAs packing scheme → defined.child_refusal scheme p ≡ child_refusal packing p
+same_refusal None NoScheme p h = refl
+same_refusal None (HasScheme at scheme) p h = absurd h
+same_refusal (Some packing) NoScheme p h = absurd h
+same_refusal (Some packing) (HasScheme at scheme) p h = rw h refl
 
--- a reference for each chunk
-pub references_made : (packing : Option Packing) (p child references : PrimitiveParts) (r : Result Tree FastLanesError) → encode_chunked p ≡ ByChunk child references
-    → column (FoRChunked (Primitive child) (Primitive references) 0) ≡ column_of_primitive p
-    → Makes (child_refusal packing child) (HasChunkReferences packing child references) (column (FoRChunked (Primitive child) (Primitive references) 0)) r
-    → Makes (references_refusal packing (encode_chunked p)) (HasReferences packing (encode_chunked p)) (column_of_primitive p) r
-references_made packing p child references r e back h =
-    let there = subst (λ (c : Column). Makes (child_refusal packing child) (HasChunkReferences packing child references) c r) back h in
-    subst (λ (parts : FoRParts). Makes (references_refusal packing parts) (HasReferences packing parts) (column_of_primitive p) r) (sym e) there
+same_child : (packing : Option Packing) (scheme : ChildScheme) (p : PrimitiveParts) (t : Tree) → PacksAs packing scheme → IsChildAs scheme p t → IsChild packing p t
+same_child None NoScheme p t h is = is
+same_child None (HasScheme at scheme) p t h is = absurd h
+same_child (Some packing) NoScheme p t h is = absurd h
+same_child (Some packing) (HasScheme at scheme) p t h is = subst (λ (s : Scheme). defined.IsEncodedAs s p t) h is
 
--- a call that is refused in nothing may run out of memory
-only_memory : {X : Type 0} (e : FastLanesError) (x : X) → Refuses e (let r : Result X FastLanesError = Ok x in r) → e ≡ OutOfMemory
-only_memory e x h = elim (Refuses_cases e (Ok x) h) [
-  | inl is ↦ is
-  | inr other ↦ absurd cc
-]
+or_none : (refusal : Option FastLanesError) → otherwise refusal None ≡ refusal
+or_none None = refl
+or_none (Some f) = refl
 
--- nothing but nulls
-pub nulls_made : (packing : Option Packing) (p : PrimitiveParts) (child : ConstantParts) (reference : ScalarParts) (r : Result Tree FastLanesError) → encode_chunked p ≡ Nulls child reference
-    → column (FoRGlobal (Constant child) reference) ≡ column_of_primitive p → Answers (λ t. t) r (Ok (FoRGlobal (Constant child) reference))
-    → Makes (references_refusal packing (encode_chunked p)) (HasReferences packing (encode_chunked p)) (column_of_primitive p) r
-nulls_made packing p child reference (Ok t) e back h =
-    let is : FoRGlobal (Constant child) reference ≡ t = ok_is _ _ h in
-    let there : column t ≡ column_of_primitive p = subst (λ (s : Tree). column s ≡ column_of_primitive p) is back in
-    subst (λ (parts : FoRParts). Makes (references_refusal packing parts) (HasReferences packing parts) (column_of_primitive p) (Ok t)) (sym e) (record { refused = tt; form = sym is; stands_for = there })
-nulls_made packing p child reference (Err f) e back h =
-    subst (λ (parts : FoRParts). Makes (references_refusal packing parts) (HasReferences packing parts) (column_of_primitive p) (Err f)) (sym e) (record { refused = only_memory f (FoRGlobal (Constant child) reference) h; form = tt; stands_for = tt })
+-- ---- an array of each encoding
+reference_refused : (packing : Option Packing) (scheme : ChildScheme) (made : Result OneReference FastLanesError) → PacksAs packing scheme → defined.one_reference_refusal (defined.child_refusal scheme) made ≡ one_reference_refusal packing made
+reference_refused packing scheme (Ok parts) h = same_refusal packing scheme parts.child h
+reference_refused packing scheme (Err refusal) h = refl
 
--- ---- deltas and runs
-pub deltas_made : (packing : Option Packing) (p b d : PrimitiveParts) (v : Validity) (n : ℕ) (r : Result Tree FastLanesError) → compress_deltas p ≡ (b, d) → v ≡ p.validity → n ≡ length p.slots
-    → column (Delta (Primitive b) (Primitive d) (record { validity = v; offset = 0; len = n })) ≡ column_of_primitive p
-    → Makes (child_refusal packing d) (HasDeltas packing b d (record { validity = v; offset = 0; len = n })) (column (Delta (Primitive b) (Primitive d) (record { validity = v; offset = 0; len = n }))) r
-    → Makes (child_refusal packing (compress_deltas p).1) (HasDeltas packing (compress_deltas p).0 (compress_deltas p).1 (record { validity = p.validity; offset = 0; len = length p.slots })) (column_of_primitive p) r
-deltas_made packing p b d v n r e f g back h =
-    let there = subst (λ (c : Column). Makes (child_refusal packing d) (HasDeltas packing b d (record { validity = v; offset = 0; len = n })) c r) back h in
-    let valid = subst (λ (w : Validity). Makes (child_refusal packing d) (HasDeltas packing b d (record { validity = w; offset = 0; len = n })) (column_of_primitive p) r) f there in
-    let whole = subst (λ (m : ℕ). Makes (child_refusal packing d) (HasDeltas packing b d (record { validity = p.validity; offset = 0; len = m })) (column_of_primitive p) r) g valid in
-    subst (λ (x : PrimitiveParts × PrimitiveParts). Makes (child_refusal packing x.1) (HasDeltas packing x.0 x.1 (record { validity = p.validity; offset = 0; len = length p.slots })) (column_of_primitive p) r) (sym e) whole
+reference_is : (packing : Option Packing) (scheme : ChildScheme) (made : Result OneReference FastLanesError) (t : Tree) → PacksAs packing scheme → defined.HasReference (IsChildAs scheme) made t → HasReference packing made t
+reference_is packing scheme (Ok parts) t h (child, is, e) = (child, same_child packing scheme parts.child child h is, e)
+reference_is packing scheme (Err refusal) t h is = is
 
-pub runs_made : (packing : Option Packing) (p : PrimitiveParts) (runs : RunParts) (n : ℕ) (r : Result Tree FastLanesError) → runs ≡ encode_runs p → n ≡ length p.slots
-    → column (RLE (Primitive runs.values) (Primitive runs.indices) (Primitive runs.offsets) (record { offset = 0; len = n })) ≡ column_of_primitive p
-    → Makes (child_refusal packing runs.indices) (HasRuns packing runs (record { offset = 0; len = n })) (column (RLE (Primitive runs.values) (Primitive runs.indices) (Primitive runs.offsets) (record { offset = 0; len = n }))) r
-    → Makes (child_refusal packing (encode_runs p).indices) (HasRuns packing (encode_runs p) (record { offset = 0; len = length p.slots })) (column_of_primitive p) r
-runs_made packing p runs n r e g back h =
-    let there = subst (λ (c : Column). Makes (child_refusal packing runs.indices) (HasRuns packing runs (record { offset = 0; len = n })) c r) back h in
-    let whole = subst (λ (m : ℕ). Makes (child_refusal packing runs.indices) (HasRuns packing runs (record { offset = 0; len = m })) (column_of_primitive p) r) g there in
-    subst (λ (parts : RunParts). Makes (child_refusal packing parts.indices) (HasRuns packing parts (record { offset = 0; len = length p.slots })) (column_of_primitive p) r) e whole
+references_refused : (packing : Option Packing) (scheme : ChildScheme) (made : FoRParts) → PacksAs packing scheme → defined.references_refusal (defined.child_refusal scheme) (defined.child_refusal NoScheme) made ≡ references_refusal packing made
+references_refused packing scheme (Whole parts) h = same_refusal packing scheme parts.child h
+references_refused packing scheme (ByChunk child references) h = rw (same_refusal packing scheme child h) (or_none (child_refusal packing child))
+references_refused packing scheme (Nulls child reference) h = refl
+
+references_are : (packing : Option Packing) (scheme : ChildScheme) (made : FoRParts) (t : Tree) → PacksAs packing scheme → defined.HasReferences (IsChildAs scheme) (IsChildAs NoScheme) made t → HasReferences packing made t
+references_are packing scheme (Whole parts) t h (child, is, e) = (child, same_child packing scheme parts.child child h is, e)
+references_are packing scheme (ByChunk plain others) t h (child, references, is, same, e) = (child, same_child packing scheme plain child h is, subst (λ (u : Tree). t ≡ FoRChunked child u 0) same e)
+references_are packing scheme (Nulls child reference) t h is = is
+
+deltas_are : (packing : Option Packing) (scheme : ChildScheme) (plain : PrimitiveParts × PrimitiveParts) (parts : DeltaParts) (t : Tree) → PacksAs packing scheme → defined.HasDeltas (IsChildAs NoScheme) (IsChildAs scheme) plain parts t → HasDeltas packing plain.0 plain.1 parts t
+deltas_are packing scheme plain parts t h (bases, deltas, same, is, e) = (deltas, same_child packing scheme plain.1 deltas h is, subst (λ (u : Tree). t ≡ Delta u deltas parts) same e)
+
+runs_are : (packing : Option Packing) (scheme : ChildScheme) (runs : RunParts) (window : OffsetLen) (t : Tree) → PacksAs packing scheme → defined.HasRuns (IsChildAs NoScheme) (IsChildAs scheme) (IsChildAs NoScheme) runs window t → HasRuns packing runs window t
+runs_are packing scheme runs window t h (values, indices, offsets, first, is, last, e) =
+    let there = subst (λ (u : Tree). t ≡ RLE u indices offsets window) first e in
+    (indices, same_child packing scheme runs.indices indices h is, subst (λ (u : Tree). t ≡ RLE (Primitive runs.values) indices u window) last there)
+
+-- ---- the answer
+encoding_refused : (encoding : Encoding) (scheme : Scheme) (p : PrimitiveParts) → IsSchemeOf encoding scheme → defined.encode_refusal scheme p ≡ encoding_refusal encoding p
+encoding_refused encodings.Primitive scheme p e = rw e refl
+encoding_refused (encodings.BitPacked packing) scheme p e = rw e refl
+encoding_refused (encodings.FoR packing) scheme p (child, h, e) = rw e (reference_refused packing child (encode_global p) h)
+encoding_refused (encodings.ChunkedFoR packing) scheme p (child, h, e) = rw e (references_refused packing child (encode_chunked p) h)
+encoding_refused (encodings.Delta packing) scheme p (child, h, e) = rw e (same_refusal packing child (compress_deltas p).1 h)
+encoding_refused (encodings.RLE packing) scheme p (child, h, e) = rw (e, same_refusal packing child (encode_runs p).indices h) (or_none (child_refusal packing (encode_runs p).indices))
+
+encoding_is : (encoding : Encoding) (scheme : Scheme) (p : PrimitiveParts) (t : Tree) → IsSchemeOf encoding scheme → defined.IsEncodedAs scheme p t → IsEncodedAs encoding p t
+encoding_is encodings.Primitive scheme p t e is = subst (λ (s : Scheme). defined.IsEncodedAs s p t) e is
+encoding_is (encodings.BitPacked packing) scheme p t e is = subst (λ (s : Scheme). defined.IsEncodedAs s p t) e is
+encoding_is (encodings.FoR packing) scheme p t (child, h, e) is = reference_is packing child (encode_global p) t h (subst (λ (s : Scheme). defined.IsEncodedAs s p t) e is)
+encoding_is (encodings.ChunkedFoR packing) scheme p t (child, h, e) is = references_are packing child (encode_chunked p) t h (subst (λ (s : Scheme). defined.IsEncodedAs s p t) e is)
+encoding_is (encodings.Delta packing) scheme p t (child, h, e) is = deltas_are packing child (compress_deltas p) (defined.whole_delta p) t h (subst (λ (s : Scheme). defined.IsEncodedAs s p t) e is)
+encoding_is (encodings.RLE packing) scheme p t (child, h, e) is = runs_are packing child (encode_runs p) (defined.whole_window p) t h (subst (λ (s : Scheme). defined.IsEncodedAs s p t) e is)
+
+pub encoded_by_scheme : (encoding : Encoding) (scheme : Scheme) (p : PrimitiveParts) (r : Result Tree FastLanesError) → IsSchemeOf encoding scheme → defined.EncodesAs scheme p r → EncodesAs encoding p r
+encoded_by_scheme encoding scheme p (Ok t) h made = record {
+  refused = subst (λ refusal. AnswersUnless {X = Tree} refusal (Ok t)) (encoding_refused encoding scheme p h) made.refused;
+  form = encoding_is encoding scheme p t h made.form;
+  stands_for = made.stands_for;
+}
+encoded_by_scheme encoding scheme p (Err e) h made = record {
+  refused = subst (λ refusal. AnswersUnless {X = Tree} refusal (Err e)) (encoding_refused encoding scheme p h) made.refused;
+  form = tt;
+  stands_for = tt;
+}

@@ -35,12 +35,13 @@ use Rattle.flcol_container.specs.declared.error.ContainerError.{ContainerError}
 use Rattle.flcol_container.specs.declared.error.ContainerError.TheVariants as containers
 use Rattle.flcol_engine.specs.declared.commands.Encoding.{Encoding}
 use Rattle.flcol_engine.specs.declared.commands.Encoding.TheVariants as encodings
-use Rattle.flcol_engine.specs.declared.commands.Packing.{Packing}
-use Rattle.flcol_engine.specs.declared.commands.Packing.TheVariants.{BestWidth, BestWidths, Width}
+use Rattle.fl_encode.specs.declared.scheme.Packing.{Packing}
+use Rattle.fl_encode.specs.declared.scheme.Packing.TheVariants.{BestWidth, BestWidths, Width}
 use Rattle.flcol_engine.specs.declared.fault.Fault.{Fault}
 use Rattle.flcol_engine.specs.Faults.{of_container, out_of_memory}
 use Rattle.flcol_engine.specs.Outputs.{IsStored}
-use Rattle.flcol_engine.specs.Encodings.{HasOneReference, HasReference, HasReferences, IsChild, IsEncodedAs, IsPackedAs}
+use Rattle.fl_encode.specs.Packings.{IsPackedAs}
+use Rattle.flcol_engine.specs.Encodings.{HasOneReference, HasReference, HasReferences, IsChild, IsEncodedAs}
 
 -- ---- metadata are short
 groups_short : (k n : ℕ) → length (groups_text k n) ≤ k

@@ -1,37 +1,16 @@
 -- The arrays that encodings make of a primitive one, and when they make none.
-use Rattle.std.specs.Prelude.{◌≡◌, ℕ, List, length, Option, Some, None, Result, Ok, Err, IfOk}
+use Rattle.std.specs.Prelude.{◌≡◌, length, Option, Some, None, Result, Ok, Err}
 use Rattle.fl_types.specs.declared.error.FastLanesError.{FastLanesError}
-use Rattle.fl_column.specs.Columns.{Column, PrimitiveParts, column_of_primitive}
-use Rattle.fl_bitpacking.specs.Blocks.{boundary_array}
-use Rattle.fl_bitpacking.specs.Columns.{BitPackedParts}
-use Rattle.fl_bitpacking.specs.Encoders.{AnswersUnless, IsPackedAt, IsPackedInBlocks, best_width_of, best_widths_of, width_refusal, widths_refusal}
+use Rattle.fl_column.specs.Columns.{PrimitiveParts, column_of_primitive}
 use Rattle.fl_codec.specs.Parts.{ByChunk, FoRParts, Nulls, OneReference, RunParts, Whole, compress_deltas, encode_chunked, encode_global, encode_runs}
-use Rattle.fl_array.specs.Trees.{BitPackedBlocked, BitPackedGlobal, Constant, Delta, DeltaParts, FoRChunked, FoRGlobal, Primitive, RLE, Tree, OffsetLen, column}
+use Rattle.fl_array.specs.Trees.{Constant, Delta, DeltaParts, FoRChunked, FoRGlobal, Primitive, RLE, Tree, OffsetLen}
+use Rattle.fl_encode.specs.declared.scheme.Packing.{Packing}
+use Rattle.fl_encode.specs.declared.scheme.Scheme.{Scheme, Held-Scheme-FoR-0 as ChildScheme, None' as NoScheme, Some' as HasScheme}
+use Rattle.fl_encode.specs.declared.scheme.Scheme as schemes
+use Rattle.fl_encode.specs.Encodings.{Makes}
+use Rattle.fl_encode.specs.Packings.{IsPackedAs, packing_refusal}
 use Rattle.flcol_engine.specs.declared.commands.Encoding.{Encoding}
 use Rattle.flcol_engine.specs.declared.commands.Encoding.TheVariants as encodings
-use Rattle.flcol_engine.specs.declared.commands.Packing.{Packing}
-use Rattle.flcol_engine.specs.declared.commands.Packing.TheVariants.{BestWidth, BestWidths, Width}
-
--- ---- packing
--- why a primitive array is not packed, if it is not
-abbrev pub packing_refusal : Packing → PrimitiveParts → Option FastLanesError
-packing_refusal (Width width) p = width_refusal p width
-packing_refusal BestWidth p = width_refusal p (best_width_of p)
-packing_refusal BestWidths p = widths_refusal p (best_widths_of p)
-
--- the array is a primitive one that is packed at this width
-abbrev pub IsPackedArray : PrimitiveParts → ℕ → Tree → Type 0
-IsPackedArray p width t = (parts : BitPackedParts) × IsPackedAt p width parts × (t ≡ BitPackedGlobal parts width)
-
--- the array is a primitive one whose blocks are packed at these widths
-abbrev pub IsBlockedArray : PrimitiveParts → List ℕ → Tree → Type 0
-IsBlockedArray p widths t = (parts : BitPackedParts) × IsPackedInBlocks p widths parts × (t ≡ BitPackedBlocked parts (Primitive (boundary_array widths)))
-
--- the array is a primitive one that is packed in this way
-abbrev pub IsPackedAs : Packing → PrimitiveParts → Tree → Type 0
-IsPackedAs (Width width) p t = IsPackedArray p width t
-IsPackedAs BestWidth p t = IsPackedArray p (best_width_of p) t
-IsPackedAs BestWidths p t = IsBlockedArray p (best_widths_of p) t
 
 -- ---- children
 -- why there is no child, if there is none: only a child that is to be packed may be refused
@@ -103,12 +82,23 @@ IsEncodedAs (encodings.ChunkedFoR packing) p t = HasReferences packing (encode_c
 IsEncodedAs (encodings.Delta packing) p t = HasDeltas packing (compress_deltas p).0 (compress_deltas p).1 (record { validity = p.validity; offset = 0; len = length p.slots }) t
 IsEncodedAs (encodings.RLE packing) p t = HasRuns packing (encode_runs p) (record { offset = 0; len = length p.slots }) t
 
--- a call answers an array of this form that stands for this column, unless there is a refusal, which it then gives, or memory ran out
-pub record Makes (refusal : Option FastLanesError) (Is : Tree → Type 0) (c : Column) (result : Result Tree FastLanesError) : Type 0 where
-  pub refused : AnswersUnless refusal result
-  pub form : IfOk result Is
-  pub stands_for : IfOk result (λ t. column t ≡ c)
-
 -- what encoding a primitive array answers: exactly the array of the encoding's parts, which has the same column, or the first refusal
 abbrev pub EncodesAs : Encoding → PrimitiveParts → Result Tree FastLanesError → Type 0
 EncodesAs encoding p result = Makes (encoding_refusal encoding p) (IsEncodedAs encoding p) (column_of_primitive p) result
+
+-- ---- schemes
+-- a child's scheme packs it where that is asked for
+abbrev pub PacksAs : Option Packing → ChildScheme → Type 0
+PacksAs None NoScheme = Unit {0}
+PacksAs None (HasScheme at scheme) = ⊥
+PacksAs (Some packing) NoScheme = ⊥
+PacksAs (Some packing) (HasScheme at scheme) = scheme ≡ schemes.BitPacked packing
+
+-- the scheme is that of an encoding, whose other children are plain
+abbrev pub IsSchemeOf : Encoding → Scheme → Type 0
+IsSchemeOf encodings.Primitive scheme = scheme ≡ schemes.Primitive
+IsSchemeOf (encodings.BitPacked packing) scheme = scheme ≡ schemes.BitPacked packing
+IsSchemeOf (encodings.FoR packing) scheme = (child : ChildScheme) × PacksAs packing child × (scheme ≡ schemes.FoR' child)
+IsSchemeOf (encodings.ChunkedFoR packing) scheme = (child : ChildScheme) × PacksAs packing child × (scheme ≡ schemes.FoRChunked' child NoScheme)
+IsSchemeOf (encodings.Delta packing) scheme = (child : ChildScheme) × PacksAs packing child × (scheme ≡ schemes.Delta' NoScheme child)
+IsSchemeOf (encodings.RLE packing) scheme = (child : ChildScheme) × PacksAs packing child × (scheme ≡ schemes.RLE' NoScheme child NoScheme)

@@ -18,8 +18,8 @@ use Rattle.fl_types.specs.declared.query.StrictComparison.TheVariants.{NonStrict
 use Rattle.fl_column.specs.Columns.{PrimitiveParts, non_nullable, primitive_of_options}
 use Rattle.fl_array.specs.Trees as trees
 use Rattle.fl_ops.specs.Operations.{Cast, Filter, Slice, Step, Take, TakeRanges}
-use Rattle.flcol_engine.specs.declared.commands.Packing.{Packing}
-use Rattle.flcol_engine.specs.declared.commands.Packing.TheVariants.{BestWidth, BestWidths, Width}
+use Rattle.fl_encode.specs.declared.scheme.Packing.{Packing}
+use Rattle.fl_encode.specs.declared.scheme.Packing.TheVariants.{BestWidth, BestWidths, Width}
 use Rattle.flcol_engine.specs.declared.commands.Encoding.{Encoding}
 use Rattle.flcol_engine.specs.declared.commands.Encoding.TheVariants as encodings
 use Rattle.flcol_engine.specs.declared.commands.ColumnQuestion.{ColumnQuestion}

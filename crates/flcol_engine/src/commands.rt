@@ -1,6 +1,7 @@
 //! The commands of the program, as its words say them.
 
 use fl_column::{BetweenOptions, CompareOperator, Nullability, PType};
+pub use fl_encode::Packing;
 use fl_ops::Op;
 
 /// The command `pack`: the type of the column, and the bits that are kept of each item.
@@ -13,18 +14,6 @@ pub struct Pack {
     /// The bits that are kept of each item, as the word says; whether the type has as many is judged
     /// when the column has been read.
     pub width: u8,
-}
-
-/// How integers are bit-packed.
-#[derive(Clone, Copy, Debug, PartialEq, Eq)]
-pub enum Packing {
-    /// At the width of least cost.
-    BestWidth,
-    /// At this width, as the word says; whether the type has more bits is judged when the column has
-    /// been read.
-    Width(u8),
-    /// At a width for each block, of least cost.
-    BestWidths,
 }
 
 /// An encoding of a column, and where it has a child that can be packed, how that is packed, if at all.

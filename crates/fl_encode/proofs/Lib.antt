@@ -1,0 +1,3 @@
+pub mod SchemeLaws
+pub mod ConstantLaws
+pub mod EncodingLaws

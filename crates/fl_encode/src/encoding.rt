@@ -1,0 +1,208 @@
+//! Encoding by a scheme: the functions of one recursion.
+
+ghost use Rattle.std.specs.Prelude.{◌≡◌, None, false};
+ghost use Rattle.fl_types.specs.Values.{scalar_parts};
+ghost use Rattle.fl_column.specs.Columns.{column_of_primitive};
+ghost use Rattle.fl_column.specs.Questions.{are_constant};
+ghost use Rattle.fl_array.specs.FoRArrays.{ChunkReferences, for_refusal, reference_refusal};
+ghost use Rattle.fl_array.specs.Trees.{FoRChunked, FoRGlobal, Primitive, column};
+ghost use Rattle.fl_encode.specs.Encodings.{EncodesAs, EncodesChildAs, HasChunkReferences, HasOneReference, IsChildAs, Makes, child_refusal};
+ghost use Rattle.fl_bitpacking.specs.Refusals.{otherwise};
+ghost use Rattle.fl_encode.specs.declared.scheme.Scheme.{Delta', FoR', FoRChunked', RLE', back-Scheme-FoR-0 as child_scheme};
+
+use crate::parts::{
+    over_deltas, over_nulls, over_reference, over_references, over_runs, pack, prove_few, repeat,
+};
+use crate::scheme::Scheme;
+use fl_array::{ArrayRef, IntoArray};
+use fl_codec::for_::{EncodedFoR, GlobalFoR};
+use fl_codec::laws::{chunked_for_and_back, deltas_and_back, global_for_and_back, runs_and_back};
+use fl_codec::rle::Runs;
+use fl_codec::{delta, for_, rle};
+use fl_column::{FastLanesError, PrimitiveArray, Scalar};
+use std::alloc::Global;
+
+/// The child of an encoded array by its scheme, plain without one.
+#[cycle(encode)]
+fn encode_child(
+    alloc: Global,
+    child: PrimitiveArray,
+    scheme: &Option<Box<Scheme>>,
+) -> Result<ArrayRef, FastLanesError>
+    ensures { EncodesChildAs (child_scheme scheme.now) child result }
+{
+    match scheme {
+        None => Ok(child.into_array()),
+        Some(scheme) => encode(alloc, &child, scheme),
+    }
+}
+
+/// The FoR array of a child, encoded by its scheme, and its one reference.
+#[cycle(encode)]
+fn encode_over_reference(
+    alloc: Global,
+    child: PrimitiveArray,
+    reference: Scalar,
+    scheme: &Option<Box<Scheme>>,
+) -> Result<ArrayRef, FastLanesError>
+    requires { reference_refusal (column_of_primitive child).dtype (scalar_parts reference) ≡ None }
+    ensures { Makes (child_refusal (child_scheme scheme.now) child) (HasOneReference (IsChildAs (child_scheme scheme.now)) (record { child = child; reference = scalar_parts reference })) (column (FoRGlobal (Primitive child) (scalar_parts reference))) result }
+{
+    let encoded = encode_child(alloc, child, scheme)?;
+    over_reference(alloc, encoded, reference)
+}
+
+/// The FoR array of a child and the references of its chunks, which are not all equal, each encoded by its scheme.
+#[cycle(encode)]
+fn encode_over_references(
+    alloc: Global,
+    child: PrimitiveArray,
+    others: PrimitiveArray,
+    encoded: &Option<Box<Scheme>>,
+    references: &Option<Box<Scheme>>,
+) -> Result<ArrayRef, FastLanesError>
+    requires sound { for_refusal (column_of_primitive child) (ChunkReferences (Primitive others) 0) ≡ None }
+    requires differ { are_constant (column_of_primitive others).items ≡ false }
+    ensures { Makes (otherwise (child_refusal (child_scheme encoded.now) child) (child_refusal (child_scheme references.now) others)) (HasChunkReferences (IsChildAs (child_scheme encoded.now)) (IsChildAs (child_scheme references.now)) child others) (column (FoRChunked (Primitive child) (Primitive others) 0)) result }
+{
+    let encoded = encode_child(alloc, child, encoded)?;
+    let references = encode_child(alloc, others, references)?;
+    over_references(alloc, encoded, references)
+}
+
+/// The FoR array of a primitive one, with its least valid item as the one reference.
+///
+/// # Errors
+/// `NoMinimum` where no item is valid, else those of the child.
+#[cycle(encode)]
+fn encode_for(
+    alloc: Global,
+    array: &PrimitiveArray,
+    scheme: &Option<Box<Scheme>>,
+) -> Result<ArrayRef, FastLanesError>
+    ensures { EncodesAs (FoR' (child_scheme scheme.now)) array.now result }
+{
+    global_for_and_back(array);
+    let GlobalFoR { child, reference } = for_::encode(alloc, array)?;
+    encode_over_reference(alloc, child, reference, scheme)
+}
+
+/// The FoR array of a primitive one, with the least valid item of each chunk as its reference, or one
+/// reference where all of these are equal. Nothing but nulls become a constant child, which isn't encoded.
+///
+/// # Errors
+/// Those of the child, and then those of the references.
+#[cycle(encode)]
+fn encode_chunked_for(
+    alloc: Global,
+    array: &PrimitiveArray,
+    encoded: &Option<Box<Scheme>>,
+    references: &Option<Box<Scheme>>,
+) -> Result<ArrayRef, FastLanesError>
+    ensures { EncodesAs (FoRChunked' (child_scheme encoded.now) (child_scheme references.now)) array.now result }
+{
+    chunked_for_and_back(array);
+    prove_few(array);
+    let _validity = array.validity();
+    match for_::encode_chunked(alloc, array)? {
+        EncodedFoR::Global(GlobalFoR { child, reference }) => {
+            encode_over_reference(alloc, child, reference, encoded)
+        }
+        EncodedFoR::Chunked(child, others) => {
+            encode_over_references(alloc, child, others, encoded, references)
+        }
+        EncodedFoR::Nulls(child, reference) => over_nulls(alloc, child, reference),
+    }
+}
+
+/// The delta array of a primitive one.
+///
+/// # Errors
+/// Those of the bases, and then those of the deltas.
+#[cycle(encode)]
+fn encode_delta(
+    alloc: Global,
+    array: &PrimitiveArray,
+    bases: &Option<Box<Scheme>>,
+    deltas: &Option<Box<Scheme>>,
+) -> Result<ArrayRef, FastLanesError>
+    ensures { EncodesAs (Delta' (child_scheme bases.now) (child_scheme deltas.now)) array.now result }
+{
+    deltas_and_back(array);
+    let len = array.len();
+    let validity = array.validity().try_clone(alloc)?;
+    let (plain_bases, plain_deltas) = delta::delta_compress(alloc, array)?;
+    let bases = encode_child(alloc, plain_bases, bases)?;
+    let deltas = encode_child(alloc, plain_deltas, deltas)?;
+    over_deltas(alloc, bases, deltas, validity, len)
+}
+
+/// The run-length encoded array of a primitive one.
+///
+/// # Errors
+/// Those of the run values, then those of the run indices, and then those of the run offsets.
+#[cycle(encode)]
+fn encode_rle(
+    alloc: Global,
+    array: &PrimitiveArray,
+    values: &Option<Box<Scheme>>,
+    indices: &Option<Box<Scheme>>,
+    offsets: &Option<Box<Scheme>>,
+) -> Result<ArrayRef, FastLanesError>
+    ensures { EncodesAs (RLE' (child_scheme values.now) (child_scheme indices.now) (child_scheme offsets.now)) array.now result }
+{
+    runs_and_back(array);
+    let (len, _validity) = (array.len(), array.validity());
+    let runs = rle::encode(alloc, array)?;
+    let (_values, _indices, _offsets) = (
+        runs.values.validity(),
+        runs.indices.validity(),
+        runs.offsets.validity(),
+    );
+    let Runs {
+        values: plain_values,
+        indices: plain_indices,
+        offsets: plain_offsets,
+    } = runs;
+    let values = encode_child(alloc, plain_values, values)?;
+    let indices = encode_child(alloc, plain_indices, indices)?;
+    let offsets = encode_child(alloc, plain_offsets, offsets)?;
+    over_runs(alloc, values, indices, offsets, len)
+}
+
+/// The array, encoded by a scheme: exactly the array that the definitions of the encodings make of it, and of
+/// each child by its own scheme.
+///
+/// # Errors
+/// The first refusal, that of the outer encoding before those of its children in the order of their slots:
+/// - `Constant` is refused with `CastOutOfRange` where two items differ.
+/// - `BitPacked` is refused with the first of `NegativeValue`, `WidthTooLarge` and `AllBlocksNative` that holds.
+/// - `FoR` is refused with `NoMinimum` where no item is valid.
+///
+/// `FoRChunked` makes one reference of equal ones, and a constant child of nothing but nulls: the schemes of
+/// children that are not there are not run.
+#[cycle(encode)]
+pub fn encode(
+    alloc: Global,
+    array: &PrimitiveArray,
+    scheme: &Scheme,
+) -> Result<ArrayRef, FastLanesError>
+    ensures { EncodesAs scheme.now array.now result }
+{
+    match scheme {
+        Scheme::Primitive => Ok(array.try_clone(alloc)?.into_array()),
+        Scheme::Constant => repeat(array),
+        Scheme::BitPacked(packing) => pack(alloc, array, *packing),
+        Scheme::FoR { encoded } => encode_for(alloc, array, encoded),
+        Scheme::FoRChunked {
+            encoded,
+            references,
+        } => encode_chunked_for(alloc, array, encoded, references),
+        Scheme::Delta { bases, deltas } => encode_delta(alloc, array, bases, deltas),
+        Scheme::RLE {
+            values,
+            indices,
+            offsets,
+        } => encode_rle(alloc, array, values, indices, offsets),
+    }
+}
