@@ -47,22 +47,32 @@ fn times(alloc: Global) -> Result<PrimitiveArray, FastLanesError> {
     PrimitiveArray::new(times, Validity::NonNullable)
 }
 
-/// Whether of four times, the last of the first block among them, those before the second block are.
+/// Whether of four times those before the second block, and no others, are before its first one.
 fn is_found(alloc: Global) -> Result<bool, FastLanesError> {
     let limit = Scalar::Integer(PValue::U32(1_700_001_024), Nullability::NonNullable);
-    let found = part_and_comparison(
+    let times = times(alloc)?;
+    let (part, before) = part_and_comparison(
         alloc,
-        &times(alloc)?,
+        &times,
         1022,
         1026,
         CompareOperator::Lt,
         &limit,
-    );
-    let (part, before) = found?;
-    let are_times = part.as_slice::<u32>()
-        == [1_700_001_022, 1_700_001_023, 1_700_001_024, 1_700_001_025];
+    )?;
+    let wanted = [
+        1_700_001_022u32,
+        1_700_001_023,
+        1_700_001_024,
+        1_700_001_025,
+    ];
     let bits = before.bits();
-    Ok(are_times && bits.get(0) && bits.get(1) && !bits.get(2) && !bits.get(3))
+    Ok(
+        part.as_slice::<u32>() == wanted.as_slice()
+            && bits.get(0)
+            && bits.get(1)
+            && !bits.get(2)
+            && !bits.get(3),
+    )
 }
 
 #[test]
