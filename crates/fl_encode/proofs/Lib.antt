@@ -1,3 +1,4 @@
 pub mod SchemeLaws
 pub mod ConstantLaws
 pub mod EncodingLaws
+pub mod TextLaws
