@@ -33,7 +33,7 @@ pub fn parse(alloc: Global, text: &[u8]) -> Result<Scheme, SchemeError>
     match read_whole(alloc, text) {
         Ok(scheme) => Ok(scheme),
         Err(Stop::OutOfMemory) => Err(SchemeError::OutOfMemory),
-        Err(Stop::Left(left)) => Err(SchemeError::WrongByte(text.len().saturating_sub(left))),
+        Err(Stop::Left(left)) => Err(SchemeError::WrongByte(text.len() - left)),
     }
 }
 
