@@ -7,6 +7,7 @@ pub mod bitpack_compress;
 pub mod bitpack_decompress;
 pub mod bitpacking;
 pub mod delta;
+pub mod encode;
 pub mod for_;
 pub mod laws;
 pub mod plugin;

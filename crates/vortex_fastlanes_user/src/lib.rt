@@ -6,5 +6,6 @@
 mod arrays;
 #[cfg(test)]
 mod encoded;
+pub mod packing;
 pub mod proved;
 pub mod readme;

@@ -10,6 +10,7 @@ ghost use Rattle.vortex_fastlanes.specs.Values.{scalar_parts};
 use std::alloc::Global;
 use vortex_fastlanes::array::*;
 use vortex_fastlanes::bitpack_compress::bitpack_to_best_bit_width;
+use vortex_fastlanes::encode::*;
 use vortex_fastlanes::plugin::*;
 use vortex_fastlanes::*;
 
@@ -61,4 +62,20 @@ pub fn written_and_read(alloc: Global, array: &ArrayRef) -> Result<ArrayRef, Fas
     laws::node_has_one_column();
     let node = serialize(alloc, array)?;
     deserialize(alloc, &node)
+}
+
+/// The array with its deltas bit-packed.
+///
+/// # Errors
+/// `NegativeValue` where a delta is negative, `WidthTooLarge` where the deltas need all bits of their type, and
+/// `OutOfMemory`.
+pub fn deltas_packed(alloc: Global, plain: &PrimitiveArray) -> Result<ArrayRef, FastLanesError>
+    ensures { IfOk result (λ a. column a ≡ column_of_primitive plain.now) }
+{
+    let packed = Box::new(alloc, Scheme::BitPacked(Packing::BestWidth))?;
+    let scheme = Scheme::Delta {
+        bases: None,
+        deltas: Some(packed),
+    };
+    encode(alloc, plain, &scheme)
 }

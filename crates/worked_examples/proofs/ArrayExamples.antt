@@ -8,7 +8,7 @@ use Rattle.fl_types.specs.declared.dtype.Nullability.TheVariants.{NonNullable, N
 use Rattle.fl_types.specs.declared.validity.Validity.TheVariants as valid
 use Rattle.fl_types.specs.Bits.{tabulate}
 use Rattle.fl_types.specs.Values.{ScalarParts}
-use Rattle.fl_column.specs.Columns.{Column, PrimitiveParts}
+use Rattle.fl_column.specs.Columns.{PrimitiveParts}
 use Rattle.fl_column.specs.Operations.{slice_of}
 use Rattle.fl_patches.specs.PatchMaps.{PatchesParts}
 use Rattle.fl_codec.specs.Deltas.{block_integer, lane_sum}
