@@ -1,3 +1,5 @@
 pub mod SchemeLaws
 pub mod ConstantLaws
 pub mod EncodingLaws
+pub mod TextLaws
+pub mod TextBounds

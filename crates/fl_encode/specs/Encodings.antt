@@ -1,4 +1,4 @@
--- The arrays that schemes make of a primitive one, and when they make none.
+-- The arrays that schemes make of a primitive one, and when they make none. A child has no scheme, or one with where it lies in memory.
 use Rattle.std.specs.Prelude.{◌≡◌, length, Option, Some, None, Result, Ok, Err, IfOk}
 use Rattle.fl_types.specs.declared.error.FastLanesError.{FastLanesError}
 use Rattle.fl_column.specs.Columns.{Column, PrimitiveParts, column_of_primitive}

@@ -1,2 +1,4 @@
 pub mod Packings
 pub mod Encodings
+pub mod Shapes
+pub mod Texts

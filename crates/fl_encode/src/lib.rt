@@ -2,8 +2,10 @@
 #![tactic(auto)]
 
 pub mod encoding;
+pub mod laws;
 mod parts;
 pub mod scheme;
+pub mod text;
 
 pub use crate::encoding::encode;
 pub use crate::scheme::{Packing, Scheme};

@@ -101,6 +101,8 @@ pub use Rattle.fl_array.specs.Views
 pub use Rattle.fl_array.specs.WellFormed
 pub use Rattle.fl_encode.specs.Encodings as Schemes
 pub use Rattle.fl_encode.specs.Packings
+pub use Rattle.fl_encode.specs.Shapes
+pub use Rattle.fl_encode.specs.Texts
 pub use Rattle.fl_ops.specs.CastForms
 pub use Rattle.fl_ops.specs.Normalized
 pub use Rattle.fl_ops.specs.Operations as ArrayOperations

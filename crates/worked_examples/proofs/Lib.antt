@@ -6,3 +6,4 @@ mod WidthExamples
 mod RefusedNodes
 mod WrittenNodes
 mod StandingNodes
+mod SchemeExamples

@@ -8,8 +8,15 @@ use Rattle.fl_array.proofs.EncodedRLE.{encoded_back as runs_back}
 use Rattle.fl_array.proofs.FoREncoding.{chunked_column, few_positions, global_accepted, made_accepted}
 use Rattle.fl_encode.specs.declared.scheme.Scheme.{RLE', back-Scheme-FoR-0 as child_scheme}
 use Rattle.fl_encode.proofs.ConstantLaws.{no_constant, references_differ}
-use Rattle.fl_encode.proofs.EncodingLaws.{deltas_accepted, deltas_made, indices_refused, one_reference_made, over_references_made, passed_on, references_made, runs_accepted, runs_made}
+use Rattle.fl_encode.proofs.EncodingLaws.{deltas_accepted, deltas_made, indices_refused, one_reference_made, over_references_made, passed_on, references_made, runs_accepted, runs_made, values_refused}
 use Rattle.fl_encode.proofs.encoding.+encode.Goals as goal
+
+-- ---- one level
+pub encode_child-returns-in-Some : goal.encode_child-returns-in-Some
+encode_child-returns-in-Some t c = rw (c.in-Some.is, ← c.deref.ensures) c.encode.ensures
+
+pub encode-returns-in-FoRChunked : goal.encode-returns-in-FoRChunked
+encode-returns-in-FoRChunked t c = rw c.in-FoRChunked.is c.encode_chunked_for.ensures
 
 -- ---- frames of reference
 pub encode_for-encode_over_reference-requires : goal.encode_for-encode_over_reference-requires
@@ -71,6 +78,11 @@ pub encode_rle-returns-in_err-indices : goal.encode_rle-returns-in_err-indices
 encode_rle-returns-in_err-indices t c =
     passed_on (RLE' (child_scheme c.args.values.now) (child_scheme c.args.indices.now) (child_scheme c.args.offsets.now)) c.args.array.now c.from_residual-in_err-indices.result c.in_err-indices.field-0.0 c.from_residual-in_err-indices.ensures.1
     (indices_refused (child_scheme c.args.values.now) (child_scheme c.args.indices.now) (child_scheme c.args.offsets.now) c.args.array.now (run_parts c.in_ok-runs.runs) c.in_ok-values.values c.in_err-indices.field-0.0 (ok_is _ _ (sym c.in_ok-runs.ensures)) c.in_ok-values.ensures c.in_err-indices.ensures)
+
+pub encode_rle-returns-in_err-values : goal.encode_rle-returns-in_err-values
+encode_rle-returns-in_err-values t c =
+    passed_on (RLE' (child_scheme c.args.values.now) (child_scheme c.args.indices.now) (child_scheme c.args.offsets.now)) c.args.array.now c.from_residual-in_err-values.result c.in_err-values.field-0.0 c.from_residual-in_err-values.ensures.1
+    (values_refused (child_scheme c.args.values.now) (child_scheme c.args.indices.now) (child_scheme c.args.offsets.now) c.args.array.now (run_parts c.in_ok-runs.runs) c.in_err-values.field-0.0 (ok_is _ _ (sym c.in_ok-runs.ensures)) c.in_err-values.ensures)
 
 pub encode_rle-over_runs-requires : goal.encode_rle-over_runs-requires
 encode_rle-over_runs-requires t c =

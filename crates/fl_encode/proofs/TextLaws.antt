@@ -1,0 +1,315 @@
+-- What is printed is read.
+use Rattle.std.proofs.Common.{◌≡◌, ◌+◌, ◌-◌, ◌*◌, ◌/◌, ◌%◌, ◌==◌, ◌<◌, ◌≤◌, ◌&&◌, ◌||◌, ◌++◌, ℕ, zero, suc, Bool, true, false, List, [], ◌∷◌, length, Option, Some, None, Ok, refl, ap, sym, subst, ◌∙◌, inl, inr, ◌⊎◌, arith, append_assoc, append-nil, length-append, nat_lt, not}
+use Rattle.std.specs.Prelude.{Result, codes, is_some}
+use Rattle.std.proofs.lemmas.Bool.{cases_Bool}
+use Rattle.std.proofs.lemmas.Bool.Decides.{nat_tests}
+use Rattle.fl_column.proofs.ListLaws.{and_first, and_second}
+use Rattle.fl_encode.specs.declared.scheme.Packing.{Packing}
+use Rattle.fl_encode.specs.declared.scheme.Packing.TheVariants.{BestWidth, BestWidths, Width}
+use Rattle.std.specs.Option.{option_map_or}
+use Rattle.fl_encode.specs.declared.text.reading.Head.{Head}
+use Rattle.fl_encode.specs.declared.text.reading.Head.TheVariants as heads
+use Rattle.fl_encode.specs.declared.text.reading.Stop.{Stop}
+use Rattle.std.proofs.Common.{Box}
+use Rattle.std.specs.declared.alloc.Global.{Global}
+use Rattle.fl_encode.specs.declared.scheme.Scheme.{Scheme, back-Scheme-FoR-0 as child_scheme}
+use Rattle.fl_encode.specs.declared.scheme.Scheme as schemes
+use Rattle.fl_encode.specs.Shapes.{BitPacked, Constant, Delta, FoR, FoRChunked, Plain, Primitive, RLE, Shape, child_shape, in_parentheses, is_plain, scheme_text, shape, width_text}
+use Rattle.fl_encode.specs.Texts.{Finds, after, child_by, digits_behind, expected, goes_on, has_widths, head_in, one_by, packing_behind, positioned, rest_behind, scheme_by, scheme_in, scheme_of_text, tail_behind, three_by, two_by, whole, width_in}
+
+-- ---- what stands behind a scheme: nothing, a comma or a closing parenthesis
+abbrev follows : List ℕ → Bool
+follows [] = true
+follows (x ∷ rest) = x == 44 || x == 41
+
+one_of : (x : ℕ) → (x == 44 || x == 41) ≡ true → (x ≡ 44) ⊎ (x ≡ 41)
+one_of x h = grind (arith, nat_tests)
+
+no_tail : (byte : ℕ) (rest : List ℕ) → (44 == byte) ≡ false → (41 == byte) ≡ false → follows rest ≡ true → tail_behind byte rest ≡ None
+no_tail byte [] e f h = refl
+no_tail byte (x ∷ rest) e f h = elim (one_of x h) [
+  | inl is ↦ rw (is, e) refl
+  | inr is ↦ rw (is, f) refl
+]
+
+no_letter : (rest : List ℕ) → follows rest ≡ true → rest_behind (99 ∷ []) rest ≡ None
+no_letter [] h = refl
+no_letter (x ∷ rest) h = elim (one_of x h) [
+  | inl is ↦ rw is refl
+  | inr is ↦ rw is refl
+]
+
+-- ---- widths
+stops : (number : ℕ) (rest : List ℕ) → follows rest ≡ true → digits_behind number rest ≡ (number, rest)
+stops number [] h = refl
+stops number (x ∷ rest) h = elim (one_of x h) [
+  | inl is ↦ rw is refl
+  | inr is ↦ rw is refl
+]
+
+goes : (number byte : ℕ) → 48 ≤ byte → byte ≤ 57 → 10 * number + (byte - 48) ≤ 255 → goes_on number byte ≡ true
+goes number byte low high fits = grind (arith, nat_tests)
+
+below : (n m : ℕ) → n < m → nat_lt n m ≡ true
+below n m h = grind (arith, nat_tests)
+
+not_below : (n m : ℕ) → m ≤ n → nat_lt n m ≡ false
+not_below n m h = grind (arith, nat_tests)
+
+one_digit : (d : ℕ) (rest : List ℕ) → d < 10 → follows rest ≡ true → width_in ((48 + d) ∷ rest) ≡ Ok (d, rest)
+one_digit d rest h f =
+    let same : 48 + d - 48 ≡ d = omega arith in
+    rw (goes 0 (48 + d) (omega arith) (omega arith) (omega arith), same, stops d rest f) refl
+
+two_digits : (d e : ℕ) (rest : List ℕ) → d < 10 → e < 10 → follows rest ≡ true → width_in ((48 + d) ∷ (48 + e) ∷ rest) ≡ Ok (10 * d + e, rest)
+two_digits d e rest h k f =
+    let first : 48 + d - 48 ≡ d = omega arith in
+    let second : 48 + e - 48 ≡ e = omega arith in
+    rw (goes 0 (48 + d) (omega arith) (omega arith) (omega arith), first, goes d (48 + e) (omega arith) (omega arith) (omega arith), second, stops (10 * d + e) rest f) refl
+
+three_digits : (c d e : ℕ) (rest : List ℕ) → c < 10 → d < 10 → e < 10 → 10 * (10 * c + d) + e ≤ 255 → follows rest ≡ true → width_in ((48 + c) ∷ (48 + d) ∷ (48 + e) ∷ rest) ≡ Ok (10 * (10 * c + d) + e, rest)
+three_digits c d e rest g h k fits f =
+    let first : 48 + c - 48 ≡ c = omega arith in
+    let second : 48 + d - 48 ≡ d = omega arith in
+    let third : 48 + e - 48 ≡ e = omega arith in
+    rw (goes 0 (48 + c) (omega arith) (omega arith) (omega arith), first, goes c (48 + d) (omega arith) (omega arith) (omega arith), second, goes (10 * c + d) (48 + e) (omega arith) (omega arith) (omega arith), third, stops (10 * (10 * c + d) + e) rest f) refl
+
+width_back : (w : ℕ) (rest : List ℕ) → w ≤ 255 → follows rest ≡ true → width_in (width_text w ++ rest) ≡ Ok (w, rest)
+width_back w rest fits f = elim (cases_Bool (nat_lt w 10)) [
+  | inl small ↦
+      let text : width_text w ≡ (48 + w) ∷ [] = rw small refl in
+      ap (λ (t : List ℕ). width_in (t ++ rest)) text ∙ one_digit w rest (grind (arith, nat_tests)) f
+  | inr large ↦ elim (cases_Bool (nat_lt w 100)) [
+    | inl small ↦
+        let text : width_text w ≡ (48 + w / 10) ∷ (48 + w % 10) ∷ [] = rw (large, small) refl in
+        let bound : w < 100 = grind (arith, nat_tests) in
+        let value : 10 * (w / 10) + w % 10 ≡ w = omega arith in
+        ap (λ (t : List ℕ). width_in (t ++ rest)) text ∙ (two_digits (w / 10) (w % 10) rest (omega arith) (omega arith) f ∙ ap (λ (n : ℕ). Ok (n, rest)) value)
+    | inr larger ↦
+        let text : width_text w ≡ (48 + w / 100) ∷ (48 + w / 10 % 10) ∷ (48 + w % 10) ∷ [] = rw (large, larger) refl in
+        let value : 10 * (10 * (w / 100) + w / 10 % 10) + w % 10 ≡ w = omega arith in
+        ap (λ (t : List ℕ). width_in (t ++ rest)) text ∙ (three_digits (w / 100) (w / 10 % 10) (w % 10) rest (omega arith) (omega arith) (omega arith) (omega arith) f ∙ ap (λ (n : ℕ). Ok (n, rest)) value)
+  ]
+]
+
+-- ---- children
+plain_is : (s : Shape) → is_plain s ≡ true → s ≡ Plain
+plain_is Plain h = refl
+plain_is Primitive h = cc
+plain_is Constant h = cc
+plain_is (BitPacked packing) h = cc
+plain_is (FoR a) h = cc
+plain_is (FoRChunked a b) h = cc
+plain_is (Delta a b) h = cc
+plain_is (RLE a b c) h = cc
+
+-- a reader of schemes, and what it says of a text that begins with a shape's
+abbrev Reader : Type 0
+Reader = List ℕ → Result (Shape × List ℕ) ℕ
+
+child_from : (s : Shape) (read : Reader) (rest : List ℕ) → (is_plain s ≡ false → read (scheme_text s ++ rest) ≡ Ok (s, rest)) → child_by read (scheme_text s ++ rest) ≡ Ok (s, rest)
+child_from Plain read rest h = refl
+child_from Primitive read rest h = h refl
+child_from Constant read rest h = h refl
+child_from (BitPacked BestWidth) read rest h = h refl
+child_from (BitPacked (Width w)) read rest h = h refl
+child_from (BitPacked BestWidths) read rest h = h refl
+child_from (FoR a) read rest h = h refl
+child_from (FoRChunked a b) read rest h = h refl
+child_from (Delta a b) read rest h = h refl
+child_from (RLE a b c) read rest h = h refl
+
+-- a child is read wherever it stands
+abbrev Back : Reader → Shape → Type 0
+Back read s = (more : List ℕ) → follows more ≡ true → child_by read (scheme_text s ++ more) ≡ Ok (s, more)
+
+no_children : (rest : List ℕ) → follows rest ≡ true → tail_behind 40 rest ≡ None
+no_children rest f = no_tail 40 rest refl refl f
+
+one_back : (a : Shape) (read : Reader) (rest : List ℕ) → follows rest ≡ true → Back read a → one_by read (in_parentheses (is_plain a) (scheme_text a) ++ rest) ≡ Ok (a, rest)
+one_back a read rest f back = elim (cases_Bool (is_plain a)) [
+  | inl plain ↦ rw (plain_is a plain, no_children rest f) refl
+  | inr other ↦
+      let inner : child_by read ((scheme_text a ++ 41 ∷ []) ++ rest) ≡ Ok (a, 41 ∷ rest) = ap (child_by read) (append_assoc (scheme_text a) (41 ∷ []) rest) ∙ back (41 ∷ rest) refl in
+      ap (λ (b : Bool). one_by read (in_parentheses b (scheme_text a) ++ rest)) other ∙ ap (λ o. after o (λ x. after (expected 41 x.1) (λ more. Ok (x.0, more)))) inner
+]
+
+two_back : (a b : Shape) (read : Reader) (rest : List ℕ) → follows rest ≡ true → Back read a → Back read b → two_by read (in_parentheses (is_plain a && is_plain b) (scheme_text a ++ (codes "," ++ scheme_text b)) ++ rest) ≡ Ok (a, b, rest)
+two_back a b read rest f backa backb = elim (cases_Bool (is_plain a && is_plain b)) [
+  | inl plain ↦ rw (plain_is a (and_first (is_plain a) (is_plain b) plain), plain_is b (and_second (is_plain a) (is_plain b) plain), no_children rest f) refl
+  | inr other ↦
+      let text = scheme_text a ++ 44 ∷ scheme_text b in
+      let whole_text : (text ++ 41 ∷ []) ++ rest ≡ scheme_text a ++ 44 ∷ (scheme_text b ++ 41 ∷ rest) = append_assoc text (41 ∷ []) rest ∙ append_assoc (scheme_text a) (44 ∷ scheme_text b) (41 ∷ rest) in
+      let first : child_by read ((text ++ 41 ∷ []) ++ rest) ≡ Ok (a, 44 ∷ (scheme_text b ++ 41 ∷ rest)) = ap (child_by read) whole_text ∙ backa (44 ∷ (scheme_text b ++ 41 ∷ rest)) refl in
+      ap (λ (c : Bool). two_by read (in_parentheses c text ++ rest)) other
+      ∙ (ap (λ o. after o (λ x. after (expected 44 x.1) (λ more. after (child_by read more) (λ y. after (expected 41 y.1) (λ last. Ok (x.0, y.0, last)))))) first
+      ∙ ap (λ o. after o (λ y. after (expected 41 y.1) (λ last. Ok (a, y.0, last)))) (backb (41 ∷ rest) refl))
+]
+
+three_back : (a b c : Shape) (read : Reader) (rest : List ℕ) → follows rest ≡ true → Back read a → Back read b → Back read c
+    → three_by read (in_parentheses (is_plain a && (is_plain b && is_plain c)) (scheme_text a ++ (codes "," ++ (scheme_text b ++ (codes "," ++ scheme_text c)))) ++ rest) ≡ Ok (a, b, c, rest)
+three_back a b c read rest f backa backb backc = elim (cases_Bool (is_plain a && (is_plain b && is_plain c))) [
+  | inl plain ↦
+      let others = and_second (is_plain a) (is_plain b && is_plain c) plain in
+      rw (plain_is a (and_first (is_plain a) (is_plain b && is_plain c) plain), plain_is b (and_first (is_plain b) (is_plain c) others), plain_is c (and_second (is_plain b) (is_plain c) others), no_children rest f) refl
+  | inr other ↦
+      let text = scheme_text a ++ 44 ∷ (scheme_text b ++ 44 ∷ scheme_text c) in
+      let last : (scheme_text b ++ 44 ∷ scheme_text c) ++ 41 ∷ rest ≡ scheme_text b ++ 44 ∷ (scheme_text c ++ 41 ∷ rest) = append_assoc (scheme_text b) (44 ∷ scheme_text c) (41 ∷ rest) in
+      let whole_text : (text ++ 41 ∷ []) ++ rest ≡ scheme_text a ++ 44 ∷ (scheme_text b ++ 44 ∷ (scheme_text c ++ 41 ∷ rest)) =
+      append_assoc text (41 ∷ []) rest ∙ (append_assoc (scheme_text a) (44 ∷ (scheme_text b ++ 44 ∷ scheme_text c)) (41 ∷ rest) ∙ ap (λ (t : List ℕ). scheme_text a ++ 44 ∷ t) last) in
+      let first : child_by read ((text ++ 41 ∷ []) ++ rest) ≡ Ok (a, 44 ∷ (scheme_text b ++ 44 ∷ (scheme_text c ++ 41 ∷ rest))) = ap (child_by read) whole_text ∙ backa (44 ∷ (scheme_text b ++ 44 ∷ (scheme_text c ++ 41 ∷ rest))) refl in
+      ap (λ (d : Bool). three_by read (in_parentheses d text ++ rest)) other
+      ∙ (ap (λ o. after o (λ x. after (expected 44 x.1) (λ more. after (child_by read more) (λ y. after (expected 44 y.1) (λ third. after (child_by read third) (λ z. after (expected 41 z.1) (λ tail. Ok (x.0, y.0, z.0, tail)))))))) first
+      ∙ (ap (λ o. after o (λ y. after (expected 44 y.1) (λ third. after (child_by read third) (λ z. after (expected 41 z.1) (λ tail. Ok (a, y.0, z.0, tail)))))) (backb (44 ∷ (scheme_text c ++ 41 ∷ rest)) refl)
+      ∙ ap (λ o. after o (λ z. after (expected 41 z.1) (λ tail. Ok (a, b, z.0, tail)))) (backc (41 ∷ rest) refl)))
+]
+
+-- ---- schemes
+abbrev height : Shape → ℕ
+height Plain = 0
+height Primitive = 0
+height Constant = 0
+height (BitPacked packing) = 0
+height (FoR a) = height a + 1
+height (FoRChunked a b) = height a + height b + 1
+height (Delta a b) = height a + height b + 1
+height (RLE a b c) = height a + (height b + height c) + 1
+
+no_c : (all : Bool) (text rest : List ℕ) → follows rest ≡ true → rest_behind (99 ∷ []) (in_parentheses all text ++ rest) ≡ None
+no_c true text rest f = no_letter rest f
+no_c false text rest f = refl
+
+for_head : (more : List ℕ) → rest_behind (99 ∷ []) more ≡ None → head_in (102 ∷ 111 ∷ 114 ∷ more) ≡ Ok (heads.FoR, more)
+for_head more h = ap (λ (o : Option (List ℕ)). option_map_or (λ (rest : List ℕ). Ok (heads.FoRChunked, rest)) o (Ok (heads.FoR, more))) h
+
+-- what a word and its children say, and the width behind a colon
+abbrev headed : ℕ → Result (Head × List ℕ) ℕ → Result (Shape × List ℕ) ℕ
+headed n o = after o (λ x. scheme_by (scheme_in n) x.0 x.1)
+
+abbrev widened : Result (ℕ × List ℕ) ℕ → Result (Packing × List ℕ) ℕ
+widened o = after o (λ x. Ok (Width x.0, x.1))
+
+pub reads : (s : Shape) (n : ℕ) (rest : List ℕ) → is_plain s ≡ false → has_widths s ≡ true → height s < n → follows rest ≡ true → scheme_in n (scheme_text s ++ rest) ≡ Ok (s, rest)
+reads Plain n rest p w h f = cc
+reads Primitive zero rest p w h f = absurd (omega arith)
+reads Primitive (suc n) rest p w h f = refl
+reads Constant zero rest p w h f = absurd (omega arith)
+reads Constant (suc n) rest p w h f = refl
+reads (BitPacked packing) zero rest p w h f = absurd (omega arith)
+reads (BitPacked BestWidth) (suc n) rest p w h f =
+    let packed : packing_behind rest ≡ Ok (BestWidth, rest) = ap (λ (o : Option (List ℕ)). option_map_or (λ digits. after (width_in digits) (λ x. Ok (Width x.0, x.1))) o (Ok (BestWidth, rest))) (no_tail 58 rest refl refl f) in
+    ap (λ (o : Result (Packing × List ℕ) ℕ). headed n (after o (λ q. Ok (heads.BitPacked q.0, q.1)))) packed
+reads (BitPacked (Width width)) (suc n) rest p w h f =
+    let fits : width ≤ 255 = grind (arith, nat_tests) in
+    ap (λ (o : Result (ℕ × List ℕ) ℕ). headed n (after (widened o) (λ q. Ok (heads.BitPacked q.0, q.1)))) (width_back width rest fits f)
+reads (BitPacked BestWidths) (suc n) rest p w h f = refl
+reads (FoR a) zero rest p w h f = absurd (omega arith)
+reads (FoR a) (suc n) rest p w h f =
+    let back = one_back a (scheme_in n) rest f (λ more g. child_from a (scheme_in n) more (λ q. reads a n more q w (omega arith) g)) in
+    let behind = in_parentheses (is_plain a) (scheme_text a) ++ rest in
+    ap (headed n) (for_head behind (no_c (is_plain a) (scheme_text a) rest f)) ∙ ap (λ (o : Result (Shape × List ℕ) ℕ). after o (λ x. Ok (FoR x.0, x.1))) back
+reads (FoRChunked a b) zero rest p w h f = absurd (omega arith)
+reads (FoRChunked a b) (suc n) rest p w h f =
+    let wa = and_first (has_widths a) (has_widths b) w in
+    let wb = and_second (has_widths a) (has_widths b) w in
+    let back = two_back a b (scheme_in n) rest f (λ more g. child_from a (scheme_in n) more (λ q. reads a n more q wa (omega arith) g)) (λ more g. child_from b (scheme_in n) more (λ q. reads b n more q wb (omega arith) g)) in
+    ap (λ (o : Result (Shape × Shape × List ℕ) ℕ). after o (λ x. Ok (FoRChunked x.0 x.1, x.2))) back
+reads (Delta a b) zero rest p w h f = absurd (omega arith)
+reads (Delta a b) (suc n) rest p w h f =
+    let wa = and_first (has_widths a) (has_widths b) w in
+    let wb = and_second (has_widths a) (has_widths b) w in
+    let back = two_back a b (scheme_in n) rest f (λ more g. child_from a (scheme_in n) more (λ q. reads a n more q wa (omega arith) g)) (λ more g. child_from b (scheme_in n) more (λ q. reads b n more q wb (omega arith) g)) in
+    ap (λ (o : Result (Shape × Shape × List ℕ) ℕ). after o (λ x. Ok (Delta x.0 x.1, x.2))) back
+reads (RLE a b c) zero rest p w h f = absurd (omega arith)
+reads (RLE a b c) (suc n) rest p w h f =
+    let wa = and_first (has_widths a) (has_widths b && has_widths c) w in
+    let others = and_second (has_widths a) (has_widths b && has_widths c) w in
+    let wb = and_first (has_widths b) (has_widths c) others in
+    let wc = and_second (has_widths b) (has_widths c) others in
+    let back = three_back a b c (scheme_in n) rest f (λ more g. child_from a (scheme_in n) more (λ q. reads a n more q wa (omega arith) g)) (λ more g. child_from b (scheme_in n) more (λ q. reads b n more q wb (omega arith) g)) (λ more g. child_from c (scheme_in n) more (λ q. reads c n more q wc (omega arith) g)) in
+    ap (λ (o : Result (Shape × Shape × Shape × List ℕ) ℕ). after o (λ x. Ok (RLE x.0 x.1 x.2, x.3))) back
+
+-- a text is longer than its scheme is deep
+enclosed : (n : ℕ) (all : Bool) (text : List ℕ) → n < length text → (all ≡ true → n ≡ 0) → n < length (in_parentheses all text) + 1
+enclosed n true text h none = let same : n ≡ 0 = none refl in omega arith
+enclosed n false text h none = let long : length (text ++ 41 ∷ []) ≡ length text + 1 = length-append text (41 ∷ []) in omega arith
+
+both_tall : (a b : Shape) → height a < length (scheme_text a) → height b < length (scheme_text b) → height a + height b < length (in_parentheses (is_plain a && is_plain b) (scheme_text a ++ 44 ∷ scheme_text b)) + 1
+both_tall a b h k =
+    let long : length (scheme_text a ++ 44 ∷ scheme_text b) ≡ length (scheme_text a) + length (44 ∷ scheme_text b) = length-append (scheme_text a) (44 ∷ scheme_text b) in
+    enclosed (height a + height b) (is_plain a && is_plain b) (scheme_text a ++ 44 ∷ scheme_text b) (omega arith) (λ all.
+    let first : height a ≡ 0 = ap height (plain_is a (and_first (is_plain a) (is_plain b) all)) in
+    let second : height b ≡ 0 = ap height (plain_is b (and_second (is_plain a) (is_plain b) all)) in
+    omega arith)
+
+all_tall : (a b c : Shape) → height a < length (scheme_text a) → height b < length (scheme_text b) → height c < length (scheme_text c)
+    → height a + (height b + height c) < length (in_parentheses (is_plain a && (is_plain b && is_plain c)) (scheme_text a ++ 44 ∷ (scheme_text b ++ 44 ∷ scheme_text c))) + 1
+all_tall a b c h k l =
+    let inner : length (scheme_text b ++ 44 ∷ scheme_text c) ≡ length (scheme_text b) + length (44 ∷ scheme_text c) = length-append (scheme_text b) (44 ∷ scheme_text c) in
+    let long : length (scheme_text a ++ 44 ∷ (scheme_text b ++ 44 ∷ scheme_text c)) ≡ length (scheme_text a) + length (44 ∷ (scheme_text b ++ 44 ∷ scheme_text c)) = length-append (scheme_text a) (44 ∷ (scheme_text b ++ 44 ∷ scheme_text c)) in
+    enclosed (height a + (height b + height c)) (is_plain a && (is_plain b && is_plain c)) (scheme_text a ++ 44 ∷ (scheme_text b ++ 44 ∷ scheme_text c)) (omega arith) (λ all.
+    let others = and_second (is_plain a) (is_plain b && is_plain c) all in
+    let first : height a ≡ 0 = ap height (plain_is a (and_first (is_plain a) (is_plain b && is_plain c) all)) in
+    let second : height b ≡ 0 = ap height (plain_is b (and_first (is_plain b) (is_plain c) others)) in
+    let third : height c ≡ 0 = ap height (plain_is c (and_second (is_plain b) (is_plain c) others)) in
+    omega arith)
+
+tall : (s : Shape) → height s < length (scheme_text s)
+tall Plain = omega arith
+tall Primitive = omega arith
+tall Constant = omega arith
+tall (BitPacked BestWidth) = omega arith
+tall (BitPacked (Width width)) = omega arith
+tall (BitPacked BestWidths) = omega arith
+tall (FoR a) = let inner = enclosed (height a) (is_plain a) (scheme_text a) (tall a) (λ h. ap height (plain_is a h)) in omega arith
+tall (FoRChunked a b) = let inner = both_tall a b (tall a) (tall b) in omega arith
+tall (Delta a b) = let inner = both_tall a b (tall a) (tall b) in omega arith
+tall (RLE a b c) = let inner = all_tall a b c (tall a) (tall b) (tall c) in omega arith
+
+pub printed_is_read : (s : Shape) → is_plain s ≡ false → has_widths s ≡ true → scheme_of_text (scheme_text s) ≡ Ok s
+printed_is_read s p w =
+    let text = scheme_text s in
+    let read : scheme_in (length text) text ≡ Ok (s, []) = ap (scheme_in (length text)) (sym (append-nil text)) ∙ reads s (length text) [] p w (tall s) refl in
+    ap (λ (o : Result (Shape × List ℕ) ℕ). positioned (length text) (after o whole)) read
+
+-- ---- reading
+pub next_scheme : {X : Type 0} (view : X → Shape × List ℕ) (r : Result X Stop) (depth : ℕ) (text rest : List ℕ) (head : Head) → (depth ≡ 0 → ⊥) → head_in text ≡ Ok (head, rest) → Finds view r (scheme_by (scheme_in (depth - 1)) head rest) → Finds view r (scheme_in depth text)
+next_scheme view r zero text rest head some h f = absurd (some refl)
+next_scheme view r (suc n) text rest head some h f =
+    let same : suc n - 1 ≡ n = omega arith in
+    let here = subst (λ (m : ℕ). Finds view r (scheme_by (scheme_in m) head rest)) same f in
+    subst (λ (o : Result (Shape × List ℕ) ℕ). Finds view r o) (sym (ap (headed n) h)) here
+
+-- ---- printing
+shape_some : (s : Scheme) → is_plain (shape s) ≡ false
+shape_some schemes.Primitive = refl
+shape_some schemes.Constant = refl
+shape_some (schemes.BitPacked packing) = refl
+shape_some (schemes.FoR' a) = refl
+shape_some (schemes.FoRChunked' a b) = refl
+shape_some (schemes.Delta' a b) = refl
+shape_some (schemes.RLE' a b c) = refl
+
+-- the same of a scheme
+pub scheme_is_read : (s : Scheme) → has_widths (shape s) ≡ true → scheme_of_text (scheme_text (shape s)) ≡ Ok (shape s)
+scheme_is_read s w = printed_is_read (shape s) (shape_some s) w
+
+pub plain_child : (o : Option (Box Scheme Global)) (none : Bool) → is_some o ≡ not none → none ≡ is_plain (child_shape (child_scheme o))
+plain_child None true h = refl
+plain_child None false h = cc
+plain_child (Some b) true h = cc
+plain_child (Some b) false h = sym (shape_some b.value)
+
+pub one_printed : (old a : List ℕ) (all : Bool) → all ≡ false → ((old ++ 40 ∷ []) ++ a) ++ 41 ∷ [] ≡ old ++ in_parentheses all a
+one_printed old a all h = rw h (append_assoc (old ++ 40 ∷ []) a (41 ∷ []) ∙ append_assoc old (40 ∷ []) (a ++ 41 ∷ []))
+
+pub two_printed : (old a b : List ℕ) (all : Bool) → all ≡ false → ((((old ++ 40 ∷ []) ++ a) ++ 44 ∷ []) ++ b) ++ 41 ∷ [] ≡ old ++ in_parentheses all (a ++ (codes "," ++ b))
+two_printed old a b all h =
+    let inner : (((old ++ 40 ∷ []) ++ a) ++ 44 ∷ []) ++ b ≡ (old ++ 40 ∷ []) ++ (a ++ 44 ∷ b) = append_assoc ((old ++ 40 ∷ []) ++ a) (44 ∷ []) b ∙ append_assoc (old ++ 40 ∷ []) a (44 ∷ b) in
+    ap (λ (t : List ℕ). t ++ 41 ∷ []) inner ∙ one_printed old (a ++ 44 ∷ b) all h
+
+pub three_printed : (old a b c : List ℕ) (all : Bool) → all ≡ false → ((((((old ++ 40 ∷ []) ++ a) ++ 44 ∷ []) ++ b) ++ 44 ∷ []) ++ c) ++ 41 ∷ [] ≡ old ++ in_parentheses all (a ++ (codes "," ++ (b ++ (codes "," ++ c))))
+three_printed old a b c all h =
+    let first = ((old ++ 40 ∷ []) ++ a) ++ 44 ∷ [] in
+    let inner : ((first ++ b) ++ 44 ∷ []) ++ c ≡ first ++ (b ++ 44 ∷ c) = append_assoc (first ++ b) (44 ∷ []) c ∙ append_assoc first b (44 ∷ c) in
+    ap (λ (t : List ℕ). t ++ 41 ∷ []) inner ∙ two_printed old a (b ++ 44 ∷ c) all h

@@ -1,0 +1,71 @@
+//! What holds of every scheme.
+
+ghost use Rattle.std.specs.Prelude.{◌≡◌, Ok, true};
+ghost use Rattle.fl_encode.specs.declared.scheme.Scheme.{back-Scheme-FoR-0 as child_scheme};
+ghost use Rattle.fl_encode.specs.Shapes.{child_shape, scheme_text, shape};
+ghost use Rattle.fl_encode.specs.Shapes as shapes;
+ghost use Rattle.fl_encode.specs.Texts.{has_widths, scheme_of_text};
+
+use crate::scheme::{Packing, Scheme};
+
+/// Each width of a child's scheme is at most 255.
+#[cycle(widths)]
+fn prove_child_widths(child: &Option<Box<Scheme>>)
+    ensures { has_widths (child_shape (child_scheme child.now)) ≡ true }
+{
+    match child {
+        None => (),
+        Some(scheme) => prove_widths(scheme),
+    }
+}
+
+/// Each width of a scheme is at most 255.
+#[cycle(widths)]
+fn prove_widths(scheme: &Scheme)
+    ensures { has_widths (shape scheme.now) ≡ true }
+{
+    match scheme {
+        Scheme::Primitive | Scheme::Constant => (),
+        Scheme::BitPacked(packing) => prove_width(*packing),
+        Scheme::FoR { encoded } => prove_child_widths(encoded),
+        Scheme::FoRChunked {
+            encoded,
+            references,
+        } => {
+            prove_child_widths(encoded);
+            prove_child_widths(references);
+        }
+        Scheme::Delta { bases, deltas } => {
+            prove_child_widths(bases);
+            prove_child_widths(deltas);
+        }
+        Scheme::RLE {
+            values,
+            indices,
+            offsets,
+        } => {
+            prove_child_widths(values);
+            prove_child_widths(indices);
+            prove_child_widths(offsets);
+        }
+    }
+}
+
+/// The width of a packing is at most 255.
+fn prove_width(packing: Packing)
+    ensures { has_widths (shapes.BitPacked packing) ≡ true }
+{
+    match packing {
+        Packing::Width(width) => {
+            let _ = width;
+        }
+        Packing::BestWidth | Packing::BestWidths => (),
+    }
+}
+
+/// The text of a scheme is read as that scheme.
+pub fn printed_is_read(scheme: &Scheme)
+    ensures { scheme_of_text (scheme_text (shape scheme.now)) ≡ Ok (shape scheme.now) }
+{
+    prove_widths(scheme);
+}
