@@ -48,34 +48,28 @@ fn times(alloc: Global) -> Result<PrimitiveArray, FastLanesError> {
 }
 
 /// Whether of four times those before the second block, and no others, are before its first one.
-fn is_found(alloc: Global) -> Result<bool, FastLanesError> {
-    let limit = Scalar::Integer(PValue::U32(1_700_001_024), Nullability::NonNullable);
-    let times = times(alloc)?;
-    let (part, before) = part_and_comparison(
-        alloc,
-        &times,
-        1022,
-        1026,
-        CompareOperator::Lt,
-        &limit,
-    )?;
-    let wanted = [
-        1_700_001_022u32,
-        1_700_001_023,
-        1_700_001_024,
-        1_700_001_025,
-    ];
-    let bits = before.bits();
-    Ok(
-        part.as_slice::<u32>() == wanted.as_slice()
-            && bits.get(0)
-            && bits.get(1)
-            && !bits.get(2)
-            && !bits.get(3),
-    )
+fn is_found(times: &PrimitiveArray, alloc: Global) -> Option<bool> {
+    let DType::Primitive(PType::U32, _) = times.dtype() else {
+        return None;
+    };
+    if times.len() < 1026 {
+        return None;
+    }
+    let limit = Scalar::primitive(PValue::U32(1_700_001_024), Nullability::NonNullable);
+    match part_and_comparison(alloc, times, 1022, 1026, CompareOperator::Lt, &limit) {
+        Ok((part, before)) if part.len() == 4 && before.len() == 4 => Some(
+            before.get(0)? && before.get(1)? && !before.get(2)? && !before.get(3)?,
+        ),
+        _ => None,
+    }
 }
 
 #[test]
 fn part_is_found(rt: HostRuntime) {
-    assert!(rt; is_found(rt.alloc()) == Ok(true));
+    let alloc = rt.alloc();
+    let found = match times(alloc) {
+        Ok(times) => is_found(&times, alloc),
+        Err(_) => None,
+    };
+    assert!(rt; found == Some(true));
 }
