@@ -25,6 +25,9 @@ pub enum SchemeError {
 /// The scheme that a text says. The words are `primitive`, `constant`, `bitpacked`, `bitpacked:7` (a width up to
 /// 255), `blocked`, `for`, `forc`, `delta` and `rle`.
 ///
+/// It calls itself once for each level, and no depth is refused: a text from a stranger is to be short, since one of
+/// very many levels may exhaust the stack.
+///
 /// # Errors
 /// `WrongByte` with the position of the first byte that is wrong; `OutOfMemory`.
 pub fn parse(alloc: Global, text: &[u8]) -> Result<Scheme, SchemeError>

@@ -6,6 +6,7 @@
 mod arrays;
 #[cfg(test)]
 mod encoded;
-pub mod packing;
+#[cfg(test)]
+mod packing;
 pub mod proved;
 pub mod readme;

@@ -6,7 +6,7 @@ use vortex_fastlanes::unpack_iter::*;
 use vortex_fastlanes::*;
 
 /// Packs numbers at their best width, with patches for those that have more bits, and reads them back.
-pub fn packed_and_back(alloc: Global, numbers: Vec<u32>) -> Result<Vec<u32>, FastLanesError> {
+fn packed_and_back(alloc: Global, numbers: Vec<u32>) -> Result<Vec<u32>, FastLanesError> {
     let array = PrimitiveArray::new(numbers, Validity::NonNullable)?;
     let histogram = bit_width_histogram(alloc, &array)?;
     let width = find_best_bit_width(PType::U32, &histogram)?;
