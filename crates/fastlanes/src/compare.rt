@@ -388,7 +388,7 @@ fn words_of_bytes(bytes: &[u8; 128], words: &mut [u64; 16])
     }
 }
 
-/// Compares each item of a packed block with `rhs`: bit `l * T + r` becomes the answer of `cmp` for the item at row `r` of lane `l`.
+/// Compares each item of a packed block with `rhs`: bit `l * T + r` of the output is the answer of `cmp` for the item at row `r` of lane `l`.
 ///
 /// `transpose_bits` moves the bits into the order of the items.
 pub fn unpack_cmp<W: FastLanes, F: Fn(W, W) -> bool + Drop>(
@@ -414,7 +414,7 @@ pub fn unpack_cmp<W: FastLanes, F: Fn(W, W) -> bool + Drop>(
     words_of_bytes(&bytes, bits);
 }
 
-/// The same of a block that is kept as its `128 * width` bytes.
+/// The same for a block that is stored as its `128 * width` bytes.
 pub fn unpack_cmp_bytes<W: FastLanes, F: Fn(W, W) -> bool + Drop>(
     width: usize,
     packed: &[u8],

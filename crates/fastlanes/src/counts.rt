@@ -6,9 +6,9 @@ ghost use Rattle.fastlanes.specs.Counts.{Counts};
 
 use std::marker::Model;
 
-/// The number of blocks that kernels unpacked whole, and of packed words that they read outside whole blocks.
+/// The number of blocks that kernels unpacked whole, and the number of packed words that they read besides.
 ///
-/// Both start at 0 and stay at `u64::MAX` once they reach it. Only this crate adds to them.
+/// Both start at 0, and stay at `u64::MAX` once they reach it. Only this crate adds to them.
 #[derive(Debug, Drop)]
 pub struct Work {
     blocks: u64,
@@ -22,7 +22,7 @@ impl Model for Work {
 }
 
 impl Work {
-    /// No block and no word yet.
+    /// Counts of 0.
     pub fn new() -> Self
         ensures { result ≡ record { blocks = 0; words = 0 } }
     {
@@ -39,7 +39,7 @@ impl Work {
         self.blocks
     }
 
-    /// The number of packed words that kernels read outside whole blocks.
+    /// The number of packed words that kernels read besides whole blocks.
     pub fn words(&self) -> u64
         ensures { result ≡ self.now.words }
     {

@@ -1,4 +1,4 @@
-//! What holds of every word type and every block: each law is the contract of a small function.
+//! Laws of every word type and every block: each is the contract of a small function.
 #![tactic(auto)]
 
 pub mod kernels;
@@ -9,7 +9,7 @@ ghost use Rattle.fastlanes.specs.Layout.{place, row_of, lane_of, segment, segmen
 
 use crate::words::FastLanes;
 
-/// Reading a word that was written returns it, and the other words stay.
+/// Reading a word that was written returns it, and the other words are unchanged.
 pub fn put_then_read<W: FastLanes>(word: W, bytes: &mut [u8], k: usize) -> W
     requires { (k + 1) * (W.T / 8) ≤ length bytes.old }
     ensures read { result ≡ word }
@@ -20,8 +20,8 @@ pub fn put_then_read<W: FastLanes>(word: W, bytes: &mut [u8], k: usize) -> W
     W::word(bytes, k)
 }
 
-/// The sum and the difference of two words, which undo each other: a sum of patterns less its second
-/// one, and a difference of patterns plus its second one, is the first one modulo 2 to the number of
+/// The sum and the difference of two words, which undo each other: a sum of patterns minus the second
+/// one, and a difference of patterns plus the second one, is the first one modulo 2 to the number of
 /// bits.
 pub fn sum_and_difference<W: FastLanes>(x: W, y: W) -> (W, W)
     ensures sum { W.pattern result.0 ≡ (W.pattern x + W.pattern y) % 2 ^ W.T }
@@ -32,19 +32,19 @@ pub fn sum_and_difference<W: FastLanes>(x: W, y: W) -> (W, W)
     (x.wrapping_sum(y), x.wrapping_difference(y))
 }
 
-/// Rows and lanes name the positions of a block, each once.
+/// Rows and lanes map one to one onto the positions of a block.
 pub fn places<W: FastLanes>()
     ensures each { (i : ℕ) → i < 1024 → (place (row_of W.LANES i) (lane_of W.LANES i) ≡ i) × (row_of W.LANES i < W.T) × (lane_of W.LANES i < W.LANES) }
     ensures once { (r l : ℕ) → r < W.T → l < W.LANES → (row_of W.LANES (place r l) ≡ r) × (lane_of W.LANES (place r l) ≡ l) × (place r l < 1024) }
 {}
 
-/// The lanes' segments name the positions of a block, each once.
+/// The lanes' segments contain each position of a block exactly once.
 pub fn segments<W: FastLanes>()
     ensures each { (i : ℕ) → i < 1024 → (segment (segment_lane W.T i) + segment_row W.T i ≡ i) × (segment_row W.T i < W.T) × (segment_lane W.T i < W.LANES) }
     ensures once { (r l : ℕ) → r < W.T → l < W.LANES → (segment_row W.T (segment l + r) ≡ r) × (segment_lane W.T (segment l + r) ≡ l) × (segment l + r < 1024) }
 {}
 
-/// Whatever the words of a block are, they are the packing of some items.
+/// Any words are the packing of some items.
 pub fn items_exist<W: FastLanes>(width: usize)
     requires { width ≤ W.T }
     ensures { (word : ℕ → ℕ) → Packed W.T W.LANES width (unpacked_item W.T W.LANES width word) word }

@@ -1,4 +1,4 @@
-//! The positions in a block of 1024 items: where the item at a row of a lane stands.
+//! The positions in a block of 1024 items: where the item at a row of a lane is.
 //!
 //! The order of the rows is that of FastLanes (Afroozeh and Boncz, "The FastLanes Compression
 //! Layout", VLDB 2023).

@@ -1,6 +1,6 @@
 //! Kernels on blocks of 1024 items in the FastLanes layout. They allocate nothing.
 //!
-//! `docs/LAYOUT.md` draws the layout.
+//! `docs/LAYOUT.md` describes the layout.
 #![tactic(auto)]
 
 pub mod bit_transpose;

@@ -1,5 +1,5 @@
-//! Facts for the proofs of callers. These functions do nothing of use when they run: the contract of
-//! each says what holds of its arguments, and a call brings that into its caller's proof.
+//! Facts for the proofs of callers. These functions have no effect: the contract of each states a fact
+//! about its arguments, and a call brings that fact into the caller's proof.
 #![tactic(auto)]
 
 ghost use Rattle.std.specs.Prelude.{◌≡◌, ℕ, ◌^◌, ◌<◌, ◌≤◌, length, slice_index};

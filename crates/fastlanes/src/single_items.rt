@@ -43,9 +43,9 @@ fn word_of_bytes<W: FastLanes>(width: usize, bytes: &[u8], k: usize, l: usize, w
     word
 }
 
-/// The item at `index` of a packed block of `128 * width` bytes, read without its neighbours.
+/// The item at `index` of a packed block of `128 * width` bytes, read by itself.
 ///
-/// It reads each word that holds a bit of the item once, so at most two, and none at width 0.
+/// It reads each word that holds a bit of the item once: at most two, and none at width 0.
 pub fn unpack_single<W: FastLanes>(width: usize, bytes: &[u8], index: usize, work: &mut Work) -> W
     requires width { width ≤ W.T }
     requires block { length bytes.now ≡ 128 * width }
@@ -116,7 +116,7 @@ fn item_of_words<W: FastLanes>(width: usize, words: &[W], index: usize, work: &m
     }
 }
 
-/// The items at these positions of a packed block, of which each may be named more than once.
+/// The items at these positions of a packed block. A position may occur more than once.
 ///
 /// For each it reads the words that hold its bits: at most two, and none at width 0.
 pub fn unpack_indices<W: FastLanes>(

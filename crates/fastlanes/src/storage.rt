@@ -1,4 +1,4 @@
-//! How the words of a packed block are kept.
+//! How the words of a packed block are stored.
 
 ghost use Rattle.std.specs.Prelude.{◌≡◌, ◌⊎◌, ℕ, ◌+◌, ◌/◌, ◌^◌, ◌<◌, ◌≤◌, length};
 ghost use Rattle.fastlanes.specs.Layout.{pattern_at, word_at};
@@ -13,7 +13,7 @@ pub(crate) trait Storage<W: FastLanes> {
     /// The element of the slice that the words are kept in.
     type Unit;
 
-    /// How many words a slice of this length holds.
+    /// The number of words in a slice of this length.
     ghost count: { ℕ → ℕ };
 
     /// The pattern of a word.

@@ -397,7 +397,7 @@ pub(crate) fn unpack_block<W: FastLanes, S: Storage<W>, const ADDS_REFERENCE: bo
     prove_whole_block(items);
 }
 
-/// Unpacks a block: writes the item at each position, its bits from `width` on 0.
+/// Unpacks a block: writes the item at each position, with its bits from `width` on 0.
 pub fn unpack<W: FastLanes>(
     width: usize,
     words: &[W],
@@ -434,7 +434,7 @@ pub fn unfor_pack<W: FastLanes>(
     unpack_block::<W, AsWords, true>(width, words, reference, items);
 }
 
-/// Unpacks a block of bytes: writes the item at each position, its bits from `width` on 0.
+/// Unpacks a block of bytes: writes the item at each position, with its bits from `width` on 0.
 ///
 /// The bytes are those of the block's words, the low byte of each first.
 pub fn unpack_bytes<W: FastLanes>(

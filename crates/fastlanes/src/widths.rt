@@ -1,4 +1,4 @@
-//! Where a row's bits stand, and a kernel for each width.
+//! Where a row's bits are, and a kernel for each width.
 #![tactic(auto)]
 
 ghost use Rattle.std.specs.Prelude.{◌≡◌, ◌+◌, ◌-◌, ◌*◌, ◌/◌, ◌%◌, ◌^◌, ◌<◌, ◌≤◌};

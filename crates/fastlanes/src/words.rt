@@ -21,7 +21,7 @@ pub trait FastLanes: Copy {
 
     ghost LANES: { ℕ };
 
-    /// The pattern of a word: the number that it stands for.
+    /// The pattern of a word: its number.
     ghost pattern: { Self → ℕ };
 
     /// Word `k` of these bytes, the low byte first.

@@ -1,5 +1,5 @@
 -- Comparisons of bit-packed arrays, by tests that answer alike.
-use Rattle.std.proofs.Common.{◌≡◌, ℕ, ℤ, ◌+◌, ◌≤◌, Bool, min, Result, Ok, refl, ap, sym, ◌∙◌, arith}
+use Rattle.std.proofs.Common.{◌≡◌, ℕ, ℤ, ◌+◌, ◌≤◌, Bool, min, Result, Ok, refl, ap, sym, subst, ◌∙◌, arith}
 use Rattle.fl_column.specs.Columns.{BoolParts, Column, column_of_bools, numbers_of}
 use Rattle.fl_column.specs.Questions.{tested}
 use Rattle.fl_types.specs.declared.error.FastLanesError.{FastLanesError}
@@ -8,7 +8,7 @@ use Rattle.fl_bitpacking.specs.Blocks.{boundary_blocks}
 use Rattle.fl_bitpacking.specs.Columns.{BitPackedParts, block_count}
 use Rattle.fl_bitpacking.specs.Decided.{undecided_blocks}
 use Rattle.fl_bitpacking.specs.Refusals.{AreConsistent}
-use Rattle.fl_bitpacking.proofs.UndecidedLaws.{blocks_alike, blocks_most, one_width, tested_alike}
+use Rattle.fl_bitpacking.proofs.UndecidedLaws.{blocks_alike, blocks_most, one_width}
 use Rattle.fl_array.specs.BitPackedArrays.{BitPackedArrayParts, BitWidthsParts, BlockBoundaries, GlobalWidth, blocks_of_widths}
 use Rattle.fl_array.specs.Trees.{Tree, column}
 use Rattle.fl_array.specs.UnpackedBlocks.{blocks_to_unpack, unpacked_at}
@@ -25,8 +25,9 @@ counted_alike a f g n sound same is =
     let whole : n ≡ undecided_blocks a.parts (blocks_of_widths a.widths) f = omega arith in
     whole ∙ (blocks_alike a.parts (blocks_of_widths a.widths) f g same ∙ unpacked_is a.parts a.widths g)
 
-pub answers_alike : (f g : ℤ → Bool) (c d : Column) → ((z : ℤ) → f z ≡ g z) → ◌≡◌ {A = Result Column FastLanesError} (Ok (tested f c)) (Ok d) → ◌≡◌ {A = Result Column FastLanesError} (Ok (tested g c)) (Ok d)
-answers_alike f g c d same e = ap Ok (sym (tested_alike f g c same)) ∙ e
+-- what is said of one test is said of one that answers alike
+pub said_alike : (P : (ℤ → Bool) → Type 0) (f g : ℤ → Bool) → ((z : ℤ) → f z ≡ g z) → P f → P g
+said_alike P f g same h = let alike : f ≡ g = λ i z. same z i in subst P alike h
 
 -- where the blocks lie, by the boundaries
 pub blocked_blocks : (a : BitPackedArrayParts) (b : Tree) → BlockBoundaries b ≡ a.widths → blocks_of_widths a.widths ≡ boundary_blocks (numbers_of (column b))

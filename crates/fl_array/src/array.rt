@@ -38,8 +38,8 @@ use std::alloc::Global;
 use std::marker::Model;
 use std::ops::Range;
 
-/// An array of one of a closed set of kinds. Contracts see the tree of its kinds and parts, and the
-/// column that it stands for as `column`.
+/// An array of one of a closed set of kinds. Contracts see its tree of kinds and parts, and as `column`
+/// the column that it stands for.
 #[cycle(array)]
 pub struct ArrayRef {
     node: Node,
@@ -63,13 +63,13 @@ pub enum Node {
     Constant(ConstantArray),
     /// Booleans, one by one.
     Bool(BoolArray),
-    /// Integers in packed blocks, at one width or each at its own, with patches.
+    /// Integers in packed blocks, at one width or at a width for each block, with patches.
     BitPacked(BitPackedArray),
     /// An array of differences from one reference, or from a reference for each chunk.
     FoR(FoRArray),
-    /// Bases, and differences between items that follow each other in a lane.
+    /// Bases, and differences between neighbouring items of a lane.
     Delta(DeltaArray),
-    /// Run values, and for each item the index of its run.
+    /// Run values, and for each item the index of its run value.
     RLE(RLEArray),
 }
 
@@ -97,7 +97,7 @@ pub trait IntoArray {
     /// The tree of the array.
     ghost tree: { Self → Tree };
 
-    /// The array as an `ArrayRef`. It takes no memory.
+    /// The array as an `ArrayRef`. It allocates nothing.
     fn into_array(self) -> ArrayRef
         ensures { result ≡ tree self };
 }
@@ -180,7 +180,7 @@ impl ArrayRef {
         &self.node
     }
 
-    /// The array, and each array in it, is one that its constructor makes of its parts.
+    /// The parts of the array, and of each array in it, pass the checks of its constructor.
     pub fn prove_well_formed(&self)
         ensures { IsTrue (is_well_formed self.now) }
     {
@@ -219,7 +219,7 @@ impl ArrayRef {
         }
     }
 
-    /// How many items there are.
+    /// The number of items.
     pub fn len(&self) -> usize
         ensures { result ≡ length (column self.now).items }
     {
@@ -326,7 +326,7 @@ impl ArrayRef {
         }
     }
 
-    /// Which items are null, and whether nulls may stand in the column.
+    /// Which items are null, and whether the column is nullable.
     pub fn validity(&self, alloc: Global) -> Result<Validity, FastLanesError>
         ensures validity { IfOk result (λ v. IsValidityOf v (column self.now)) }
         ensures memory { IfErr result (λ e. e ≡ OutOfMemory) }
@@ -348,7 +348,7 @@ impl ArrayRef {
         }
     }
 
-    /// The same column in a boolean array where it is of booleans, else in a primitive array.
+    /// The same column in a boolean array if it is of booleans, else in a primitive array.
     pub fn decode(&self, alloc: Global) -> Result<ArrayRef, FastLanesError>
         ensures column { Answers column result (Ok (column self.now)) }
         ensures kind { IfOk result (λ a. kind a ≡ plain_kind (kind self.now)) }
@@ -379,7 +379,7 @@ impl ArrayRef {
     /// The same column in a primitive array.
     ///
     /// # Errors
-    /// `NotInteger` where the column is of booleans.
+    /// `NotInteger` if the column is of booleans.
     #[cycle(decoding)]
     pub fn to_primitive(&self, alloc: Global) -> Result<PrimitiveArray, FastLanesError>
         ensures { Answers column_of_primitive result (integer_column (column self.now)) }
@@ -472,12 +472,11 @@ impl ArrayRef {
         }
     }
 
-    /// The same array with a width for each block in place of one for all, in each bit-packed array in it:
-    /// children, references, bases, deltas, run values, run indices, run offsets and boundaries among them.
-    /// Nothing is packed again, and the packed bytes are shared.
+    /// The same array with a width for each block in each bit-packed array in it, however deep. Nothing is
+    /// packed again, and the packed bytes are shared.
     ///
     /// # Errors
-    /// None but `OutOfMemory`.
+    /// Only `OutOfMemory`.
     #[tactic(auto, using(crate::proofs::ToBlockedLaws::to_blocked_keeps_column, crate::proofs::ToBlockedLaws::no_global_bitpacked))]
     pub fn to_blocked(&self, alloc: Global) -> Result<ArrayRef, FastLanesError>
         ensures tree { Answers (λ a. a) result (Ok (to_blocked_tree self.now)) }
@@ -531,8 +530,8 @@ impl ArrayRef {
         }
     }
 
-    /// The item at an index, with the column's type. Only deltas have to be decoded for it, so it takes no
-    /// memory where the array neither is nor holds a delta array.
+    /// The item at an index, with the column's type. Only deltas are decoded for it, so it allocates nothing
+    /// unless the array is or holds a delta array.
     #[cycle(reading)]
     pub fn scalar_at(&self, alloc: Global, i: usize) -> Result<Scalar, FastLanesError>
         requires { i < length (column self.now).items }
@@ -556,7 +555,7 @@ impl ArrayRef {
         }
     }
 
-    /// The items of a range, in an array of the same kinds: the encodings are cut and not decoded.
+    /// The items of a range, in an array of the same kinds. Nothing is decoded.
     #[cycle(reading)]
     #[tactic(auto, using(crate::proofs::SliceLaws::kind_of_slice))]
     pub fn slice(&self, alloc: Global, range: Range<usize>) -> Result<ArrayRef, FastLanesError>

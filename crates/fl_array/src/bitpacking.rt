@@ -45,7 +45,7 @@ use std::alloc::Global;
 use std::marker::Model;
 
 /// A bit-packed array: the packed blocks of its items, all at one width or each at its own; the patches of
-/// the items that have more bits; and which items are null.
+/// the exceptions; and which items are null.
 #[cycle(array)]
 #[derive(Drop)]
 pub struct BitPackedArray {
@@ -65,7 +65,7 @@ enum StoredWidths {
 pub enum BitWidthsView<'a> {
     /// All blocks have this width.
     Global(u8),
-    /// Block `j` lies between the boundaries `j` and `j + 1`, counted from the first one.
+    /// Block `j` is between the boundaries `j` and `j + 1`, in bytes from the first one on.
     Blocked(&'a ArrayRef),
 }
 
@@ -107,15 +107,15 @@ impl Model for BitPackedArray {
 pub enum BitWidths {
     /// All blocks have this width.
     Global(u8),
-    /// Block `j` lies between the boundaries `j` and `j + 1`, counted from the first one.
+    /// Block `j` is between the boundaries `j` and `j + 1`, in bytes from the first one on.
     Blocked(ArrayRef),
 }
 
 impl BitWidths {
-    /// The widths that are shown, owned: a copy of the boundaries, where there are some.
+    /// The widths as an owned value, with a copy of the boundaries if there are some.
     ///
     /// # Errors
-    /// None but `OutOfMemory`.
+    /// Only `OutOfMemory`.
     pub fn try_from_view(alloc: Global, view: BitWidthsView) -> Result<BitWidths, FastLanesError>
         ensures { Answers widths_of_owned result (Ok (widths_of_view view.entry)) }
     {
@@ -135,11 +135,11 @@ pub struct BitPackedDataParts {
     pub offset: u16,
     /// The widths of the blocks.
     pub bit_widths: BitWidths,
-    /// How many items there are.
+    /// The number of items.
     pub len: usize,
     /// The bytes of the blocks.
     pub packed: Bytes,
-    /// The values that stand in place of packed bits.
+    /// The values that replace packed bits.
     pub patches: Option<Patches>,
     /// Which items are null.
     pub validity: Validity,
@@ -160,7 +160,7 @@ fn owned_widths(widths: StoredWidths) -> BitWidths
 pub struct BitPacked;
 
 impl BitPacked {
-    /// The parts of an array. It takes no memory.
+    /// The parts of an array. It allocates nothing.
     pub fn into_parts(array: BitPackedArray) -> BitPackedDataParts
         ensures parts { owned_parts array.parts.ptype result ≡ array.parts }
         ensures widths { widths_of_owned result.bit_widths ≡ array.widths }
@@ -179,11 +179,11 @@ impl BitPacked {
         }
     }
 
-    /// An array whose blocks all have one width. The position of its first item in the first block is `offset`.
+    /// An array whose blocks have one width. The position of its first item in the first block is `offset`.
     ///
     /// # Errors
     /// The first of `OffsetTooLarge`, `LengthOverflow`, `WidthTooLarge`, `ValidityLength`, `PatchType`,
-    /// `PatchLength` and `PackedLength` that holds.
+    /// `PatchLength` and `PackedLength` that applies.
     pub fn try_new(
         packed: Bytes,
         ptype: PType,
@@ -205,13 +205,13 @@ impl BitPacked {
         }
     }
 
-    /// An array whose blocks lie between boundaries: block `j` from `block_offsets[j]` to
-    /// `block_offsets[j + 1]`, in bytes counted from `block_offsets[0]`. The boundaries are decoded at once,
-    /// into memory that is asked for by one allocation, unless they are a constant array.
+    /// An array whose blocks are between boundaries: block `j` from `block_offsets[j]` to
+    /// `block_offsets[j + 1]`, in bytes from `block_offsets[0]` on. The boundaries are decoded, with one
+    /// allocation, unless they are a constant array.
     ///
     /// # Errors
     /// The first of `OffsetTooLarge`, `LengthOverflow`, `BlockOffsetsType`, `BlockOffsetsCount`,
-    /// `BlockBoundary`, `BlockSpan`, `ValidityLength`, `PatchType` and `PatchLength` that holds.
+    /// `BlockBoundary`, `BlockSpan`, `ValidityLength`, `PatchType` and `PatchLength` that applies.
     pub fn try_new_with_block_offsets(
         alloc: Global,
         packed: Bytes,
@@ -242,11 +242,11 @@ impl BitPacked {
         })
     }
 
-    /// The array packed at a width, as `bitpack_encode` packs a primitive one.
+    /// The array packed at a width, as by `bitpack_encode` for a primitive one.
     ///
     /// # Errors
-    /// The first of `NotInteger` where the array is not primitive, `NegativeValue` where an item is negative
-    /// that is no null, and `WidthTooLarge` where the width is not below the type's bits.
+    /// The first of these that applies: `NotInteger` if the array is not primitive, `NegativeValue` if a valid item is negative,
+    /// and `WidthTooLarge` if the width is not below the type's bits.
     pub fn encode(
         alloc: Global,
         array: &ArrayRef,
@@ -388,7 +388,7 @@ impl BitPackedArray {
         })
     }
 
-    /// The constructors refuse these parts in nothing.
+    /// The parts pass the checks of the constructors.
     pub fn prove_well_formed(&self)
         ensures { refusal_of_bitpacked self.now ≡ None }
     {
@@ -422,7 +422,7 @@ impl BitPackedArray {
         }
     }
 
-    /// How many items there are.
+    /// The number of items.
     #[tactic(auto, using(crate::proofs::BitPackedLaws::bitpacked_len))]
     pub fn len(&self) -> usize
         ensures len { result ≡ self.now.parts.len }

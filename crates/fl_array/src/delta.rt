@@ -33,8 +33,8 @@ use fl_column::{DType, FastLanesError, PrimitiveArray, Scalar, Validity, chunk_c
 use std::alloc::Global;
 use std::marker::Model;
 
-/// A delta array: the bases and the deltas of its blocks, which items are null, and which positions of the
-/// blocks it shows.
+/// A delta array: the bases and the deltas of its blocks, which items are null, and the range of the blocks'
+/// positions that it covers.
 #[cycle(array)]
 #[derive(Drop)]
 pub struct DeltaArray {
@@ -98,7 +98,7 @@ impl Delta {
     ///
     /// # Errors
     /// The first of `OffsetTooLarge`, `RangeBeyondChild`, `ChildNullable`, `TypeMismatch`, `NotInteger`,
-    /// `ValidityLength` and `ChildLength` that holds.
+    /// `ValidityLength` and `ChildLength` that applies.
     pub fn try_new(
         alloc: Global,
         bases: ArrayRef,
@@ -125,9 +125,9 @@ impl Delta {
         }
     }
 
-    /// The delta array of a primitive one: its bases and deltas are primitive arrays of the same type without
-    /// nulls, and its validity is the array's. A null counts as the last item before it in the column, or as 0
-    /// where there is none; a short last block goes on with its last item.
+    /// The delta array of a primitive one: its bases and deltas are non-nullable primitive arrays of the same
+    /// type, and its validity is the array's. A null counts as the last item before it in the column, or as 0 if
+    /// there is none; a short last block is padded with its last item.
     pub fn try_from_primitive_array(
         alloc: Global,
         array: &PrimitiveArray,
@@ -174,7 +174,7 @@ impl DeltaArray {
         })
     }
 
-    /// The constructor refuses these parts in nothing.
+    /// The parts pass the checks of the constructor.
     pub fn prove_well_formed(&self)
         ensures { refusal_of_delta self.now ≡ None }
     {
@@ -216,7 +216,7 @@ impl DeltaArray {
         self.prove_well_formed();
     }
 
-    /// How many items there are.
+    /// The number of items.
     #[tactic(auto, using(crate::proofs::DeltaLaws::delta_len))]
     pub fn len(&self) -> usize
         ensures len { result ≡ self.now.parts.len }

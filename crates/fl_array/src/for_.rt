@@ -16,13 +16,12 @@ ghost use Rattle.fl_column.specs.Questions.{scalar_in};
 ghost use Rattle.fl_codec.specs.ChunkSlices.{end_chunk, first_chunk};
 ghost use Rattle.fl_array.specs.Trees.{column, height};
 ghost use Rattle.fl_array.specs.FoRArrays.{ChunkReferences, FoRArrayParts, GlobalReference, for_chunked_refusal, new_for, new_for_chunked, offset_of_references, reference_count_refusal, reference_refusal, reference_type_refusal, references_of, refusal_of_for, size_of_references, tree_of_for, for_refusal, has_no_constant};
-ghost use Rattle.fl_array.specs.EncodedFoR.{encoded_for, encoded_for_chunked};
+ghost use Rattle.fl_array.specs.EncodedFoR.{encoded_for, encoded_for_chunked, encoded_for_chunked_wrapped, encoded_for_wrapped};
 ghost use Rattle.fl_array.specs.Kinds.{has_delta, kind};
 ghost use Rattle.fl_array.specs.Reads.{IsValidityOf, constant_in, integer_column};
 ghost use Rattle.fl_array.specs.StoredParts.{stored_references};
 ghost use Rattle.fl_array.specs.Slices.{slice_tree};
 ghost use Rattle.fl_array.specs.Views.{HasLowerReferences, HasSmallerReferences, references_of_view, is_global};
-ghost use Rattle.fl_array.specs.EncodedFoR.{encoded_for, encoded_for_chunked};
 
 use crate::array::ArrayRef;
 pub use crate::for_::for_array_ext::{FoRArrayExt, FoRSlots};
@@ -32,7 +31,7 @@ pub use crate::for_::for_decompress::decompress;
 use fastlanes::FL_CHUNK_SIZE;
 use fl_bitpacking::refusals::positions_refusal;
 use fl_codec::for_::single_items::plus_reference;
-use fl_codec::for_::{decode, decode_chunked};
+use fl_codec::for_::{ItemOrder, decode, decode_chunked};
 use fl_column::{
     DType, FastLanesError, Nullability, PrimitiveArray, Scalar, Validity, chunk_count,
 };
@@ -262,7 +261,20 @@ impl FoR {
         ensures parts { Answers (λ a. a) result (encoded_for array.now) }
         ensures column { IfOk result (λ a. column (tree_of_for a) ≡ column_of_primitive array.now) }
     {
-        for_encode(alloc, array)
+        for_encode(alloc, array, ItemOrder::Natural)
+    }
+
+    /// As `encode`, but the reference is the least valid item *read as signed*, so that differences stay small where
+    /// the items of an unsigned type lie about 0, as 255, 0 and 2 of `u8` do: less 255 they are 0, 1 and 3. Of a
+    /// signed type it is what `encode` makes.
+    ///
+    /// # Errors
+    /// `NoMinimum` where no item is valid.
+    pub fn encode_wrapped(alloc: Global, array: &PrimitiveArray) -> Result<FoRArray, FastLanesError>
+        ensures parts { Answers (λ a. a) result (encoded_for_wrapped array.now) }
+        ensures column { IfOk result (λ a. column (tree_of_for a) ≡ column_of_primitive array.now) }
+    {
+        for_encode(alloc, array, ItemOrder::Signed)
     }
 
     /// The FoR array of a primitive one, with the least valid item of each chunk of 1024 as its reference. A
@@ -276,7 +288,18 @@ impl FoR {
         ensures parts { Answers (λ a. a) result (Ok (encoded_for_chunked array.now)) }
         ensures column { IfOk result (λ a. column (tree_of_for a) ≡ column_of_primitive array.now) }
     {
-        for_encode_chunked(alloc, array)
+        for_encode_chunked(alloc, array, ItemOrder::Natural)
+    }
+
+    /// As `encode_chunked`, but the reference of each chunk is its least valid item *read as signed*.
+    pub fn encode_chunked_wrapped(
+        alloc: Global,
+        array: &PrimitiveArray,
+    ) -> Result<FoRArray, FastLanesError>
+        ensures parts { Answers (λ a. a) result (Ok (encoded_for_chunked_wrapped array.now)) }
+        ensures column { IfOk result (λ a. column (tree_of_for a) ≡ column_of_primitive array.now) }
+    {
+        for_encode_chunked(alloc, array, ItemOrder::Signed)
     }
 }
 

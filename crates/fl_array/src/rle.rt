@@ -39,8 +39,8 @@ use fl_column::{DType, FastLanesError, PrimitiveArray, Scalar, Validity, chunk_c
 use std::alloc::Global;
 use std::marker::Model;
 
-/// A run-length encoded array: the run values of all chunks, the index that each position has into those of
-/// its chunk, where the run values of each chunk start, and which positions the array shows.
+/// A run-length encoded array: the run values of all chunks, the index of each position into those of its
+/// chunk, where the run values of each chunk start, and the range of positions that the array covers.
 #[cycle(array)]
 #[derive(Drop)]
 pub struct RLEArray {
@@ -138,7 +138,7 @@ fn accept_children(
 }
 
 impl RLE {
-    /// The array of these run values, run indices and run offsets, which `try_new` would not refuse.
+    /// The array of these run values, run indices and run offsets, which `try_new` accepts.
     pub fn new_unchecked(
         alloc: Global,
         values: ArrayRef,
@@ -166,7 +166,7 @@ impl RLE {
     ///
     /// # Errors
     /// The first of `OffsetTooLarge`, `NotInteger`, `ChildNullable`, `RunIndexType`, `BlockOffsetsType`,
-    /// `ChildLength`, `RangeBeyondChild`, `BlockOffsetsCount`, `RunOffsets` and `RunIndex` that holds.
+    /// `ChildLength`, `RangeBeyondChild`, `BlockOffsetsCount`, `RunOffsets` and `RunIndex` that applies.
     pub fn try_new(
         alloc: Global,
         values: ArrayRef,
@@ -192,8 +192,8 @@ impl RLE {
 
     /// The run-length encoded array of a primitive one: in each chunk of 1024 the items that differ from the
     /// one before, with `u16` indices and `u64` run offsets. A null counts as the last item before it in its
-    /// chunk, or as 0 where there is none; a short last chunk goes on with its last item, and its indices
-    /// behind the column are null where the column's validity has a bit for each item or no item is valid.
+    /// chunk, or as 0 if there is none; a short last chunk is padded with its last item, and the indices of the
+    /// padding are null if the column's validity has a bit for each item or no item is valid.
     pub fn encode(alloc: Global, array: &PrimitiveArray) -> Result<RLEArray, FastLanesError>
         ensures parts { Answers (λ a. a) result (Ok (encoded_rle array.now)) }
         ensures column { IfOk result (λ a. column (tree_of_rle a) ≡ column_of_primitive array.now) }
@@ -222,7 +222,7 @@ impl RLE {
 }
 
 impl RLEArray {
-    /// The constructor refuses these parts in nothing.
+    /// The parts pass the checks of the constructor.
     pub fn prove_well_formed(&self)
         ensures { refusal_of_rle self.now ≡ None }
     {
@@ -236,7 +236,7 @@ impl RLEArray {
         &self.values
     }
 
-    /// The run indices: which run value of its chunk each position has.
+    /// The run indices: for each position the index of its run value in its chunk.
     pub fn indices(&self) -> &ArrayRef
         ensures { result.now ≡ self.now.indices }
     {
@@ -264,7 +264,7 @@ impl RLEArray {
         self.prove_well_formed();
     }
 
-    /// How many items there are.
+    /// The number of items.
     #[tactic(auto, using(crate::proofs::RLELaws::rle_len))]
     pub fn len(&self) -> usize
         ensures len { result ≡ self.now.window.len }

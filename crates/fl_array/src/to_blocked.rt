@@ -33,10 +33,10 @@ fn blocked(alloc: Global, array: &BitPackedArray) -> Result<BitPackedArray, Fast
 
 impl BitPacked {
     /// The same array with a width for each block: its packed bytes, offset, length, type, patches and validity
-    /// stay. An array that has such widths comes back as a copy.
+    /// stay. An array that has such widths is copied.
     ///
     /// # Errors
-    /// None but `OutOfMemory`.
+    /// Only `OutOfMemory`.
     #[tactic(auto, using(crate::proofs::ToBlockedLaws::shallow_answers))]
     pub fn to_blocked(
         alloc: Global,

@@ -1,4 +1,4 @@
-//! What the types' invariants say of a whole array.
+//! What the invariants of the types imply for a whole array.
 
 ghost use Rattle.std.specs.Prelude.{◌≡◌, IsTrue};
 ghost use Rattle.fl_types.specs.Integers.{fits};

@@ -31,7 +31,7 @@ use Rattle.fl_bitpacking.proofs.Tables.{get_or-table, length-table}
 
 -- ---- sums of patterns
 -- the sum of a pattern and that of an integer is read as the sum of what they are read as
-sum_read : (ptype : PType) (p : ℕ) (r : ℤ) → p < 2 ^ bits_of_type ptype → read_as ptype ((p + pattern_of ptype r) % 2 ^ bits_of_type ptype) ≡ wrap ptype (read_as ptype p +ℤ r)
+pub sum_read : (ptype : PType) (p : ℕ) (r : ℤ) → p < 2 ^ bits_of_type ptype → read_as ptype ((p + pattern_of ptype r) % 2 ^ bits_of_type ptype) ≡ wrap ptype (read_as ptype p +ℤ r)
 sum_read ptype p r small =
     let N : ℕ = 2 ^ bits_of_type ptype in
     let itself : IsPattern N (read_as ptype p) p = subst (λ (n : ℕ). IsPattern N (read_as ptype p) n) (pattern_read ptype p small) (pattern_is ptype (read_as ptype p)) in

@@ -1,9 +1,7 @@
 -- Answers of tests as bits, block by block, and the column that they make.
-use Rattle.std.proofs.Common.{◌≡◌, ◌≢◌, ℕ, ℤ, pos, zero, suc, ◌+◌, ◌-◌, ◌*◌, ◌/◌, ◌%◌, ◌^◌, ◌<◌, ◌≤◌, ◌++◌, List, [], ◌∷◌, Bool, true, false, cond, not, nat_eq, length, get_or, map, set, IsTrue, Option, Some, None, option_map, unwrap_or, Result, Ok, Err, refl, ap, sym, ◌∙◌, subst, inl, inr, arith, length-set}
-use Rattle.std.specs.Prelude.{◌⊎◌, ◌≤ℤ◌, ◌+ℤ◌}
+use Rattle.std.proofs.Common.{◌≡◌, ◌≢◌, ℕ, ℤ, pos, zero, suc, ◌+◌, ◌-◌, ◌*◌, ◌/◌, ◌%◌, ◌^◌, ◌<◌, ◌≤◌, ◌++◌, List, [], ◌∷◌, Bool, true, false, cond, not, nat_eq, length, get_or, map, set, Option, Some, None, option_map, unwrap_or, Result, Ok, refl, ap, sym, ◌∙◌, inl, inr, arith}
 use Rattle.std.specs.Int.{bit_at, bit_not, w64}
-use Rattle.std.proofs.lemmas.Bool.{cases_lt, cases_eq, cases_Bool}
-use Rattle.std.proofs.lemmas.Int.{ints}
+use Rattle.std.proofs.lemmas.Bool.{cases_eq}
 use Rattle.std.proofs.Math.Pow.{pow_mono}
 use Rattle.std.proofs.lemmas.Nat.Bits.{bit_at-lt, bit_at-zero, bit_at_not, bit_at_ones}
 use Rattle.std.proofs.lemmas.List.{same_lists, length-map, get_or-map, get_or-set_same, get_or-set_other, get_or_append_left, get_or-append_right, get_or_default}
@@ -15,13 +13,11 @@ use Rattle.fastlanes.proofs.Bijection.{position_placed}
 use Rattle.fastlanes.proofs.BitSums.{from_bits_below}
 use Rattle.fastlanes.proofs.Blocks.{packed_bit_small}
 use Rattle.fl_types.specs.declared.dtype.PType.{PType}
-use Rattle.fl_types.specs.declared.dtype.PType.TheVariants.{U8, U16, U32, U64, I8, I16, I32, I64}
 use Rattle.fl_types.specs.declared.error.FastLanesError.{FastLanesError}
-use Rattle.fl_types.specs.declared.validity.Validity.{Validity}
-use Rattle.fl_types.specs.Bits.{bit_of_word, bits_from, is_set, tabulate, true_count}
+use Rattle.fl_types.specs.Bits.{bit_of_word, bits_from, is_set, tabulate}
 use Rattle.fl_types.specs.Integers.{bits_of_type, lanes_of_type, read_as}
 use Rattle.fl_types.specs.Refusals.{Answers}
-use Rattle.fl_types.specs.Validities.{covers, items_of, nullability_of}
+use Rattle.fl_types.specs.Validities.{covers, items_of}
 use Rattle.fl_types.specs.Values.{bool_number}
 use Rattle.fl_column.specs.Columns.{BoolParts, column_of_bools, new_bools}
 use Rattle.fl_column.specs.Questions.{tested}
@@ -31,14 +27,13 @@ use Rattle.fl_patches.proofs.Rising.{rank_at, rank_found}
 use Rattle.fl_bitpacking.specs.Blocks.{Blocks, block_item, value_at}
 use Rattle.fl_bitpacking.specs.Columns.{BitPackedParts, column_of_packed, packed_item, stored}
 use Rattle.fl_bitpacking.specs.Decided.{is_decided, undecided_below}
-use Rattle.fl_bitpacking.specs.LeastIntegers.{least_of}
 use Rattle.fl_bitpacking.specs.Parts.{Fit}
 use Rattle.fl_bitpacking.specs.RangeTests.{answer_of, in_range}
 use Rattle.fl_bitpacking.proofs.ColumnLaws.{items_made}
 use Rattle.fl_bitpacking.proofs.DecidedLaws.{decided_answer}
 use Rattle.fl_bitpacking.proofs.FoundBelow.{found_below, skipped}
-use Rattle.fl_bitpacking.proofs.Natives.{block_item_is, lanes_is}
-use Rattle.fl_bitpacking.proofs.RangeLaws.{reads}
+use Rattle.fl_bitpacking.proofs.Natives.{block_item_is}
+use Rattle.fl_bitpacking.proofs.RangeLaws.{read_small}
 use Rattle.std.proofs.lemmas.Bool.{lt-ltb}
 
 -- ---- words of bits
@@ -118,27 +113,6 @@ block_tested test ptype T lanes width low span negated bytes i bit shape bits na
     let small = row_small T lanes width (word_at T bytes) i in
     let item = block_item_is ptype T lanes width bytes i p (read_as ptype p) shape bits refl refl in
     is ∙ (ap (λ (t : ℕ). answer_of negated (in_range t low span p)) bits ∙ (same p (omega arith) ∙ ap test item))
-
-least_half : (t : PType) → (pos 0 ≤ℤ (least_of t +ℤ pos (2 ^ (bits_of_type t - 1)))) × (2 ^ bits_of_type t ≡ 2 ^ (bits_of_type t - 1) + 2 ^ (bits_of_type t - 1))
-least_half U8 = (omega (arith, ints), refl)
-least_half U16 = (omega (arith, ints), refl)
-least_half U32 = (omega (arith, ints), refl)
-least_half U64 = (omega (arith, ints), refl)
-least_half I8 = (omega (arith, ints), refl)
-least_half I16 = (omega (arith, ints), refl)
-least_half I32 = (omega (arith, ints), refl)
-least_half I64 = (omega (arith, ints), refl)
-
--- a pattern of fewer bits than the type's is read as itself
-read_small : (t : PType) (width p : ℕ) → width < bits_of_type t → p < 2 ^ width → read_as t p ≡ pos p
-read_small t width p narrow small =
-    let half = least_half t in
-    let most : 2 ^ width ≤ 2 ^ (bits_of_type t - 1) = pow_mono (omega arith) in
-    let read = reads t p (let whole = half.1 in omega arith) in
-    elim read.same [
-      | inl e ↦ sym e
-      | inr e ↦ absurd (let low = read.low in let whole = half.1 in let first = half.0 in omega (arith, ints))
-    ]
 
 -- what a decided block's items answer
 pub block_decided : (test : ℤ → Bool) (ptype : PType) (width : ℕ) (bytes : List ℕ) (i : ℕ) (bit : Bool) → is_decided ptype width test ≡ true → bit ≡ test (pos 0) → bit ≡ test (block_item ptype width bytes i)

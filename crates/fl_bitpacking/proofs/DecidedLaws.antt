@@ -1,20 +1,22 @@
 -- Predicates that a width decides, and the blocks that a test unpacks.
-use Rattle.std.proofs.Common.{◌≡◌, ℕ, ℤ, pos, zero, suc, ◌+◌, ◌-◌, ◌*◌, ◌%◌, ◌^◌, ◌<◌, ◌≤◌, ◌++◌, List, [], ◌∷◌, Bool, true, false, cond, eqb, nat_lt, nat_le, nat_eq, not, length, get_or, take, refl, ap, sym, ◌∙◌, subst, inl, inr, arith}
-use Rattle.std.specs.Prelude.{◌&&◌, ◌||◌, count_by}
+use Rattle.std.proofs.Common.{◌≡◌, ℕ, ℤ, pos, ◌+◌, ◌-◌, ◌%◌, ◌^◌, ◌<◌, ◌≤◌, Bool, true, false, nat_le, nat_eq, get_or, refl, ap, sym, ◌∙◌, inl, inr, arith}
+use Rattle.std.specs.Prelude.{◌||◌, if◌then◌else◌}
 use Rattle.std.specs.Bool.{beq}
 use Rattle.std.specs.List.{list_all, range_with_len}
-use Rattle.std.proofs.lemmas.Bool.{cases_lt, cases_eq, cases_Bool, le-leb, lt-ltb, le-ltb, lt-leb, ne_eqb, eq-eqb}
-use Rattle.std.proofs.lemmas.Nat.{pow_pos}
+use Rattle.std.proofs.lemmas.Bool.{cases_lt, cases_eq, le-leb, lt-ltb, le-ltb, lt-leb, ne_eqb, eq-eqb}
+use Rattle.std.proofs.Math.Nat.{mod-eq_of_lt, add-mod_right}
+use Rattle.std.proofs.lemmas.Nat.{mod_below, pow_pos}
 use Rattle.std.proofs.Math.Pow.{pow_mono}
-use Rattle.std.proofs.lemmas.List.FromFn.{length-range_with_len, get_or-range_with_len, map-range_with_len_more}
-use Rattle.std.proofs.lemmas.List.Sums.{sum_by-cons}
+use Rattle.std.proofs.lemmas.List.FromFn.{length-range_with_len, get_or-range_with_len}
 use Rattle.fl_types.specs.declared.dtype.PType.{PType}
 use Rattle.fl_types.specs.declared.dtype.PType.TheVariants.{U8, U16, U32, U64, I8, I16, I32, I64}
 use Rattle.fl_types.specs.Integers.{bits_of_type}
 use Rattle.fl_column.proofs.ListLaws.{all_at, all_fails, all_from}
 use Rattle.fl_bitpacking.specs.declared.compute.range_test.RangeTest.{RangeTest}
 use Rattle.fl_bitpacking.specs.Decided.{is_decided}
-use Rattle.fl_bitpacking.specs.RangeTests.{answer_of, is_from, is_up_to, passes}
+use Rattle.fl_bitpacking.specs.declared.compute.range_test.PatternTest.{PatternTest}
+use Rattle.fl_bitpacking.specs.RangeTests.{TestsPatterns, answer_of, passes}
+use Rattle.fl_bitpacking.proofs.RangeLaws.{read_small, tested_by}
 
 same_beq : (b : Bool) → beq b b ≡ true
 same_beq true = refl
@@ -43,46 +45,53 @@ two_answers count answer x h e =
     let size = length-range_with_len 0 count in
     all_fails (λ x. beq (answer x) (answer 0)) (range_with_len 0 count) x 0 (omega arith) (rw (at_index count x h) e)
 
-before_first : (first end x : ℕ) → x < first → (nat_le first x && nat_lt x end) ≡ false
-before_first first end x h = rw (lt-leb first x h) refl
-
-behind_end : (first end x : ℕ) → end ≤ x → (nat_le first x && nat_lt x end) ≡ false
-behind_end first end x h = elim (cases_lt x first) [
-  | inl before ↦ before_first first end x before
-  | inr after ↦ rw (le-leb first x after, le-ltb x end h) refl
+-- how far a pattern is above another one goes on from how far 0 is
+far_from : (m low x : ℕ) → low < m → (x + (m - low)) % m ≡ ((m - low) % m + x) % m
+far_from m low x small = elim (cases_lt (m - low) m) [
+  | inl less ↦ ap (λ (n : ℕ). n % m) (let first : (m - low) % m ≡ m - low = mod-eq_of_lt less in let sum : x + (m - low) ≡ (m - low) % m + x = omega arith in sum)
+  | inr whole ↦
+      let all : x + (m - low) ≡ x + m = omega arith in
+      let is : m - low ≡ 0 + m = omega arith in
+      let none : (m - low) % m ≡ 0 = ap (λ (n : ℕ). n % m) is ∙ (add-mod_right 0 m ∙ mod-eq_of_lt (omega arith)) in
+      ap (λ (n : ℕ). n % m) all ∙ (add-mod_right x m ∙ ap (λ (n : ℕ). n % m) (let same : x ≡ (m - low) % m + x = omega arith in same))
 ]
 
-out_of_none : (first end x : ℕ) → end ≤ first → (nat_le first x && nat_lt x end) ≡ false
-out_of_none first end x none = elim (cases_lt x first) [
-  | inl before ↦ before_first first end x before
-  | inr after ↦ behind_end first end x (omega arith)
-]
-
-within_both : (first end x : ℕ) → first ≤ x → x < end → (nat_le first x && nat_lt x end) ≡ true
-within_both first end x from below = rw (le-leb first x from, lt-ltb x end below) refl
-
--- all numbers below count have one answer to whether they lie from first on and below end
-one_answer : (negated : Bool) (count first end : ℕ) (answer : ℕ → Bool) → 0 < count → ((x : ℕ) → x < count → answer x ≡ answer_of negated (nat_le first x && nat_lt x end))
-    → list_all (λ x. beq (answer x) (answer 0)) (range_with_len 0 count) ≡ (nat_le end first || (nat_le count first || (nat_eq first 0 && nat_le count end)))
-one_answer negated count first end answer some each = elim (cases_lt first end) [
-  | inr none ↦ all_one count answer (answer_of negated false) some (λ x h. each x h ∙ ap (answer_of negated) (out_of_none first end x none)) ∙ (rw (le-leb end first none) refl)
-  | inl more ↦ rw (lt-leb end first more) (elim (cases_lt first count) [
-    | inr out ↦ all_one count answer (answer_of negated false) some (λ x h. each x h ∙ ap (answer_of negated) (before_first first end x (omega arith))) ∙ (rw (le-leb count first out) refl)
-    | inl within ↦ rw (lt-leb count first within) (elim (cases_lt 0 first) [
-      | inl above ↦
-          let there : answer first ≡ answer_of negated true = each first within ∙ ap (answer_of negated) (within_both first end first (omega arith) more) in
-          let here : answer 0 ≡ answer_of negated false = each 0 some ∙ ap (answer_of negated) (before_first first end 0 above) in
-          two_answers count answer first within (rw (there, here) (other_beq negated)) ∙ (rw (ne_eqb first 0 (omega arith)) refl)
-      | inr start ↦ elim (cases_lt end count) [
-        | inr whole ↦ all_one count answer (answer_of negated true) some (λ x h. each x h ∙ ap (answer_of negated) (within_both first end x (omega arith) (omega arith))) ∙ (rw (eq-eqb first 0 (omega arith), le-leb count end whole) refl)
-        | inl short ↦
-            let there : answer end ≡ answer_of negated false = each end short ∙ ap (answer_of negated) (behind_end first end end (omega arith)) in
-            let here : answer 0 ≡ answer_of negated true = each 0 some ∙ ap (answer_of negated) (within_both first end 0 (omega arith) (omega arith)) in
-            two_answers count answer end short (rw (there, here) (beq_other negated)) ∙ (rw (eq-eqb first 0 (omega arith), lt-leb count end short) refl)
-      ]
-    ])
-  ])
-]
+-- all patterns below count have one answer, by how far 0 is above the range's first one
+one_answer : (negated : Bool) (count g low span : ℕ) (answer : ℕ → Bool) → 0 < count → count ≤ g + 1 → low < g + 1 → span < g + 1 → ((x : ℕ) → x < count → answer x ≡ answer_of negated (nat_le ((x + (g + 1 - low)) % (g + 1)) span))
+    → (let first = (g + 1 - low) % (g + 1) in list_all (λ x. beq (answer x) (answer 0)) (range_with_len 0 count) ≡ (if nat_le first span then nat_eq span g || nat_le (count - 1) (span - first) else nat_le (count - 1) (g - first)))
+one_answer negated count g low span answer some few small long each =
+    let first = (g + 1 - low) % (g + 1) in
+    let at : first < g + 1 = mod_below (g + 1 - low) (g + 1) (omega arith) in
+    let far : (x : ℕ) → x < count → answer x ≡ answer_of negated (nat_le ((first + x) % (g + 1)) span) = λ (x : ℕ) (h : x < count). each x h ∙ ap (λ (n : ℕ). answer_of negated (nat_le n span)) (far_from (g + 1) low x small) in
+    let inside : (x : ℕ) → x < count → (first + x) % (g + 1) ≤ span → answer x ≡ answer_of negated true = λ (x : ℕ) (h : x < count) (k : (first + x) % (g + 1) ≤ span). far x h ∙ ap (answer_of negated) (le-leb ((first + x) % (g + 1)) span k) in
+    let outside : (x : ℕ) → x < count → span < (first + x) % (g + 1) → answer x ≡ answer_of negated false = λ (x : ℕ) (h : x < count) (k : span < (first + x) % (g + 1)). far x h ∙ ap (answer_of negated) (lt-leb ((first + x) % (g + 1)) span k) in
+    let plain : (x : ℕ) → first + x < g + 1 → (first + x) % (g + 1) ≡ first + x = λ (x : ℕ) (h : first + x < g + 1). mod-eq_of_lt h in
+    let start : (first + 0) % (g + 1) ≡ first = plain 0 (omega arith) ∙ (let none : first + 0 ≡ first = omega arith in none) in
+    elim (cases_lt span first) [
+      | inr in_zero ↦
+          let here : answer 0 ≡ answer_of negated true = inside 0 some (rw start in_zero) in
+          rw (le-leb first span in_zero) (elim (cases_eq span g) [
+            | inl whole ↦ all_one count answer (answer_of negated true) some (λ x h. inside x h (let below = mod_below (first + x) (g + 1) (omega arith) in omega arith)) ∙ (rw (eq-eqb span g whole) refl)
+            | inr part ↦ rw (ne_eqb span g part) (elim (cases_lt (span - first) (count - 1)) [
+              | inr room ↦ all_one count answer (answer_of negated true) some (λ x h. inside x h (let is = plain x (omega arith) in omega arith)) ∙ (rw (le-leb (count - 1) (span - first) room) refl)
+              | inl short ↦
+                  let next = span + 1 - first in
+                  let is = plain (span + 1 - first) (omega arith) in
+                  let there : answer (span + 1 - first) ≡ answer_of negated false = outside (span + 1 - first) (omega arith) (omega arith) in
+                  two_answers count answer (span + 1 - first) (omega arith) (rw (there, here) (beq_other negated)) ∙ (rw (lt-leb (count - 1) (span - first) short) refl)
+            ])
+          ])
+      | inl out_zero ↦
+          let here : answer 0 ≡ answer_of negated false = outside 0 some (rw start out_zero) in
+          rw (lt-leb first span out_zero) (elim (cases_lt (g - first) (count - 1)) [
+            | inr room ↦ all_one count answer (answer_of negated false) some (λ x h. outside x h (let is = plain x (omega arith) in omega arith)) ∙ (rw (le-leb (count - 1) (g - first) room) refl)
+            | inl short ↦
+                let round : first + (g + 1 - first) ≡ 0 + (g + 1) = omega arith in
+                let is : (first + (g + 1 - first)) % (g + 1) ≡ 0 = ap (λ (n : ℕ). n % (g + 1)) round ∙ (add-mod_right 0 (g + 1) ∙ mod-eq_of_lt (omega arith)) in
+                let there : answer (g + 1 - first) ≡ answer_of negated true = inside (g + 1 - first) (omega arith) (omega arith) in
+                two_answers count answer (g + 1 - first) (omega arith) (rw (there, here) (other_beq negated)) ∙ (rw (lt-leb (count - 1) (g - first) short) refl)
+          ])
+    ]
 
 pub few_bits : (t : PType) → bits_of_type t ≤ 64
 few_bits U8 = omega arith
@@ -94,15 +103,18 @@ few_bits I16 = omega arith
 few_bits I32 = omega arith
 few_bits I64 = omega arith
 
--- the test of the ends is the test of all numbers
-pub decided_by_ends : (t : PType) (width first end : ℕ) (test : RangeTest) → width < bits_of_type t → ((x : ℕ) → x < 2 ^ 64 → (is_from test.lower (pos x) && is_up_to test.upper (pos x)) ≡ (nat_le first x && nat_lt x end))
-    → (nat_le end first || (nat_le (2 ^ width) first || (nat_eq first 0 && nat_le (2 ^ width) end))) ≡ is_decided t width (passes test)
-unfolding is_decided passes
-decided_by_ends t width first end test narrow each =
-    let few = few_bits t in
-    let most : 2 ^ width ≤ 2 ^ 64 = pow_mono {i = width} {j = 64} (omega arith) in
+-- the test of the first pattern's distance is the test of all patterns of the width
+pub decided_by_patterns : (t : PType) (width : ℕ) (test : RangeTest) (patterns : PatternTest) → width < bits_of_type t → TestsPatterns t test patterns
+    → (let first = (patterns.greatest + 1 - patterns.low) % (patterns.greatest + 1) in (if nat_le first patterns.span then nat_eq patterns.span patterns.greatest || nat_le (2 ^ width - 1) (patterns.span - first) else nat_le (2 ^ width - 1) (patterns.greatest - first)) ≡ is_decided t width (passes test))
+unfolding is_decided
+decided_by_patterns t width test patterns narrow tests =
+    let most : 2 ^ width ≤ 2 ^ bits_of_type t = pow_mono {i = width} {j = bits_of_type t} (omega arith) in
+    let size = tests.greatest in
+    let low = tests.low in
+    let span = tests.span in
     rw (lt-ltb width (bits_of_type t) narrow)
-    (sym (one_answer test.negated (2 ^ width) first end (λ x. answer_of test.negated (is_from test.lower (pos x) && is_up_to test.upper (pos x))) (pow_pos width) (λ x h. ap (answer_of test.negated) (each x (omega arith)))))
+    (sym (one_answer patterns.negated (2 ^ width) patterns.greatest patterns.low patterns.span (λ x. passes test (pos x)) (pow_pos width) (omega arith) (omega arith) (omega arith)
+    (λ x h. sym (tested_by t test patterns x (pos x) tests (omega arith) (read_small t width x narrow h)))))
 
 -- a width of all bits decides nothing
 pub native_undecided : (t : PType) (width : ℕ) (predicate : ℤ → Bool) → bits_of_type t ≤ width → is_decided t width predicate ≡ false

@@ -1,5 +1,5 @@
 -- Which items are null: validities where nulls may stand or not.
-use Rattle.std.proofs.Common.{◌≡◌, ◌∙◌, ℕ, ℤ, pos, zero, suc, ◌+◌, ◌<◌, Bool, true, false, cond, not, List, [], ◌∷◌, length, map, get_or, Option, Some, None, refl, ap, sym, arith, IsTrue}
+use Rattle.std.proofs.Common.{◌≡◌, ◌∙◌, ℕ, zero, suc, ◌<◌, Bool, true, false, cond, not, List, [], ◌∷◌, length, map, get_or, Option, Some, None, refl, ap, sym, arith}
 use Rattle.std.specs.Prelude.{◌&&◌, ◌||◌, ◌==◌, IfSome, is_none, is_some, option_map, unwrap_or, if◌then◌else◌}
 use Rattle.std.specs.List.{list_all, list_any}
 use Rattle.fl_types.specs.declared.dtype.DType.TheVariants.{Primitive}
@@ -11,7 +11,7 @@ use Rattle.fl_types.specs.declared.validity.Validity.TheVariants as valid
 use Rattle.fl_types.specs.Types.{can_be_null}
 use Rattle.fl_types.specs.Validities.{covers, is_valid_at, items_of, nullability_of}
 use Rattle.fl_types.proofs.BitLists.{same_tables}
-use Rattle.fl_column.specs.Columns.{Column, PrimitiveParts, column_of_primitive, option_all}
+use Rattle.fl_column.specs.Columns.{PrimitiveParts, column_of_primitive, option_all}
 use Rattle.fl_column.specs.Selections.{any_null}
 use Rattle.fl_column.proofs.CastLaws.{any_null_is}
 use Rattle.fl_column.proofs.ItemLaws.{get_or-items_of, length-items_of}
@@ -23,7 +23,6 @@ use Rattle.fl_types.specs.Bits.{tabulate}
 use Rattle.fl_bitpacking.specs.Blocks.{Blocks}
 use Rattle.fl_bitpacking.specs.Casts.{cast_packed, cast_patches, cast_primitive, cast_validity}
 use Rattle.fl_bitpacking.specs.Columns.{BitPackedParts, column_of_packed, packed_item, stored}
-use Rattle.fl_bitpacking.specs.Parts.{Fit}
 use Rattle.fl_bitpacking.specs.Refusals.{AreConsistent}
 use Rattle.fl_bitpacking.proofs.Tables.{get_or-table, length-table}
 

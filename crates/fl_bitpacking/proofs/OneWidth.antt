@@ -1,5 +1,5 @@
 -- Blocks of one width, and the boundaries between them.
-use Rattle.std.proofs.Common.{◌≡◌, ◌∙◌, ℕ, ℤ, pos, zero, suc, ◌+◌, ◌*◌, ◌/◌, ◌%◌, ◌-◌, ◌^◌, ◌<◌, ◌≤◌, cond, true, List, [], ◌∷◌, length, map, take, get_or, nat_le, Some, None, refl, ap, sym, arith}
+use Rattle.std.proofs.Common.{◌≡◌, ◌∙◌, ℕ, ℤ, zero, suc, ◌+◌, ◌*◌, ◌/◌, ◌%◌, ◌<◌, ◌≤◌, cond, true, List, [], ◌∷◌, length, take, get_or, nat_le, Some, None, refl, ap, sym, arith}
 use Rattle.std.specs.Prelude.{replicate, unwrap_or}
 use Rattle.std.specs.List.{list_all, sum}
 use Rattle.std.proofs.lemmas.List.{length-replicate, take-replicate}
@@ -23,7 +23,7 @@ use Rattle.fl_bitpacking.specs.Refusals.{blocked_refusal, global_refusal}
 use Rattle.fl_bitpacking.proofs.EncodedParts.{boundaries_are_blocks, boundary_items, boundary_type, numbers_of_boundaries}
 use Rattle.fl_bitpacking.proofs.Bounds.{boundaries_small}
 use Rattle.fl_bitpacking.proofs.IndexNumbers.{numbers_of_index}
-use Rattle.fl_bitpacking.proofs.SoundParts.{AreGlobal, are_global, no_blocked_refusal}
+use Rattle.fl_bitpacking.proofs.SoundParts.{are_global, no_blocked_refusal}
 use Rattle.fl_bitpacking.proofs.Tables.{get_or-table}
 
 -- ---- the boundaries

@@ -1,5 +1,4 @@
 -- A test of packed blocks, as the code holds it.
-use Rattle.fl_types.specs.declared.dtype.PType.{PType}
 use Rattle.fl_bitpacking.specs.declared.compute.compare.PackedTest.{PackedTest}
 use Rattle.fl_bitpacking.specs.RangeTests.{TestsPatterns}
 

@@ -1,5 +1,5 @@
 -- Blocks of one width that are unpacked one after the other.
-use Rattle.std.specs.Prelude.{◌+◌, ◌-◌, ◌*◌, ◌≤◌, ℕ, ℤ, List, length, Option, Some, None, nat_lt, min, if◌then◌else◌}
+use Rattle.std.specs.Prelude.{◌+◌, ◌-◌, ◌*◌, ℕ, ℤ, List, Option, Some, None, nat_lt, min, if◌then◌else◌}
 use Rattle.fastlanes.specs.Counts.{Counts}
 use Rattle.fl_types.specs.declared.dtype.PType.{PType}
 use Rattle.fl_types.specs.Bits.{tabulate}

@@ -12,7 +12,7 @@ use fl_column::PhysicalPType;
 use fl_column::patterns::write_patterns;
 use fl_types::NativePType;
 
-/// A type whose values have this many bits.
+/// The number of bits of a type's values.
 pub trait BitCount {
     /// The bits of a value.
     const TYPE_BITS: usize;

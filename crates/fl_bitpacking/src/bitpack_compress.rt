@@ -151,9 +151,8 @@ fn pack_array(
     Ok(packed)
 }
 
-/// Packs the low `width` bits of an array's integers, also of those under a null, with 0 behind the
-/// last of them, into bytes that are there: `128 * width` for each block of 1024. The width is at most
-/// the type's bits.
+/// Packs the low `width` bits of an array's integers, also of those under a null, padded with 0, into
+/// existing bytes: `128 * width` for each block of 1024. The width is at most the type's bits.
 pub fn bitpack_into(array: &PrimitiveArray, width: u8, bytes: &mut [u8])
     requires width { width ≤ bits_of_type array.now.ptype }
     requires room { length bytes.old ≡ 128 * width * chunk_count (length array.now.slots) }
@@ -163,8 +162,8 @@ pub fn bitpack_into(array: &PrimitiveArray, width: u8, bytes: &mut [u8])
     match_each_integer_ptype!(array.ptype(), pack_typed_into(array, width, bytes));
 }
 
-/// The packed low `width` bits of an array's integers, also of those under a null, with 0 behind the
-/// last of them. The width is at most the type's bits.
+/// The packed low `width` bits of an array's integers, also of those under a null, padded with 0. The
+/// width is at most the type's bits.
 pub fn bitpack_unchecked(
     alloc: Global,
     array: &PrimitiveArray,
@@ -182,11 +181,11 @@ pub fn bitpack_unchecked(
     }
 }
 
-/// The packed low bits of an array's integers, also of those under a null, with 0 behind the last of
-/// them, at a width for each block of 1024; and the boundaries of the blocks.
+/// The packed low bits of an array's integers, also of those under a null, padded with 0, at a width for
+/// each block of 1024; and the boundaries of the blocks.
 ///
-/// There is a width for each block, and it is at most the type's bits. The boundaries are the sums of
-/// `128 * width` from 0 on, of the smallest type that holds the last one.
+/// There is one width for each block, at most the type's bits. The boundaries are the sums of
+/// `128 * width` from 0 on, in the smallest unsigned type that holds the last one.
 pub fn bitpack_blocked_unchecked(
     alloc: Global,
     array: &PrimitiveArray,

@@ -36,16 +36,16 @@ pub struct PackedColumn<'a> {
     pub ptype: PType,
     /// Which items are not null.
     pub validity: &'a Validity,
-    /// The values that stand in place of packed bits.
+    /// The values that replace packed bits.
     pub patches: Option<&'a Patches>,
     /// The position of the first item in the first block, below 1024.
     pub offset: usize,
-    /// How many items there are.
+    /// The number of items.
     pub len: usize,
 }
 
-/// The item at `index` of a packed block of `128 * width` bytes, read without its neighbours. It reads
-/// each word that holds a bit of the item once, so at most two, and none at width 0.
+/// The item at `index` of a packed block of `128 * width` bytes, read by itself. It reads each word that
+/// holds a bit of the item once: at most two, and none at width 0.
 pub fn unpack_block_item<T: PhysicalPType>(
     width: usize,
     block: &[u8],
@@ -64,9 +64,9 @@ pub fn unpack_block_item<T: PhysicalPType>(
     T::from_physical(unpack_single(width, block, index, work))
 }
 
-/// Item `i` of a column that was packed at one width, without patches.
+/// Item `i` of a column packed at one width, without patches.
 ///
-/// The width is at most the type's bits, and the block of the item lies in the bytes.
+/// The width is at most the type's bits, and the bytes hold the block of the item.
 pub fn unpack_single_primitive<T: PhysicalPType>(packed: &[u8], width: usize, i: usize) -> T
     requires width { width ≤ bits_of_type T.PTYPE }
     requires room { 128 * width * (i / 1024 + 1) ≤ length packed.now }
@@ -237,10 +237,10 @@ fn unpack_column(
     match_each_integer_ptype!(column.ptype, unpack_typed(alloc, column, widths, work))
 }
 
-/// The column of these parts, all of whose blocks have one width: an item is null where the validity
-/// has none, else its patch, else what its bits say, read as the type. Each block is unpacked once at most.
+/// The column of these parts, whose blocks have one width: an item is null if the validity says so, else
+/// its patch, else its bits, read as the type. Each block is unpacked at most once.
 ///
-/// The width is at most the type's bits, and the blocks lie in the bytes.
+/// The width is at most the type's bits, and the bytes hold the blocks.
 pub fn unpack_global(
     alloc: Global,
     column: &PackedColumn,
@@ -257,12 +257,12 @@ pub fn unpack_global(
     unpack_column(alloc, column, Widths::Global(width), work)
 }
 
-/// The column of these parts, whose block `j` lies between the boundaries `j` and `j + 1`, in bytes
-/// counted from the first boundary: an item is null where the validity has none, else its patch, else
-/// what its bits say, read as the type. Each block is unpacked once at most.
+/// The column of these parts, whose block `j` is between the boundaries `j` and `j + 1`, in bytes from
+/// the first boundary on: an item is null if the validity says so, else its patch, else its bits, read as
+/// the type. Each block is unpacked at most once.
 ///
-/// There is one boundary more than there are blocks, and each two neighbours are those of a block in
-/// the bytes, of at most the type's bits.
+/// There is one boundary more than blocks, and each two neighbours enclose a block within the bytes, of at
+/// most the type's bits.
 pub fn unpack_blocked(
     alloc: Global,
     column: &PackedColumn,

@@ -1,4 +1,4 @@
-//! The blocks of a packed column: where their bytes lie, and their items.
+//! The blocks of a packed column: where their bytes are, and their items.
 
 ghost use Rattle.std.specs.Prelude.{◌≡◌, ◌+◌, ◌-◌, ◌*◌, ◌<◌, ◌≤◌, ◌^◌, ℕ, length, min};
 ghost use Rattle.fl_types.specs.Bits.{between};
@@ -78,7 +78,7 @@ pub(crate) struct PackedBlocks<'a> {
     pub(crate) packed: &'a [u8],
     /// The position of the first item in the first block, below 1024.
     pub(crate) offset: usize,
-    /// How many items there are.
+    /// The number of items.
     pub(crate) len: usize,
 }
 

@@ -1,4 +1,4 @@
-//! Whether boundaries are those of the blocks in this many bytes.
+//! Whether boundaries are those of blocks in this many bytes.
 
 ghost use Rattle.std.specs.Prelude.{◌≡◌, ◌<◌, ◌-◌, ◌==◌, length, slice_index};
 ghost use Rattle.fl_column.specs.Numbers.{numbers};
@@ -18,8 +18,8 @@ fn is_block(bits: usize, size: usize, first: usize, start: usize, end: usize) ->
         && (end - start) / 128 <= bits
 }
 
-/// Whether each two neighbouring boundaries are those of a block: in order, whole multiples of 128 bytes
-/// behind the first one, at a width of at most `bits`, and within `size` bytes of the first one.
+/// Whether each two neighbouring boundaries enclose a block: in order, multiples of 128 bytes after the
+/// first one, at a width of at most `bits`, and within `size` bytes of the first one.
 pub fn are_blocks(boundaries: &PrimitiveArray, bits: usize, size: usize) -> bool
     requires { 0 < length boundaries.now.slots }
     ensures { result ≡ are_blocks bits size (numbers boundaries.now) }

@@ -1,4 +1,4 @@
-//! What holds of every packed column.
+//! Laws of every packed column.
 
 ghost use Rattle.std.specs.Prelude.{◌≡◌, ◌<◌, ◌++◌, [], ℕ, ℤ, IsTrue, List, Option, length, slice_index, unwrap_or};
 ghost use Rattle.fastlanes.specs.Layout.{word_at};
@@ -18,15 +18,15 @@ ghost use Rattle.fl_types.specs.declared.dtype.PType.{PType};
 
 use fl_column::PrimitiveArray;
 
-/// Packed integers decode to their column where each valid one has a patch of its own value, or no
-/// patch and no more bits than the width of its block; at one width, and at a width for each block.
+/// Packed integers decode to their column if each valid one has a patch of its own value, or no patch and
+/// no more bits than the width of its block; at one width, and at a width for each block.
 pub fn packed_and_back()
     ensures { (p : PrimitiveParts) (patches : Option PatchesParts) (blocks : Blocks) (bytes : List ℕ) → IsTrue (covers p.validity (length p.slots)) → IsTrue (list_all (fits p.ptype) p.slots) → ArePacked p.ptype p.slots blocks bytes → AreKept p patches blocks
         → column_of_packed (record { packed = bytes; ptype = p.ptype; validity = p.validity; patches = patches; offset = 0; len = length p.slots }) blocks ≡ column_of_primitive p }
 {}
 
-/// At each width the patches of the items that have more bits keep the array's integers: each valid one
-/// has a patch of its own value, or no patch and no more bits than the width.
+/// The patches of the exceptions at any width keep the array's integers: each valid one has a patch of its
+/// own value, or no patch and no more bits than the width.
 pub fn gathered_patches_are_kept(array: &PrimitiveArray)
     ensures { (width : ℕ) → AreKept array.now (global_patches width array.now) (global_blocks width) }
 {
@@ -34,8 +34,8 @@ pub fn gathered_patches_are_kept(array: &PrimitiveArray)
     let _validity = array.validity();
 }
 
-/// At a width for each block the patches of the items that have more bits than their block's width keep
-/// the array's integers, in blocks between the boundaries of these widths.
+/// The patches of the exceptions at a width for each block keep the array's integers, in blocks between the
+/// boundaries of these widths.
 pub fn gathered_blocked_patches_are_kept(array: &PrimitiveArray)
     ensures { (widths : List ℕ) → length widths ≡ chunk_count (length array.now.slots) → AreKept array.now (blocked_patches widths array.now) (boundary_blocks (boundaries_of widths)) }
 {
@@ -43,8 +43,8 @@ pub fn gathered_blocked_patches_are_kept(array: &PrimitiveArray)
     let _validity = array.validity();
 }
 
-/// An array that is packed at any width and patched where its items have more bits decodes to its
-/// column, and so does one that is packed and patched at any width for each block.
+/// An array that is packed at any width, with its exceptions patched, decodes to its column, and so does
+/// one that is packed and patched at any width for each block.
 pub fn packed_with_patches_and_back(array: &PrimitiveArray)
     ensures even { (width : ℕ) (bytes : List ℕ) → ArePacked array.now.ptype array.now.slots (global_blocks width) bytes
         → column_of_packed (record { packed = bytes; ptype = array.now.ptype; validity = array.now.validity; patches = global_patches width array.now; offset = 0; len = length array.now.slots }) (global_blocks width) ≡ column_of_primitive array.now }
@@ -56,20 +56,19 @@ pub fn packed_with_patches_and_back(array: &PrimitiveArray)
     array.prove_in_range();
 }
 
-/// Integers that are packed into words of their own type, at one width, have the words that they have
-/// in bytes.
+/// Integers packed into words of their own type, at one width, have the same words as in bytes.
 pub fn words_as_in_bytes()
     ensures { (ptype : PType) (integers words : List ℤ) (width : ℕ) (bytes : List ℕ) → ((i : ℕ) → slice_index bytes i < 256) → AreWords ptype integers width words → ArePacked ptype integers (global_blocks width) bytes
         → (m : ℕ) → m < length words → pattern_in ptype words m ≡ word_at (bits_of_type ptype) bytes m }
 {}
 
-/// The parts of a reader lend its items: the first block, the whole blocks and the last block, in this
-/// order, lend each item once.
+/// The first block, the whole blocks and the last block of a reader, in this order, have each item
+/// once.
 pub fn parts_in_order()
     ensures { (ptype : PType) (r : Reader) → r.offset < 1024 → items_in_parts ptype r ≡ block_items_at ptype r.bit_width r.packed r.offset r.len }
 {}
 
-/// The whole blocks lend the items of the next block, and then those of the blocks behind it.
+/// The whole blocks have the items of the next block, and then those of the blocks after it.
 pub fn blocks_in_order()
     ensures { (ptype : PType) (b : WholeBlocks) → rest_items ptype b ≡ unwrap_or (next_items ptype b) [] ++ rest_items ptype (after_next b) }
 {}

@@ -33,8 +33,8 @@ use fl_types::{DType, FastLanesError, PType, PValue, Scalar, Validity, match_eac
 use std::alloc::Global;
 use std::marker::Model;
 
-/// The packed bytes of a column's blocks, and what is kept beside them: its type, its validity, its patches,
-/// and the positions of the blocks that it shows.
+/// The packed bytes of a column's blocks with its type, validity and patches, and the range of their
+/// positions that it covers.
 pub struct PackedData {
     packed: Bytes,
     ptype: PType,
@@ -141,7 +141,7 @@ fn slice_bytes(packed: &Bytes, from: usize, to: usize) -> Result<Bytes, FastLane
 }
 
 impl PackedData {
-    /// The data of these parts, which fit each other.
+    /// The data of these parts, which are consistent.
     pub fn new(
         packed: Bytes,
         ptype: PType,
@@ -163,7 +163,7 @@ impl PackedData {
         }
     }
 
-    /// The parts fit each other.
+    /// The parts are consistent.
     pub fn prove_well_formed(&self)
         ensures { AreConsistent self.now }
     {
@@ -191,7 +191,7 @@ impl PackedData {
         &self.validity
     }
 
-    /// The values that stand in place of packed bits.
+    /// The values that replace packed bits.
     pub fn patches(&self) -> Option<&Patches>
         ensures { option_copied result ≡ self.now.patches }
     {
@@ -205,7 +205,7 @@ impl PackedData {
         self.offset
     }
 
-    /// How many items there are.
+    /// The number of items.
     pub fn len(&self) -> usize
         ensures { result ≡ self.now.len }
     {
@@ -219,7 +219,7 @@ impl PackedData {
         DType::Primitive(self.ptype, self.validity.nullability())
     }
 
-    /// How many blocks there are.
+    /// The number of blocks.
     pub fn block_count(&self) -> usize
         ensures { result ≡ block_count self.now }
     {
@@ -240,7 +240,7 @@ impl PackedData {
         }
     }
 
-    /// The column of the items, whose blocks all have one width. Each block is unpacked once at most.
+    /// The column of the items, whose blocks have one width. Each block is unpacked at most once.
     pub fn decode_global(
         &self,
         alloc: Global,
@@ -257,7 +257,7 @@ impl PackedData {
         unpack_global(alloc, &self.column(), width, work)
     }
 
-    /// The column of the items, whose blocks lie between the boundaries. Each block is unpacked once at most.
+    /// The column of the items, whose blocks are between the boundaries. Each block is unpacked at most once.
     pub fn decode_blocked(
         &self,
         alloc: Global,
@@ -274,7 +274,7 @@ impl PackedData {
         unpack_blocked(alloc, &self.column(), boundaries, work)
     }
 
-    /// The column of the items, whose blocks lie between boundaries that are all equal: no block has a byte.
+    /// The column of the items, whose blocks are between boundaries that are all equal: no block has a byte.
     pub fn decode_without_bytes(
         &self,
         alloc: Global,
@@ -288,7 +288,7 @@ impl PackedData {
         self.decode_global(alloc, 0, work)
     }
 
-    /// The column of the items plus the references, whose blocks all have one width. Each block is unpacked once.
+    /// The column of the items plus the references, whose blocks have one width. Each block is unpacked once.
     pub fn unfor_global(
         &self,
         alloc: Global,
@@ -308,7 +308,7 @@ impl PackedData {
         unfor_global(alloc, &self.column(), width, references, work)
     }
 
-    /// The column of the items plus the references, whose blocks lie between the boundaries. Each block is
+    /// The column of the items plus the references, whose blocks are between the boundaries. Each block is
     /// unpacked once.
     pub fn unfor_blocked<'a>(
         &'a self,
@@ -384,7 +384,7 @@ impl PackedData {
         (self.offset + i) / FL_CHUNK_SIZE
     }
 
-    /// Item `i`, where all blocks have one width.
+    /// Item `i`, if all blocks have one width.
     pub fn item_global(&self, width: usize, i: usize, work: &mut Work) -> Scalar
         requires global { global_refusal self.now width ≡ None }
         requires range { i < self.now.len }
@@ -397,7 +397,7 @@ impl PackedData {
         self.item_in_block(start, width, i, work)
     }
 
-    /// Item `i`, where its block lies between `start` and `end`, of boundaries that begin with `first`.
+    /// Item `i`, if its block is between `start` and `end`, of boundaries that begin with `first`.
     pub fn item_blocked(
         &self,
         first: usize,
@@ -432,8 +432,7 @@ impl PackedData {
         Scalar::primitive(value, self.validity.nullability())
     }
 
-    /// Item `i` as its bits are stored, where all blocks have one width: without its patch, and also under a
-    /// null.
+    /// Item `i` by its packed bits, if all blocks have one width: without its patch, and also under a null.
     pub fn stored_global(&self, width: usize, i: usize, work: &mut Work) -> Scalar
         requires global { global_refusal self.now width ≡ None }
         requires range { i < self.now.len }
@@ -446,8 +445,8 @@ impl PackedData {
         self.stored_item(start, width, i, work)
     }
 
-    /// Item `i` as its bits are stored, where its block lies between `start` and `end`, of boundaries that begin
-    /// with `first`: without its patch, and also under a null.
+    /// Item `i` by its packed bits, if its block is between `start` and `end`, of boundaries that begin with
+    /// `first`: without its patch, and also under a null.
     pub fn stored_blocked(
         &self,
         first: usize,
@@ -468,7 +467,7 @@ impl PackedData {
         self.stored_item(start - first, (end - start) / (FL_CHUNK_SIZE / 8), i, work)
     }
 
-    /// The parts of the items from `start` to below `end`, whose blocks are the bytes from `from` to below `to`.
+    /// The parts of the items of `start..end`, whose blocks are the bytes of `from..to`.
     pub fn slice(
         &self,
         alloc: Global,
@@ -497,8 +496,8 @@ impl PackedData {
         })
     }
 
-    /// The parts of the items from `start` to below `end`, where all blocks have one width: the blocks from
-    /// the first one that holds such an item to the last one.
+    /// The parts of the items of `start..end`, if all blocks have one width: the blocks from the first one that
+    /// holds such an item to the last one.
     pub fn slice_global(
         &self,
         alloc: Global,
@@ -521,8 +520,8 @@ impl PackedData {
         Ok(sliced)
     }
 
-    /// The parts of the items from `start` to below `end`, where the blocks lie between boundaries: `first` is
-    /// the first of all, `from` stands before the first block that holds such an item and `to` behind the last.
+    /// The parts of the items of `start..end`, if the blocks are between boundaries: `first` is the first of
+    /// all, `from` that before the first block that holds such an item, and `to` that after the last.
     pub fn slice_blocked(
         &self,
         alloc: Global,
@@ -553,7 +552,7 @@ impl PackedData {
         (self.offset + start) / FL_CHUNK_SIZE
     }
 
-    /// The block behind the last one that holds an item below `end`.
+    /// The block after the last one that holds an item below `end`.
     pub fn end_block(&self, end: usize) -> usize
         requires { end ≤ self.now.len }
         ensures { result ≡ end_block self.now.offset end }
@@ -561,8 +560,8 @@ impl PackedData {
         chunk_count(self.offset + end)
     }
 
-    /// The boundaries of the blocks, which all have one width, as an array of the smallest type that holds the
-    /// last of them. They are asked for by one allocation.
+    /// The boundaries of the blocks, which have one width, as an array of the smallest unsigned type that holds
+    /// the last one. They take one allocation.
     pub fn global_boundaries(
         &self,
         alloc: Global,

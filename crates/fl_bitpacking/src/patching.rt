@@ -1,4 +1,4 @@
-//! Putting patches into a column.
+//! Applying patches to a column.
 
 ghost use Rattle.std.specs.Prelude.{◌≡◌, ◌<◌, ◌≤◌, ◌+◌, ◌/◌, ◌^◌, ℕ, length, map, option_map, slice_index, slice_set, unwrap_or};
 ghost use Rattle.fl_column.specs.Numbers.{numbers, numbers_by};

@@ -1,4 +1,4 @@
-//! Why parts make no bit-packed array, each time the first reason that holds.
+//! The errors of the parts of bit-packed arrays, each time the first that applies.
 
 ghost use Rattle.std.specs.Prelude.{◌≡◌, ◌+◌, ◌^◌, ◌<◌, ◌==◌, length};
 ghost use Rattle.std.specs.Option.{option_copied};
@@ -17,7 +17,7 @@ use fl_column::{ConstantArray, PrimitiveArray, chunk_count};
 use fl_patches::Patches;
 use fl_types::{DType, FastLanesError, PType};
 
-/// Why there are no positions of `len` items from `offset` on in blocks of 1024, if there are none.
+/// The error of `len` items from `offset` on in blocks of 1024, if there is one.
 pub fn positions_refusal(offset: usize, len: usize) -> Option<FastLanesError>
     ensures { result ≡ positions_refusal offset len }
 {
@@ -66,7 +66,7 @@ fn validity_and_patches_refusal(column: &PackedColumn) -> Option<FastLanesError>
     None
 }
 
-/// Why these parts make no array whose blocks all have this width, if they make none: the first of
+/// The error of these parts as an array whose blocks have this width, if there is one: the first of
 /// `OffsetTooLarge`, `LengthOverflow`, `WidthTooLarge`, `ValidityLength`, `PatchType`, `PatchLength` and
 /// `PackedLength`.
 pub fn global_refusal(column: &PackedColumn, width: usize) -> Option<FastLanesError>
@@ -88,7 +88,7 @@ pub fn global_refusal(column: &PackedColumn, width: usize) -> Option<FastLanesEr
     None
 }
 
-/// Why `count` boundaries of a type are not those of this many blocks, if they are not.
+/// The error of `count` boundaries of a type for this many blocks, if there is one.
 pub fn block_offsets_refusal(blocks: usize, dtype: DType, count: usize) -> Option<FastLanesError>
     ensures { result ≡ block_offsets_refusal blocks dtype count }
 {
@@ -118,7 +118,7 @@ fn boundaries_refusal(column: &PackedColumn, boundaries: &PrimitiveArray) -> Opt
     None
 }
 
-/// Why these parts make no array whose blocks lie between the boundaries, if they make none: the first
+/// The error of these parts as an array whose blocks are between the boundaries, if there is one: the first
 /// of `OffsetTooLarge`, `LengthOverflow`, `BlockOffsetsType`, `BlockOffsetsCount`, `BlockBoundary`,
 /// `BlockSpan`, `ValidityLength`, `PatchType` and `PatchLength`.
 pub fn blocked_refusal(column: &PackedColumn, boundaries: &PrimitiveArray) -> Option<FastLanesError>
@@ -137,8 +137,8 @@ pub fn blocked_refusal(column: &PackedColumn, boundaries: &PrimitiveArray) -> Op
     validity_and_patches_refusal(column)
 }
 
-/// Why these parts make no array whose blocks lie between boundaries that are all equal, as `blocked_refusal`
-/// has it, if they make none: each block has width 0, so there may be no byte. No boundary is written out.
+/// The error of `blocked_refusal` for boundaries that are all equal, if there is one: each block has width 0,
+/// so there may be no byte. The boundaries are not written out.
 pub fn constant_boundaries_refusal(
     column: &PackedColumn,
     boundaries: &ConstantArray,

@@ -23,8 +23,8 @@ use fl_patches::Widths;
 use fl_types::{FastLanesError, NativePType};
 use std::marker::Model;
 
-/// A way to unpack a block of integers of a type. The layout is the one way, and so the contract; a
-/// strategy may do more, as keep what it saw.
+/// A way to unpack a block of integers of a type. The contract is the layout's; a strategy may do more, for
+/// instance record what it read.
 pub trait UnpackStrategy<T: NativePType> {
     /// Unpacks a block of `128 * bit_width` bytes. The bits of an item from `bit_width` on are 0, and
     /// its pattern is read as the type.
@@ -43,7 +43,7 @@ pub trait UnpackStrategy<T: NativePType> {
         ensures words { work.new.words ≡ work.old.words };
 }
 
-/// Unpacks by the kernels of the layout.
+/// Unpacks with the kernels of the layout.
 #[derive(Clone, Copy)]
 pub struct BitPackingStrategy;
 
@@ -59,7 +59,7 @@ impl<T: BitPacked> UnpackStrategy<T> for BitPackingStrategy {
     }
 }
 
-/// Packed blocks that a reader can be made of.
+/// Packed blocks that a reader can read.
 pub trait PackedSource {
     /// The bytes of the blocks.
     ghost bytes: { Self → List ℕ };
@@ -74,7 +74,7 @@ pub trait PackedSource {
     fn packed_bytes(&self) -> &[u8]
         ensures { result.now ≡ bytes self.now };
 
-    /// The width of all blocks, or `None` where each has its own.
+    /// The width of all blocks, or `None` if each has its own.
     fn global_width(&self) -> Option<u8>
         ensures { result ≡ width self.now };
 
@@ -83,8 +83,8 @@ pub trait PackedSource {
         ensures { result ≡ first self.now };
 }
 
-/// A packed column that is read block by block: the items of a first block that is cut, or alone, the
-/// items of a last one that is cut, and all of them at once. It keeps no state but its `Work`.
+/// Reads a packed column block by block: the items of a first block that is cut or the only one, the items
+/// of a last block that is cut, and all items at once. Its only state is its `Work`.
 #[derive(Drop)]
 pub struct UnpackedChunks<'a, T: BitCount, S> {
     pub(crate) strategy: S,
@@ -151,8 +151,8 @@ impl<'a, T: BitPacked, S: UnpackStrategy<T> + Drop> UnpackedChunks<'a, T, S> {
         }
     }
 
-    /// The items of the first block, where it is cut in front or the only one, and else none. They are
-    /// lent until the reader is used again, and are the same at every call.
+    /// The items of the first block if it is cut or the only one, else none. They are lent until the reader
+    /// is used again, and are the same at every call.
     pub fn initial(&mut self) -> UnpackedItems<'_, T>
         ensures* after { sem 𝓛 (lends_items T.row S.row T.BitCount self.entry (after_initial self.old) result) }
         ensures items { integers_lent T.value result ≡ initial_items T.PTYPE self.old }
@@ -165,8 +165,8 @@ impl<'a, T: BitPacked, S: UnpackStrategy<T> + Drop> UnpackedChunks<'a, T, S> {
         self.lend_block(0, span)
     }
 
-    /// The items of the last block, where it is cut behind and not the only one, and else none. They
-    /// are lent until the reader is used again, and are the same at every call.
+    /// The items of the last block if it is cut and not the only one, else none. They are lent until the
+    /// reader is used again, and are the same at every call.
     pub fn trailer(&mut self) -> UnpackedItems<'_, T>
         ensures* after { sem 𝓛 (lends_items T.row S.row T.BitCount self.entry (after_trailer self.old) result) }
         ensures items { integers_lent T.value result ≡ trailer_items T.PTYPE self.old }
@@ -180,11 +180,11 @@ impl<'a, T: BitPacked, S: UnpackStrategy<T> + Drop> UnpackedChunks<'a, T, S> {
     }
 
     /// A reader of a column of this many items from the offset on, whose blocks have one width, at most
-    /// the type's bits. The strategy unpacks the blocks; the scratch block is scratch space.
+    /// the type's bits. The strategy unpacks the blocks; the scratch block is space that it writes.
     ///
     /// # Errors
-    /// `OffsetTooLarge` where the offset is 1024 or more. Then `LengthOverflow` where offset and length
-    /// together, rounded up to whole blocks, are above `usize::MAX`. Then `PackedLength` where the bytes
+    /// `OffsetTooLarge` if the offset is 1024 or more. Then `LengthOverflow` if offset and length
+    /// together, rounded up to whole blocks, are above `usize::MAX`. Then `PackedLength` if the bytes
     /// are not those of the blocks.
     pub fn try_new_with_strategy(
         strategy: S,
@@ -217,14 +217,14 @@ impl<'a, T: BitPacked, S: UnpackStrategy<T> + Drop> UnpackedChunks<'a, T, S> {
         })
     }
 
-    /// The blocks that were unpacked so far.
+    /// The number of blocks unpacked so far.
     pub fn work(&self) -> &Work
         ensures { result.now ≡ self.now.work }
     {
         &self.work
     }
 
-    /// Writes all items, each block unpacked once, a whole one straight into its place.
+    /// Writes all items. Each block is unpacked once, a whole one directly into the output.
     #[tactic(auto, unfolding(crate::specs::BlockSums::decoded_item))]
     pub fn decode_into(&mut self, output: &mut [T])
         requires { length output.old ≡ self.old.len }

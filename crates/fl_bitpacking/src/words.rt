@@ -32,7 +32,7 @@ fn read_words<T: PhysicalPType>(
     Ok(words)
 }
 
-/// The whole words of packed bytes, the low byte of each first, as integers of the type. Bytes behind the
+/// The whole words of packed bytes, the low byte of each first, as integers of the type. Bytes after the
 /// last whole word are dropped.
 pub fn packed_words<T: PhysicalPType>(alloc: Global, bytes: &[u8]) -> Result<Vec<T>, FastLanesError>
     ensures { Answers (λ v. map T.value v.items) result (Ok (words_as T.PTYPE bytes.now)) }

@@ -1,5 +1,5 @@
 -- The numbers and the validity of a part of a column.
-use Rattle.std.proofs.Common.{◌≡◌, ◌+◌, ◌-◌, ◌<◌, ℕ, ℤ, pos, false, true, List, [], ◌∷◌, length, map, Option, Some, refl, ap, ◌∙◌, unwrap_or}
+use Rattle.std.proofs.Common.{◌≡◌, ◌+◌, ◌-◌, ◌<◌, ℕ, ℤ, pos, false, true, List, [], ◌∷◌, length, map, Some, refl, ap, ◌∙◌, unwrap_or}
 use Rattle.std.specs.Prelude.{unsigned_abs}
 use Rattle.std.proofs.lemmas.List.{length-map}
 use Rattle.fl_types.specs.declared.dtype.PType.{PType}

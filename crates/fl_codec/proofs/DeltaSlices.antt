@@ -1,6 +1,5 @@
 -- What is known of bases and deltas that make a column, and their slices.
-use Rattle.std.proofs.Common.{◌≡◌, ◌==◌, ◌&&◌, ◌||◌, ◌+◌, ◌*◌, ◌-◌, ◌/◌, ◌%◌, ◌<◌, ◌≤◌, ◌+ℤ◌, ℕ, ℤ, pos, zero, suc, Bool, true, false, not, List, length, map, get_or, nat_le, nat_lt, Option, Some, None, IsTrue, refl, ap, sym, ◌∙◌, if◌then◌else◌, arith}
-use Rattle.std.specs.Prelude.{is_some, unwrap_or, option_map}
+use Rattle.std.proofs.Common.{◌≡◌, ◌==◌, ◌&&◌, ◌||◌, ◌+◌, ◌*◌, ◌-◌, ◌/◌, ◌%◌, ◌<◌, ◌≤◌, ℕ, ℤ, pos, zero, suc, Bool, true, false, not, List, length, get_or, nat_le, nat_lt, Option, Some, None, refl, ap, sym, ◌∙◌, if◌then◌else◌, arith}
 use Rattle.std.proofs.lemmas.Bool.{eqb-true, leb-false, ltb-false, lt-leb, le-ltb, eq-eqb}
 use Rattle.fastlanes.specs.Layout.{place, segment_lane, segment_row}
 use Rattle.fastlanes.proofs.Bijection.{segment_placed}
@@ -8,31 +7,27 @@ use Rattle.fastlanes.proofs.Places.{place_below}
 use Rattle.fl_types.specs.declared.error.FastLanesError.{FastLanesError}
 use Rattle.fl_types.specs.declared.error.FastLanesError.TheVariants.{NotInteger, OffsetTooLarge, ValidityLength, TypeMismatch, ChildNullable, ChildLength, RangeBeyondChild}
 use Rattle.fl_types.specs.declared.dtype.PType.{PType}
-use Rattle.fl_types.specs.declared.dtype.PType.TheVariants.{U8}
 use Rattle.fl_types.specs.declared.dtype.DType.{DType}
 use Rattle.fl_types.specs.declared.dtype.DType.TheVariants as dtypes
 use Rattle.fl_types.specs.declared.validity.Validity.{Validity}
 use Rattle.fl_types.specs.declared.validity.Validity.TheVariants as valid
-use Rattle.fl_types.specs.Bits.{between, tabulate}
-use Rattle.fl_types.specs.Integers.{bits_of_type, lanes_of_type, wrap}
-use Rattle.fl_types.specs.Types.{integer_type, is_integer, is_nullable, nullability_in, same_type}
+use Rattle.fl_types.specs.Bits.{between}
+use Rattle.fl_types.specs.Integers.{bits_of_type, lanes_of_type}
+use Rattle.fl_types.specs.Types.{integer_type, is_integer, is_nullable, same_type}
 use Rattle.fl_types.specs.Validities.{covers, is_valid_at, nullability_of, validity_between}
 use Rattle.fl_types.proofs.BitLists.{same_tables}
-use Rattle.fl_column.specs.Columns.{Column, integers_in, ptype_of_column}
+use Rattle.fl_column.specs.Columns.{Column}
 use Rattle.fl_column.specs.Operations.{slice_of}
-use Rattle.fl_column.specs.Questions.{scalar_in}
 use Rattle.fl_column.proofs.ItemLaws.{length-between, nullability_of-between}
 use Rattle.fl_column.proofs.ListLaws.{and_first, and_second}
-use Rattle.fl_codec.specs.Chunks.{chunks_of}
 use Rattle.fl_codec.proofs.Tables.{get_or-between}
-use Rattle.fl_codec.specs.Deltas.{block_integer, delta_column, delta_integer, delta_items, lane_sum}
+use Rattle.fl_codec.specs.Deltas.{block_integer, delta_column, delta_integer, lane_sum}
 use Rattle.fl_codec.proofs.DeltaRoundTrips.{width_of}
-use Rattle.fl_codec.specs.DeltaRefusals.{delta_refusal, delta_children_refusal, lanes_of_dtype}
+use Rattle.fl_codec.specs.DeltaRefusals.{delta_refusal, lanes_of_dtype}
 use Rattle.fl_codec.specs.ChunkSlices.{end_chunk, first_chunk}
-use Rattle.fl_codec.proofs.FoRSlices.{integers_of-slice}
 use Rattle.fl_codec.proofs.ColumnParts.{valid-between}
-use Rattle.fl_codec.proofs.FirstRefusals.{is_same_ptype, same_ptype_is}
-use Rattle.fl_codec.proofs.Tables.{between-table, get_or-table, length-table}
+use Rattle.fl_codec.proofs.FirstRefusals.{same_ptype_is}
+use Rattle.fl_codec.proofs.Tables.{between-table}
 
 all_passed : (a b c d e f g : Bool) (h i j k l m n : FastLanesError) → (if a then Some h else if b then Some i else if c then Some j else if not d then Some k else if not e then Some l else if not f then Some m else if not g then Some n else None) ≡ None
     → (a ≡ false) × (b ≡ false) × (c ≡ false) × (d ≡ true) × (e ≡ true) × (f ≡ true) × (g ≡ true)

@@ -19,9 +19,10 @@ use Rattle.fl_column.proofs.ItemLaws.{get_or-items_of, length-items_of, nullable
 use Rattle.fl_column.proofs.ListLaws.{all_at, and_first, and_second}
 use Rattle.std.proofs.lemmas.Bool.{ltb-true}
 use Rattle.fl_types.proofs.BitLists.{same_tables}
-use Rattle.fl_codec.specs.FoRColumns.{chunk_references, chunked_slots, common_reference, global_for, least_valid, minus_reference, plus_reference}
+use Rattle.fl_codec.specs.FoRColumns.{chunk_references, chunked_slots, common_reference, global_for, least_by, minus_reference, plus_reference, reading}
 use Rattle.fl_codec.specs.FoRValues.{column_of_for, column_of_one_reference}
-use Rattle.fl_codec.specs.Parts.{FoRParts, OneReference, encode_chunked, encode_global, items_of_primitive, less_chunk_leasts, less_common, subtract_min, subtract_reference, less_references}
+use Rattle.fl_codec.specs.Parts.{FoRParts, OneReference, encode_chunked_by, encode_global_by, items_of_primitive, less_chunk_leasts, less_common, subtract_min, subtract_reference, less_references}
+use Rattle.fl_codec.specs.declared.for_.ItemOrder.{ItemOrder}
 use Rattle.fl_codec.proofs.Congruence.{IsPattern, IsPattern-add, pattern_is, pattern_small, read_as-IsPattern}
 use Rattle.fl_codec.proofs.ReferenceLaws.{get_or-table, length-table}
 
@@ -98,8 +99,8 @@ least_back : (p : PrimitiveParts) (least : Option ℤ) (parts : OneReference) �
 least_back p None parts covered fit e = cc
 least_back p (Some least) parts covered fit e = let same : subtract_reference p least ≡ parts = cc in subst (λ x. column_of_one_reference x ≡ column_of_primitive p) same (less_reference_back p least covered fit)
 
-pub global_back : (p : PrimitiveParts) (parts : OneReference) → IsTrue (covers p.validity (length p.slots)) → list_all (fits p.ptype) p.slots ≡ true → encode_global p ≡ Ok parts → column_of_one_reference parts ≡ column_of_primitive p
-global_back p parts covered fit e = least_back p (least_valid (items_of_primitive p)) parts covered fit e
+pub global_back : (order : ItemOrder) (p : PrimitiveParts) (parts : OneReference) → IsTrue (covers p.validity (length p.slots)) → list_all (fits p.ptype) p.slots ≡ true → encode_global_by order p ≡ Ok parts → column_of_one_reference parts ≡ column_of_primitive p
+global_back order p parts covered fit e = least_back p (least_by (reading order p.ptype) (items_of_primitive p)) parts covered fit e
 
 -- ---- a reference for each chunk
 less_references_back : (p : PrimitiveParts) (references : List ℤ) → IsTrue (covers p.validity (length p.slots)) → list_all (fits p.ptype) p.slots ≡ true → column_of_for (less_references p references) ≡ column_of_primitive p
@@ -146,13 +147,14 @@ nulls_back p covered some nulls =
     let nullable : nullability_of p.validity ≡ Nullable = nullable_by_item p.validity p.slots 0 (ap (λ xs. get_or xs 0 None) items ∙ first_of_nulls (length p.slots) some) some in
     rw (nullable, items) (ap (λ xs. record { dtype = Primitive p.ptype Nullable; items = xs }) (map_none p.ptype (pos 0) (length p.slots)))
 
-chosen_back : (p : PrimitiveParts) (nulls : FoRParts) (b : Bool) → (b ≡ true → column_of_for nulls ≡ column_of_primitive p) → column_of_for (less_chunk_leasts p) ≡ column_of_primitive p → column_of_for (if b then nulls else less_chunk_leasts p) ≡ column_of_primitive p
-chosen_back p nulls true here other = here refl
-chosen_back p nulls false here other = other
+chosen_back : (order : ItemOrder) (p : PrimitiveParts) (nulls : FoRParts) (b : Bool) → (b ≡ true → column_of_for nulls ≡ column_of_primitive p) → column_of_for (less_chunk_leasts order p) ≡ column_of_primitive p
+    → column_of_for (if b then nulls else less_chunk_leasts order p) ≡ column_of_primitive p
+chosen_back order p nulls true here other = here refl
+chosen_back order p nulls false here other = other
 
-pub chunked_back : (p : PrimitiveParts) → IsTrue (covers p.validity (length p.slots)) → list_all (fits p.ptype) p.slots ≡ true → column_of_for (encode_chunked p) ≡ column_of_primitive p
-chunked_back p covered fit =
-    let references = chunk_references (items_of_primitive p) in
-    chosen_back p _ (nat_lt 0 (length p.slots) && list_all is_none (items_of_primitive p))
+pub chunked_back : (order : ItemOrder) (p : PrimitiveParts) → IsTrue (covers p.validity (length p.slots)) → list_all (fits p.ptype) p.slots ≡ true → column_of_for (encode_chunked_by order p) ≡ column_of_primitive p
+chunked_back order p covered fit =
+    let references = chunk_references (reading order p.ptype) (items_of_primitive p) in
+    chosen_back order p _ (nat_lt 0 (length p.slots) && list_all is_none (items_of_primitive p))
     (λ both. nulls_back p covered (ltb-true _ _ (and_first (nat_lt 0 (length p.slots)) (list_all is_none (items_of_primitive p)) both)) (and_second (nat_lt 0 (length p.slots)) (list_all is_none (items_of_primitive p)) both))
     (common_back p references (common_reference references) covered fit)

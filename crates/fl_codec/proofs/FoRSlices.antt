@@ -1,10 +1,9 @@
 -- Slices and single items of columns that are kept less a reference.
-use Rattle.std.proofs.Common.{◌≡◌, ℕ, ℤ, pos, ◌+◌, ◌-◌, ◌/◌, ◌%◌, ◌<◌, ◌≤◌, ◌+ℤ◌, List, length, map, take, drop, get_or, Option, Some, None, Bool, false, refl, ap, sym, ◌∙◌, arith}
-use Rattle.std.specs.Prelude.{is_some, option_map, unwrap_or}
+use Rattle.std.proofs.Common.{◌≡◌, ℕ, ℤ, pos, ◌+◌, ◌-◌, ◌/◌, ◌%◌, ◌<◌, ◌≤◌, List, length, get_or, Option, Some, None, refl, ap, ◌∙◌, arith}
+use Rattle.std.specs.Prelude.{is_some, unwrap_or}
 use Rattle.std.proofs.lemmas.List.{take-map, drop-map, get_or-map}
 use Rattle.fl_types.specs.declared.dtype.PType.{PType}
-use Rattle.fl_types.specs.declared.dtype.Nullability.{Nullability}
-use Rattle.fl_types.specs.declared.dtype.Nullability.TheVariants.{NonNullable, Nullable}
+use Rattle.fl_types.specs.declared.dtype.Nullability.TheVariants.{NonNullable}
 use Rattle.fl_types.specs.declared.validity.Validity.{Validity}
 use Rattle.fl_types.specs.declared.validity.Validity.TheVariants as valid
 use Rattle.fl_types.specs.Bits.{between, tabulate}
@@ -15,7 +14,6 @@ use Rattle.fl_column.specs.Columns.{Column, PrimitiveParts, column_of_primitive,
 use Rattle.fl_column.specs.Operations.{slice_of}
 use Rattle.fl_column.specs.Questions.{scalar_in}
 use Rattle.fl_column.proofs.ItemLaws.{length-between}
-use Rattle.fl_codec.specs.Chunks.{chunks_of}
 use Rattle.fl_codec.proofs.Tables.{get_or-between, map-between}
 use Rattle.fl_codec.specs.FoRColumns.{chunked_for, global_for, plus_reference}
 use Rattle.fl_codec.specs.ChunkSlices.{end_chunk, first_chunk}

@@ -19,3 +19,4 @@ pub mod DeltaSlices
 pub mod RunTypes
 pub mod RunSlices
 pub mod WithoutNulls
+pub mod OrderLaws

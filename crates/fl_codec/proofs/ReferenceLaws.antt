@@ -6,7 +6,9 @@ use Rattle.std.proofs.lemmas.List.{take_more, drop_more}
 use Rattle.std.proofs.lemmas.List.FromFn.{get_or-map-range_with_len, length-map-range_with_len, map-range_with_len_more}
 use Rattle.std.proofs.lemmas.Bool.{cases_lt, true≢false}
 use Rattle.std.proofs.lemmas.Bool.Decides.{Decides-int_eq}
+use Rattle.fl_types.specs.declared.dtype.PType.{PType}
 use Rattle.fl_types.specs.Bits.{tabulate}
+use Rattle.fl_types.specs.Integers.{fits}
 use Rattle.std.proofs.Common.{subst, IsTrue, is_none, length-drop, ◌-◌, ◌*◌, min}
 use Rattle.std.proofs.lemmas.List.{get_or-map, length-map, map-append, map_more, take_all}
 use Rattle.fl_types.specs.Bits.{between}
@@ -18,7 +20,8 @@ use Rattle.fl_codec.specs.Chunks.{chunk, chunks_of}
 use Rattle.fl_codec.specs.ForwardFill.{either, first_some, last_some}
 use Rattle.fl_column.specs.Columns.{PrimitiveParts}
 use Rattle.fl_codec.specs.Parts.{items_of_primitive, less_chunk_leasts, less_common}
-use Rattle.fl_codec.specs.FoRColumns.{chunk_leasts, chunk_references, common_reference, least_valid, reference_of_chunk}
+use Rattle.fl_codec.specs.FoRColumns.{chunk_leasts, chunk_references, common_reference, least_by, reading, reference_of_chunk}
+use Rattle.fl_codec.specs.declared.for_.ItemOrder.{ItemOrder}
 
 -- ---- the first that is there
 pub first_at : (xs : List (Option ℤ)) (k : ℕ) (x : Option ℤ) → k < length xs → get_or xs k None ≡ x → first_some (drop k xs) ≡ either x (first_some (drop (k + 1) xs))
@@ -128,17 +131,17 @@ read_push value f xs new old x y n h is pushed before here =
     rw (pushed, map-append, before, here) (sym (ap (map f) (map_more value xs n y h ∙ ap (λ v. map value (take n xs) ++ value v ∷ []) (sym is)) ∙ map-append f (map value (take n xs)) (value y ∷ [])))
 
 -- the first least item from chunk k on
-pub first_least_at : (items : List (Option ℤ)) (k : ℕ) (x : Option ℤ) → k < chunks_of (length items) → least_valid (chunk k items) ≡ x → first_some (drop k (chunk_leasts items)) ≡ either x (first_some (drop (k + 1) (chunk_leasts items)))
-first_least_at items k x h e =
-    first_at (chunk_leasts items) k x (rw (length-table (λ j. least_valid (chunk j items)) (chunks_of (length items))) h) (get_or-table (λ j. least_valid (chunk j items)) (chunks_of (length items)) k None h ∙ e)
+pub first_least_at : (read : ℤ → ℤ) (items : List (Option ℤ)) (k : ℕ) (x : Option ℤ) → k < chunks_of (length items) → least_by read (chunk k items) ≡ x → first_some (drop k (chunk_leasts read items)) ≡ either x (first_some (drop (k + 1) (chunk_leasts read items)))
+first_least_at read items k x h e =
+    first_at (chunk_leasts read items) k x (rw (length-table (λ j. least_by read (chunk j items)) (chunks_of (length items))) h) (get_or-table (λ j. least_by read (chunk j items)) (chunks_of (length items)) k None h ∙ e)
 
 -- the reference of chunk k, and what is carried on
-pub reference_at : (items : List (Option ℤ)) (k : ℕ) (before here : ℤ) (x : Option ℤ) → k < chunks_of (length items) → least_valid (chunk k items) ≡ x → before ≡ unwrap_or (last_some (take k (chunk_leasts items))) (unwrap_or (first_some (chunk_leasts items)) (pos 0))
-    → here ≡ unwrap_or x before → here ≡ reference_of_chunk (chunk_leasts items) k
-reference_at items k before here x h e carried is =
-    let long = length-table (λ j. least_valid (chunk j items)) (chunks_of (length items)) in
-    let entry = get_or-table (λ j. least_valid (chunk j items)) (chunks_of (length items)) k None h in
-    is ∙ (ap (λ y. unwrap_or y before) (sym e ∙ sym entry) ∙ reference_more (chunk_leasts items) k before (rw long h) carried)
+pub reference_at : (read : ℤ → ℤ) (items : List (Option ℤ)) (k : ℕ) (before here : ℤ) (x : Option ℤ) → k < chunks_of (length items) → least_by read (chunk k items) ≡ x → before ≡ unwrap_or (last_some (take k (chunk_leasts read items))) (unwrap_or (first_some (chunk_leasts read items)) (pos 0))
+    → here ≡ unwrap_or x before → here ≡ reference_of_chunk (chunk_leasts read items) k
+reference_at read items k before here x h e carried is =
+    let long = length-table (λ j. least_by read (chunk j items)) (chunks_of (length items)) in
+    let entry = get_or-table (λ j. least_by read (chunk j items)) (chunks_of (length items)) k None h in
+    is ∙ (ap (λ y. unwrap_or y before) (sym e ∙ sym entry) ∙ reference_more (chunk_leasts read items) k before (rw long h) carried)
 
 -- the value of an element that was read
 pub value_read : {A B : Type 0} (value : A → B) (xs : List A) (i : ℕ) (x : A) (d : B) → i < length xs → x ≡ get_or xs i x → value x ≡ get_or (map value xs) i d
@@ -170,16 +173,16 @@ pub length_of_values : {A B : Type 0} (value : A → B) (xs : List A) (ys : List
 length_of_values value xs ys e = sym (length-map xs value) ∙ ap length e
 
 -- the least valid item of a plain array, as a loop over all of its slots finds it
-pub least_of_plain : {A : Type 0} (value : A → ℤ) (p : PrimitiveParts) (v : Validity) (xs : List A) (least : Option ℤ) → v ≡ p.validity → IsTrue (covers p.validity (length p.slots)) → map value xs ≡ p.slots
-    → least ≡ least_valid (between 0 (length xs) (items_of v (map value xs))) → least_valid (items_of_primitive p) ≡ least
-least_of_plain value p v xs least same covered slots e =
+pub least_of_plain : {A : Type 0} (read : ℤ → ℤ) (value : A → ℤ) (p : PrimitiveParts) (v : Validity) (xs : List A) (least : Option ℤ) → v ≡ p.validity → IsTrue (covers p.validity (length p.slots)) → map value xs ≡ p.slots
+    → least ≡ least_by read (between 0 (length xs) (items_of v (map value xs))) → least_by read (items_of_primitive p) ≡ least
+least_of_plain read value p v xs least same covered slots e =
     let long : length (items_of p.validity p.slots) ≡ length xs = length-items_of p.validity p.slots covered ∙ (ap length (sym slots) ∙ length-map xs value) in
-    sym (e ∙ (rw (same, slots) (ap least_valid (between_whole (items_of p.validity p.slots) (length xs) long))))
+    sym (e ∙ (rw (same, slots) (ap (least_by read) (between_whole (items_of p.validity p.slots) (length xs) long))))
 
 -- the references of a plain array, as a loop over all of its slots finds them, and the frame that they make
-pub references_of_plain : {A : Type 0} (value : A → ℤ) (p : PrimitiveParts) (v : Validity) (xs : List A) (references : List ℤ) (common : Option ℤ) → v ≡ p.validity → map value xs ≡ p.slots
-    → references ≡ chunk_references (items_of v (map value xs)) → common ≡ common_reference references → less_common p references common ≡ less_chunk_leasts p
-references_of_plain value p v xs references common same slots e f = rw (f, e, same, slots) refl
+pub references_of_plain : {A : Type 0} (order : ItemOrder) (ptype : PType) (value : A → ℤ) (p : PrimitiveParts) (v : Validity) (xs : List A) (references : List ℤ) (common : Option ℤ) → p.ptype ≡ ptype → v ≡ p.validity → map value xs ≡ p.slots
+    → references ≡ chunk_references (reading order ptype) (items_of v (map value xs)) → common ≡ common_reference references → less_common p references common ≡ less_chunk_leasts order p
+references_of_plain order ptype value p v xs references common typed same slots e f = rw (f, e, ← typed, same, slots) refl
 
 -- the items of a plain array, as its parts are read
 pub same_items : {A : Type 0} (value : A → ℤ) (p : PrimitiveParts) (v : Validity) (xs : List A) → v ≡ p.validity → map value xs ≡ p.slots → items_of v (map value xs) ≡ items_of_primitive p
@@ -188,3 +191,7 @@ same_items value p v xs same slots = rw (same, slots) refl
 -- a plain array's validity has a bit for each of its slots, as its parts are read
 pub covered_read : {A : Type 0} (value : A → ℤ) (p : PrimitiveParts) (v : Validity) (xs : List A) → v ≡ p.validity → IsTrue (covers p.validity (length p.slots)) → map value xs ≡ p.slots → IsTrue (covers v (length xs))
 covered_read value p v xs same covered slots = rw (same, length_of_values value xs p.slots slots) covered
+
+-- the slots of a plain array are of its type, as its parts are read
+pub fit_read : {A : Type 0} (value : A → ℤ) (p : PrimitiveParts) (ptype : PType) (xs : List A) → p.ptype ≡ ptype → IsTrue (list_all (fits p.ptype) p.slots) → map value xs ≡ p.slots → IsTrue (list_all (fits ptype) (map value xs))
+fit_read value p ptype xs typed fit slots = rw (slots, ← typed) fit

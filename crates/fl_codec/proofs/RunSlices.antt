@@ -1,14 +1,14 @@
 -- Slices of run-length encoded columns: the chunks from floor to ceiling, and the run values that they name.
-use Rattle.std.proofs.Common.{◌≡◌, ◌==◌, ◌&&◌, ◌||◌, ◌+◌, ◌*◌, ◌-◌, ◌/◌, ◌%◌, ◌<◌, ◌≤◌, ℕ, ℤ, pos, zero, suc, Bool, true, false, not, cond, List, [], ◌∷◌, length, map, take, drop, get_or, nat_le, nat_lt, Option, Some, None, IsTrue, refl, ap, sym, subst, ◌∙◌, if◌then◌else◌, arith, inl, inr}
+use Rattle.std.proofs.Common.{◌≡◌, ◌==◌, ◌&&◌, ◌||◌, ◌+◌, ◌*◌, ◌-◌, ◌/◌, ◌%◌, ◌<◌, ◌≤◌, ℕ, ℤ, pos, zero, suc, Bool, true, false, not, cond, List, [], length, get_or, nat_le, nat_lt, Option, Some, None, refl, ap, sym, subst, ◌∙◌, if◌then◌else◌, arith, inl, inr}
 use Rattle.std.specs.Prelude.{option_map, unsigned_abs, unwrap_or}
 use Rattle.std.specs.List.{list_all, range_with_len}
-use Rattle.std.proofs.lemmas.Bool.{eqb-true, eq-eqb, leb-true, lt-leb, ltb-true, le-leb, le-ltb, lt-ltb, cases_lt}
+use Rattle.std.proofs.lemmas.Bool.{eq-eqb, leb-true, lt-leb, ltb-true, le-leb, le-ltb, lt-ltb, cases_lt}
 use Rattle.std.proofs.lemmas.List.FromFn.{get_or-range_with_len, length-range_with_len}
 use Rattle.fl_types.specs.declared.error.FastLanesError.{FastLanesError}
 use Rattle.fl_types.specs.declared.error.FastLanesError.TheVariants.{RunIndex, RunOffsets}
 use Rattle.fl_types.specs.Bits.{between, tabulate}
 use Rattle.fl_types.proofs.BitLists.{same_tables}
-use Rattle.fl_column.specs.Columns.{Column, integers_in, numbers_of, option_all}
+use Rattle.fl_column.specs.Columns.{Column, integers_in, numbers_of}
 use Rattle.fl_column.specs.Operations.{slice_of}
 use Rattle.fl_column.proofs.ItemLaws.{length-between}
 use Rattle.fl_column.proofs.ListLaws.{all_at, and_first, and_second, and_true}

@@ -1,23 +1,15 @@
 -- What is known of run values, run indices and run offsets of accepted types and lengths.
-use Rattle.std.proofs.Common.{◌≡◌, ◌==◌, ◌&&◌, ◌||◌, ◌+◌, ◌*◌, ◌-◌, ◌/◌, ◌%◌, ◌<◌, ◌≤◌, ℕ, ℤ, pos, zero, suc, Bool, true, false, not, List, length, map, get_or, nat_le, nat_lt, Option, Some, None, IsTrue, refl, ap, sym, ◌∙◌, if◌then◌else◌, arith, inl, inr}
-use Rattle.std.specs.Prelude.{is_some, unwrap_or, option_map, unsigned_abs, slice_index}
-use Rattle.std.specs.List.{list_all, range_with_len}
-use Rattle.std.proofs.lemmas.Bool.{eqb-true, leb-false, leb-true, ltb-false, ltb-true, lt-leb, le-leb, le-ltb, lt-ltb, eq-eqb, cases_lt}
-use Rattle.std.proofs.lemmas.List.{length-map}
+use Rattle.std.proofs.Common.{◌≡◌, ◌==◌, ◌+◌, ◌/◌, ◌%◌, ◌<◌, ◌≤◌, ℕ, Bool, true, false, not, length, nat_le, nat_lt, Some, None, IsTrue, refl, if◌then◌else◌}
+use Rattle.std.proofs.lemmas.Bool.{eqb-true, leb-false, ltb-false, lt-leb, le-ltb, eq-eqb}
 use Rattle.fl_types.specs.declared.error.FastLanesError.{FastLanesError}
-use Rattle.fl_types.specs.declared.error.FastLanesError.TheVariants.{BlockOffsetsCount, BlockOffsetsType, ChildLength, ChildNullable, NotInteger, OffsetTooLarge, RangeBeyondChild, RunIndex, RunIndexType, RunOffsets}
-use Rattle.fl_types.specs.Types.{is_index_type, is_integer, is_nullable, nullability_in}
+use Rattle.fl_types.specs.declared.error.FastLanesError.TheVariants.{BlockOffsetsCount, BlockOffsetsType, ChildLength, ChildNullable, NotInteger, OffsetTooLarge, RangeBeyondChild, RunIndexType}
+use Rattle.fl_types.specs.Types.{is_index_type, is_integer, is_nullable}
 use Rattle.fl_types.specs.Validities.{covers}
-use Rattle.fl_column.specs.Columns.{Column, PrimitiveParts, column_of_primitive, integers_in, numbers_of, option_all}
+use Rattle.fl_column.specs.Columns.{Column, column_of_primitive}
 use Rattle.fl_column.proofs.ItemLaws.{length-items_of}
-use Rattle.fl_column.proofs.ListLaws.{all_at, and_first, and_second}
-use Rattle.fl_codec.specs.Chunks.{chunk}
 use Rattle.fl_codec.specs.Parts.{RunParts}
-use Rattle.fl_codec.specs.RunColumns.{are_run_indices, are_run_offsets, chunk_end, chunk_start, is_chunk_of_runs, is_run_index, is_run_index_type, run_count, run_item, runs_refusal}
-use Rattle.fl_codec.specs.Refusals.{otherwise}
-use Rattle.fl_codec.specs.RunRefusals.{is_run_index_dtype, rle_numbers_refusal, rle_refusal, rle_types_refusal}
-use Rattle.fl_codec.proofs.FirstRefusals.{neither}
-use Rattle.fl_codec.proofs.ColumnParts.{length-numbers_of}
+use Rattle.fl_codec.specs.RunColumns.{runs_refusal}
+use Rattle.fl_codec.specs.RunRefusals.{is_run_index_dtype, rle_refusal, rle_types_refusal}
 
 all_eight : (a b c d e f g h : Bool) (i j k l m n o p : FastLanesError) → (if a then Some i else if not b then Some j else if c then Some k else if not d then Some l else if not e then Some m else if not f then Some n else if g then Some o else if not h then Some p else None) ≡ None
     → (a ≡ false) × (b ≡ true) × (c ≡ false) × (d ≡ true) × (e ≡ true) × (f ≡ true) × (g ≡ false) × (h ≡ true)

@@ -1,5 +1,5 @@
 -- Loops over integers none of which is null.
-use Rattle.std.proofs.Common.{◌≡◌, ℕ, ℤ, pos, ◌+◌, ◌-◌, ◌-ℤ◌, ◌+ℤ◌, ◌<◌, ◌⊎◌, List, [], ◌∷◌, ◌++◌, length, Ok, Err, subst, map, take, drop, get_or, set, Option, Some, None, inl, inr, refl, ap, sym, ◌∙◌, arith, ◌/◌, length-take, length-drop, ◌≤◌}
+use Rattle.std.proofs.Common.{◌≡◌, ℕ, ℤ, pos, ◌+◌, ◌-◌, ◌-ℤ◌, ◌+ℤ◌, ◌<◌, ◌⊎◌, List, [], ◌∷◌, ◌++◌, length, Ok, Err, subst, map, take, drop, get_or, set, Option, Some, None, option_map, inl, inr, refl, ap, sym, ◌∙◌, arith, ◌/◌, length-take, length-drop, ◌≤◌}
 use Rattle.std.specs.Prelude.{IfOk, Result}
 use Rattle.std.proofs.lemmas.List.{get_or-map, get_or_default, get_or-set_other, get_or-set_same, length-map, map-set, same_lists, take-map, drop-map, take_all, take-append-le, get_or_append_left, get_or-append_right, get_or-take, get_or-drop, map-append}
 use Rattle.std.proofs.lemmas.Bool.{cases_eq, cases_lt}
@@ -32,28 +32,33 @@ least_begun value xs x h is =
     let more = least_between_more None (all_valid (map value xs)) 0 0 (omega arith) (rw (length-map, length-map) h) (valid_none 0 (all_valid (map value xs))) in
     rw (item_read value xs 0 x h is) at more
 
-pub least_next : {X : Type 0} (value : X → ℤ) (xs : List X) (least x next : X) (i : ℕ) → i < length xs → x ≡ get_or xs i x → Some (value next) ≡ min_valid (Some (value least)) (Some (value x))
-    → IsLeast (Some (value least)) (valid_items (between 0 i (all_valid (map value xs)))) → IsLeast (Some (value next)) (valid_items (between 0 (i + 1) (all_valid (map value xs))))
-least_next value xs least x next i h is lesser_is before =
-    let more = least_between_more (Some (value least)) (all_valid (map value xs)) 0 i (omega arith) (rw (length-map, length-map) h) before in
+pub least_next : {X : Type 0} (value : X → ℤ) (xs : List X) (least next : ℤ) (x : X) (i : ℕ) → i < length xs → x ≡ get_or xs i x → Some next ≡ min_valid (Some least) (Some (value x))
+    → IsLeast (Some least) (valid_items (between 0 i (all_valid (map value xs)))) → IsLeast (Some next) (valid_items (between 0 (i + 1) (all_valid (map value xs))))
+least_next value xs least next x i h is lesser_is before =
+    let more = least_between_more (Some least) (all_valid (map value xs)) 0 i (omega arith) (rw (length-map, length-map) h) before in
     subst (λ (best : Option ℤ). IsLeast best (valid_items (between 0 (i + 1) (all_valid (map value xs))))) (sym lesser_is) (rw (item_read value xs i x h is) at more)
 
-pub least_found : {X : Type 0} (value : X → ℤ) (xs : List X) (least : X) (i : ℕ) → i ≡ length xs → IsLeast (Some (value least)) (valid_items (between 0 i (all_valid (map value xs)))) → Some (value least) ≡ least_valid (all_valid (map value xs))
+pub least_found : {X : Type 0} (value : X → ℤ) (xs : List X) (least : ℤ) (i : ℕ) → i ≡ length xs → IsLeast (Some least) (valid_items (between 0 i (all_valid (map value xs)))) → Some least ≡ least_valid (all_valid (map value xs))
 least_found value xs least i e found =
     let all = all_valid (map value xs) in
     let long : length all ≡ i = length-map (map value xs) (λ z. Some z) ∙ (length-map xs value ∙ sym e) in
     let whole = between_whole all i long in
-    sym (find-least (Some (value least)) (valid_items all) (rw whole at found))
+    sym (find-least (Some least) (valid_items all) (rw whole at found))
 
 pub least_of_none : {X : Type 0} (value : X → ℤ) (xs : List X) → length xs ≡ 0 → least_valid (all_valid (map value xs)) ≡ None
 least_of_none value [] e = refl
 least_of_none value (x ∷ xs) e = absurd (omega arith)
 
 -- the least of a part
-pub least_of_part : {X : Type 0} (value : X → ℤ) (v : Validity) (xs : List X) (start end : ℕ) → items_of v (map value xs) ≡ all_valid (map value xs) → least_valid (all_valid (map value (take (end - start) (drop start xs)))) ≡ least_valid (between start end (items_of v (map value xs)))
-least_of_part value v xs start end e =
+all_turned : {X : Type 0} (value : X → ℤ) (f : ℤ → ℤ) (xs : List X) → all_valid (map (λ x. f (value x)) xs) ≡ map (option_map f) (all_valid (map value xs))
+all_turned value f [] = refl
+all_turned value f (x ∷ xs) = ap (λ ys. Some (f (value x)) ∷ ys) (all_turned value f xs)
+
+pub least_of_part : {X : Type 0} (value : X → ℤ) (f : ℤ → ℤ) (v : Validity) (xs : List X) (start end : ℕ) → items_of v (map value xs) ≡ all_valid (map value xs)
+    → least_valid (all_valid (map (λ x. f (value x)) (take (end - start) (drop start xs)))) ≡ least_valid (map (option_map f) (between start end (items_of v (map value xs))))
+least_of_part value f v xs start end e =
     let same : all_valid (map value (take (end - start) (drop start xs))) ≡ between start end (all_valid (map value xs)) = simp (take-map, drop-map) in
-    rw e (ap least_valid same)
+    rw e (ap least_valid (all_turned value f (take (end - start) (drop start xs)) ∙ ap (map (option_map f)) same))
 
 -- ---- what a loop writes
 pub value_filled : {X : Type 0} (value : X → ℤ) (item : ℕ → ℤ) (xs : List X) (i : ℕ) (x : X) → i < length xs → ((j : ℕ) → j < i → get_or (map value xs) j (pos 0) ≡ item j) → value x ≡ item i

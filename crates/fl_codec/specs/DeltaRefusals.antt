@@ -1,7 +1,6 @@
 -- When bases and deltas make a column.
 use Rattle.std.specs.Prelude.{◌+◌, ◌*◌, ◌/◌, ◌%◌, ◌==◌, ◌&&◌, ◌||◌, ℕ, Bool, not, length, Option, Some, None, nat_le, nat_lt, unwrap_or, if◌then◌else◌}
 use Rattle.fl_types.specs.declared.dtype.DType.{DType}
-use Rattle.fl_types.specs.declared.dtype.PType.{PType}
 use Rattle.fl_types.specs.declared.dtype.PType.TheVariants.{U8}
 use Rattle.fl_types.specs.declared.error.FastLanesError.{FastLanesError}
 use Rattle.fl_types.specs.declared.error.FastLanesError.TheVariants.{NotInteger, OffsetTooLarge, ValidityLength, TypeMismatch, ChildNullable, ChildLength, RangeBeyondChild}

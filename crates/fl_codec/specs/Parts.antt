@@ -13,10 +13,12 @@ use Rattle.fl_types.specs.Values.{ScalarParts, scalar_parts}
 use Rattle.fl_column.specs.Columns.{ConstantParts, PrimitiveParts}
 use Rattle.fl_codec.specs.Chunks.{chunks_of}
 use Rattle.fl_codec.specs.Deltas.{delta_bases, delta_deltas}
-use Rattle.fl_codec.specs.FoRColumns.{chunk_references, chunked_slots, common_reference, least_valid, minus_reference}
+use Rattle.fl_codec.specs.FoRColumns.{chunk_references, chunked_slots, common_reference, least_by, minus_reference, reading}
 use Rattle.fl_codec.specs.Runs.{indices_to, offsets_to, run_validity, values_to}
 use Rattle.fl_codec.specs.declared.rle.Runs.{Runs}
 use Rattle.fl_codec.specs.declared.for_.GlobalFoR.{GlobalFoR}
+use Rattle.fl_codec.specs.declared.for_.ItemOrder.{ItemOrder}
+use Rattle.fl_codec.specs.declared.for_.ItemOrder.TheVariants.{Natural}
 use Rattle.fl_codec.specs.declared.for_.EncodedFoR.{EncodedFoR}
 use Rattle.fl_codec.specs.declared.for_.EncodedFoR.TheVariants as encodings
 
@@ -74,9 +76,13 @@ abbrev pub subtract_min : PrimitiveParts → Option ℤ → Result OneReference 
 subtract_min p None = Err NoMinimum
 subtract_min p (Some least) = Ok (subtract_reference p least)
 
+-- the array less the least valid item of an order, or why there is none
+abbrev pub encode_global_by : ItemOrder → PrimitiveParts → Result OneReference FastLanesError
+encode_global_by order p = subtract_min p (least_by (reading order p.ptype) (items_of_primitive p))
+
 -- the array less its least valid item, or why there is none
 abbrev pub encode_global : PrimitiveParts → Result OneReference FastLanesError
-encode_global p = subtract_min p (least_valid (items_of_primitive p))
+encode_global p = encode_global_by Natural p
 
 -- the array less these references, or less the one that all of them are
 abbrev pub less_common : PrimitiveParts → List ℤ → Option ℤ → FoRParts
@@ -87,16 +93,21 @@ less_common p references (Some reference) = Whole (subtract_reference p referenc
 abbrev pub null_constant : PType → ℕ → ConstantParts
 null_constant ptype len = record { scalar = record { dtype = dtypes.Primitive ptype Nullable; value = None }; len = len }
 
--- the array less the least valid item of each chunk
-abbrev pub less_chunk_leasts : PrimitiveParts → FoRParts
-less_chunk_leasts p = less_common p (chunk_references (items_of_primitive p)) (common_reference (chunk_references (items_of_primitive p)))
+-- the array less the least valid item of each chunk, by an order
+abbrev pub less_chunk_leasts : ItemOrder → PrimitiveParts → FoRParts
+less_chunk_leasts order p =
+    less_common p (chunk_references (reading order p.ptype) (items_of_primitive p)) (common_reference (chunk_references (reading order p.ptype) (items_of_primitive p)))
 
 -- the same, where a column that has items, all of them null, is a constant null
-abbrev pub encode_chunked : PrimitiveParts → FoRParts
-encode_chunked p =
+abbrev pub encode_chunked_by : ItemOrder → PrimitiveParts → FoRParts
+encode_chunked_by order p =
     if nat_lt 0 (length p.slots) && list_all is_none (items_of_primitive p)
     then Nulls (null_constant p.ptype (length p.slots)) (reference_scalar p.ptype (pos 0))
-    else less_chunk_leasts p
+    else less_chunk_leasts order p
+
+-- the array less the least valid item of each chunk; a column that has items, all of them null, is a constant null
+abbrev pub encode_chunked : PrimitiveParts → FoRParts
+encode_chunked p = encode_chunked_by Natural p
 
 -- ---- deltas
 -- the bases and the deltas of a plain array's blocks

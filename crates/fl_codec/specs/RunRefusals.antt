@@ -1,5 +1,5 @@
 -- When run values, run indices and run offsets make a column, and which run values a slice keeps.
-use Rattle.std.specs.Prelude.{◌+◌, ◌-◌, ◌*◌, ◌/◌, ◌%◌, ◌==◌, ℕ, ℤ, Bool, false, not, List, length, Option, Some, None, nat_le, nat_lt, if◌then◌else◌}
+use Rattle.std.specs.Prelude.{◌+◌, ◌-◌, ◌/◌, ◌%◌, ◌==◌, ℕ, ℤ, Bool, false, not, List, length, Option, Some, None, nat_le, nat_lt, if◌then◌else◌}
 use Rattle.fl_types.specs.declared.dtype.DType.{DType}
 use Rattle.fl_types.specs.declared.dtype.DType.TheVariants as dtypes
 use Rattle.fl_types.specs.declared.error.FastLanesError.{FastLanesError}

@@ -7,15 +7,15 @@ mod without_nulls;
 ghost use Rattle.std.specs.Prelude.{◌≡◌, ◌<◌, ◌≤◌, ◌+◌, ◌*◌, ◌+ℤ◌, ◌^◌, ◌&&◌, ℤ, pos, List, IsTrue, IfSome, IfOk, Ok, Some, None, length, map, option_map, unwrap_or, slice_index_or, is_none};
 ghost use Rattle.std.specs.List.{list_all};
 ghost use Rattle.fl_types.specs.Bits.{between, tabulate};
-ghost use Rattle.fl_types.specs.Integers.{wrap};
+ghost use Rattle.fl_types.specs.Integers.{fits, wrap};
 ghost use Rattle.fl_types.specs.Refusals.{Answers};
 ghost use Rattle.fl_types.specs.Validities.{covers, items_of};
 ghost use Rattle.fl_types.specs.Values.{integer_of, ptype_of_value};
 ghost use Rattle.fl_column.specs.Columns.{column_of_primitive};
 ghost use Rattle.fl_codec.specs.Chunks.{chunk, chunks_of};
 ghost use Rattle.fl_codec.specs.ForwardFill.{first_some};
-ghost use Rattle.fl_codec.specs.FoRColumns.{chunk_leasts, chunk_references, chunked_for, chunked_slots, chunked_sums, common_reference, global_for, least_valid, min_valid, minus_reference, reference_of_chunk};
-ghost use Rattle.fl_codec.specs.Parts.{Nulls, encode_chunked, encode_global, for_parts, global_parts, items_of_primitive, less_chunk_leasts, subtract_reference, less_references, null_constant, reference_scalar};
+ghost use Rattle.fl_codec.specs.FoRColumns.{chunk_leasts, chunk_references, chunked_for, chunked_slots, chunked_sums, common_reference, global_for, least_by, least_valid, min_valid, minus_reference, origin_of, reading, reference_of_chunk, turned};
+ghost use Rattle.fl_codec.specs.Parts.{Nulls, encode_chunked, encode_chunked_by, encode_global, encode_global_by, for_parts, global_parts, items_of_primitive, less_chunk_leasts, subtract_reference, less_references, null_constant, reference_scalar};
 
 use crate::chunks::{chunk_count, chunk_end};
 use crate::for_::without_nulls::{chunked_sums, least_of, sums};
@@ -23,7 +23,7 @@ use crate::plain::{non_nullable, under_validity_of};
 use fastlanes::FL_CHUNK_SIZE;
 use fl_column::{ConstantArray, PrimitiveArray, item_at};
 use fl_types::{
-    FastLanesError, NativePType, Nullability, PValue, Scalar, Validity, is_equal,
+    FastLanesError, NativePType, Nullability, PType, PValue, Scalar, Validity, is_equal,
     match_each_integer_ptype,
 };
 use num_traits::{WrappingAdd, WrappingSub};
@@ -50,7 +50,17 @@ pub enum EncodedFoR {
     Nulls(ConstantArray, Scalar),
 }
 
-/// The min_valid of two items, of which a null is none.
+/// In which order the least item is looked for, which is the reference.
+#[derive(Clone, Copy, Debug, PartialEq, Eq)]
+pub enum ItemOrder {
+    /// That of the integers.
+    Natural,
+    /// That of the integers read as signed ones of as many bits: -1, which is the greatest integer of an unsigned
+    /// type, stands below 0.
+    Signed,
+}
+
+/// The lesser of two items, of which a null is none.
 fn min_valid<T: NativePType>(least: Option<T>, item: Option<T>) -> Option<T>
     ensures { option_map T.value result ≡ min_valid (option_map T.value least) (option_map T.value item) }
 {
@@ -61,60 +71,130 @@ fn min_valid<T: NativePType>(least: Option<T>, item: Option<T>) -> Option<T>
     }
 }
 
-/// The least valid item from `start` to below `end`, each of which may be null.
-fn least_valid_between<T: NativePType>(
+/// The sign bit of an unsigned type, 0 of a signed one.
+fn sign_bit(ptype: PType) -> PValue
+    ensures typed { ptype_of_value result ≡ ptype }
+    ensures value { integer_of result ≡ origin_of ItemOrder.Signed ptype }
+{
+    match ptype {
+        PType::U8 => PValue::U8(1 << 7),
+        PType::U16 => PValue::U16(1 << 15),
+        PType::U32 => PValue::U32(1 << 31),
+        PType::U64 => PValue::U64(1 << 63),
+        PType::I8 => PValue::I8(0),
+        PType::I16 => PValue::I16(0),
+        PType::I32 => PValue::I32(0),
+        PType::I64 => PValue::I64(0),
+    }
+}
+
+/// What is subtracted from integers so that their order becomes the natural one.
+fn origin_of<T: NativePType>(order: ItemOrder) -> T
+    ensures { T.value result ≡ origin_of order T.PTYPE }
+{
+    match order {
+        ItemOrder::Natural => T::zero(),
+        ItemOrder::Signed => T::from_pvalue(sign_bit(T::PTYPE)).unwrap(),
+    }
+}
+
+/// An item less an origin, modulo 2 to the type's bits. A null stays a null.
+fn turned<T: NativePType + WrappingSub>(item: Option<T>, origin: T) -> Option<T>
+    ensures { option_map T.value result ≡ option_map (turned T.PTYPE (T.value origin)) (option_map T.value item) }
+{
+    match item {
+        Some(item) => Some(item.wrapping_sub(&origin)),
+        None => None,
+    }
+}
+
+/// The least valid item from `start` to below `end`, each less an origin. Each may be null.
+fn least_valid_between<T: NativePType + WrappingSub>(
     items: &[T],
     validity: &Validity,
     start: usize,
     end: usize,
+    origin: T,
 ) -> Option<T>
     requires covers { IsTrue (covers validity.now (length items.now)) }
     requires order { start ≤ end }
     requires range { end ≤ length items.now }
-    ensures { option_map T.value result ≡ least_valid (between start end (items_of validity.now (map T.value items.now))) }
+    ensures { option_map T.value result ≡ least_valid (map (option_map (turned T.PTYPE (T.value origin))) (between start end (items_of validity.now (map T.value items.now)))) }
 {
     let mut least = None;
     for i in start..end {
-        least = min_valid(least, item_at(items, validity, i));
+        let item = turned(item_at(items, validity, i), origin);
+        least = min_valid(least, item);
     }
     least
 }
 
-/// The least valid item from `start` to below `end`.
-fn least_between<T: NativePType>(
+/// The least valid item from `start` to below `end`, each less an origin.
+fn least_turned_between<T: NativePType + WrappingSub>(
     items: &[T],
     validity: &Validity,
     start: usize,
     end: usize,
+    origin: T,
 ) -> Option<T>
     requires covers { IsTrue (covers validity.now (length items.now)) }
     requires order { start ≤ end }
     requires range { end ≤ length items.now }
-    ensures { option_map T.value result ≡ least_valid (between start end (items_of validity.now (map T.value items.now))) }
+    ensures { option_map T.value result ≡ least_valid (map (option_map (turned T.PTYPE (T.value origin))) (between start end (items_of validity.now (map T.value items.now)))) }
 {
     match validity {
-        Validity::NonNullable | Validity::AllValid => least_of(&items[start..end]),
-        _ => least_valid_between(items, validity, start, end),
+        Validity::NonNullable | Validity::AllValid => least_of(&items[start..end], origin),
+        _ => least_valid_between(items, validity, start, end, origin),
     }
 }
 
-/// The least valid item of chunk `k`.
-fn least_in_chunk<T: NativePType>(items: &[T], validity: &Validity, k: usize) -> Option<T>
+/// The least valid item from `start` to below `end`.
+fn least_between<T: NativePType + WrappingSub>(
+    items: &[T],
+    validity: &Validity,
+    start: usize,
+    end: usize,
+    order: ItemOrder,
+) -> Option<T>
     requires covers { IsTrue (covers validity.now (length items.now)) }
+    requires fit { IsTrue (list_all (fits T.PTYPE) (map T.value items.now)) }
+    requires ends { start ≤ end }
+    requires range { end ≤ length items.now }
+    ensures { option_map T.value result ≡ least_by (reading order T.PTYPE) (between start end (items_of validity.now (map T.value items.now))) }
+{
+    let origin = origin_of(order);
+    let least = least_turned_between(items, validity, start, end, origin);
+    turned(least, origin)
+}
+
+/// The least valid item of chunk `k`.
+fn least_in_chunk<T: NativePType + WrappingSub>(
+    items: &[T],
+    validity: &Validity,
+    k: usize,
+    order: ItemOrder,
+) -> Option<T>
+    requires covers { IsTrue (covers validity.now (length items.now)) }
+    requires fit { IsTrue (list_all (fits T.PTYPE) (map T.value items.now)) }
     requires chunk { k < chunks_of (length items.now) }
-    ensures { option_map T.value result ≡ least_valid (chunk k (items_of validity.now (map T.value items.now))) }
+    ensures { option_map T.value result ≡ least_by (reading order T.PTYPE) (chunk k (items_of validity.now (map T.value items.now))) }
 {
     let end = chunk_end(k, items.len());
-    least_between(items, validity, FL_CHUNK_SIZE * k, end)
+    least_between(items, validity, FL_CHUNK_SIZE * k, end, order)
 }
 
 /// The least valid item of the first chunk that has one.
-fn first_least<T: NativePType>(items: &[T], validity: &Validity) -> Option<T>
-    requires { IsTrue (covers validity.now (length items.now)) }
-    ensures { option_map T.value result ≡ first_some (chunk_leasts (items_of validity.now (map T.value items.now))) }
+fn first_least<T: NativePType + WrappingSub>(
+    items: &[T],
+    validity: &Validity,
+    order: ItemOrder,
+) -> Option<T>
+    requires covers { IsTrue (covers validity.now (length items.now)) }
+    requires fit { IsTrue (list_all (fits T.PTYPE) (map T.value items.now)) }
+    ensures { option_map T.value result ≡ first_some (chunk_leasts (reading order T.PTYPE) (items_of validity.now (map T.value items.now))) }
 {
     for k in 0..chunk_count(items.len()) {
-        if let Some(least) = least_in_chunk(items, validity, k) {
+        if let Some(least) = least_in_chunk(items, validity, k, order) {
             return Some(least);
         }
     }
@@ -122,20 +202,22 @@ fn first_least<T: NativePType>(items: &[T], validity: &Validity) -> Option<T>
 }
 
 /// The reference of each chunk.
-fn chunk_references<T: NativePType>(
+fn chunk_references<T: NativePType + WrappingSub>(
     alloc: Global,
     items: &[T],
     validity: &Validity,
+    order: ItemOrder,
 ) -> Result<Vec<T>, AllocError>
-    requires { IsTrue (covers validity.now (length items.now)) }
+    requires covers { IsTrue (covers validity.now (length items.now)) }
+    requires fit { IsTrue (list_all (fits T.PTYPE) (map T.value items.now)) }
     ensures long { IfOk result (λ v. length v.items ≡ chunks_of (length items.now)) }
-    ensures references { IfOk result (λ v. map T.value v.items ≡ chunk_references (items_of validity.now (map T.value items.now))) }
+    ensures references { IfOk result (λ v. map T.value v.items ≡ chunk_references (reading order T.PTYPE) (items_of validity.now (map T.value items.now))) }
 {
     let chunks = chunk_count(items.len());
     let mut references = Vec::with_capacity(alloc, chunks)?;
-    let mut reference = first_least(items, validity).unwrap_or(T::zero());
+    let mut reference = first_least(items, validity, order).unwrap_or(T::zero());
     for k in 0..chunks {
-        reference = least_in_chunk(items, validity, k).unwrap_or(reference);
+        reference = least_in_chunk(items, validity, k, order).unwrap_or(reference);
         references.push(reference)?;
     }
     Ok(references)
@@ -278,15 +360,31 @@ fn less_references<T: NativePType + WrappingSub>(
 fn encode_typed<T: NativePType + WrappingSub>(
     alloc: Global,
     array: &PrimitiveArray,
+    order: ItemOrder,
 ) -> Result<GlobalFoR, FastLanesError>
     requires { array.now.ptype ≡ T.PTYPE }
-    ensures { Answers global_parts result (encode_global array.now) }
+    ensures { Answers global_parts result (encode_global_by order array.now) }
 {
+    array.prove_in_range();
     let items = array.as_slice::<T>();
-    match least_between(items, array.validity(), 0, items.len()) {
+    match least_between(items, array.validity(), 0, items.len(), order) {
         Some(least) => subtract_reference(alloc, array, least),
         None => Err(FastLanesError::NoMinimum),
     }
+}
+
+/// The column less its least valid item by an order.
+///
+/// # Errors
+/// `NoMinimum` where the column has no valid item.
+pub fn encode_by(
+    alloc: Global,
+    array: &PrimitiveArray,
+    order: ItemOrder,
+) -> Result<GlobalFoR, FastLanesError>
+    ensures { Answers global_parts result (encode_global_by order array.now) }
+{
+    match_each_integer_ptype!(array.ptype(), encode_typed(alloc, array, order))
 }
 
 /// The column less its least valid item.
@@ -296,7 +394,7 @@ fn encode_typed<T: NativePType + WrappingSub>(
 pub fn encode(alloc: Global, array: &PrimitiveArray) -> Result<GlobalFoR, FastLanesError>
     ensures { Answers global_parts result (encode_global array.now) }
 {
-    match_each_integer_ptype!(array.ptype(), encode_typed(alloc, array))
+    encode_by(alloc, array, ItemOrder::Natural)
 }
 
 /// Whether every item is null.
@@ -324,11 +422,13 @@ fn nulls_typed<T: NativePType>(len: usize) -> EncodedFoR
 fn encode_chunks<T: NativePType + WrappingSub>(
     alloc: Global,
     array: &PrimitiveArray,
+    order: ItemOrder,
 ) -> Result<EncodedFoR, FastLanesError>
     requires { array.now.ptype ≡ T.PTYPE }
-    ensures { Answers for_parts result (Ok (less_chunk_leasts array.now)) }
+    ensures { Answers for_parts result (Ok (less_chunk_leasts order array.now)) }
 {
-    let references = chunk_references(alloc, array.as_slice::<T>(), array.validity())?;
+    array.prove_in_range();
+    let references = chunk_references(alloc, array.as_slice::<T>(), array.validity(), order)?;
     match common_reference(&references) {
         Some(reference) => Ok(EncodedFoR::Global(subtract_reference(alloc, array, reference)?)),
         None => less_references(alloc, array, references),
@@ -338,28 +438,41 @@ fn encode_chunks<T: NativePType + WrappingSub>(
 fn encode_chunked_typed<T: NativePType + WrappingSub>(
     alloc: Global,
     array: &PrimitiveArray,
+    order: ItemOrder,
 ) -> Result<EncodedFoR, FastLanesError>
     requires { array.now.ptype ≡ T.PTYPE }
-    ensures { Answers for_parts result (Ok (encode_chunked array.now)) }
+    ensures { Answers for_parts result (Ok (encode_chunked_by order array.now)) }
 {
     let len = array.len();
     if len > 0 && are_nulls(array) {
         Ok(nulls_typed::<T>(len))
     } else {
-        encode_chunks::<T>(alloc, array)
+        encode_chunks::<T>(alloc, array, order)
     }
 }
 
-/// The column less the least valid item of each chunk of 1024. A chunk of nulls repeats the
-/// reference before it, and the leading ones take that of the first chunk that has an item.
+/// The column less the least valid item of each chunk of 1024, by an order. A chunk of nulls repeats
+/// the reference before it, and the leading ones take that of the first chunk that has an item.
 ///
 /// Where all chunks have one reference, as in a column of one chunk, it is global; it is 0 in an
 /// empty column. A column that has items, all of them null, becomes a constant null with the
 /// reference 0.
+pub fn encode_chunked_by(
+    alloc: Global,
+    array: &PrimitiveArray,
+    order: ItemOrder,
+) -> Result<EncodedFoR, FastLanesError>
+    ensures { Answers for_parts result (Ok (encode_chunked_by order array.now)) }
+{
+    match_each_integer_ptype!(array.ptype(), encode_chunked_typed(alloc, array, order))
+}
+
+/// The column less the least valid item of each chunk of 1024, as `encode_chunked_by` makes it in the
+/// natural order.
 pub fn encode_chunked(alloc: Global, array: &PrimitiveArray) -> Result<EncodedFoR, FastLanesError>
     ensures { Answers for_parts result (Ok (encode_chunked array.now)) }
 {
-    match_each_integer_ptype!(array.ptype(), encode_chunked_typed(alloc, array))
+    encode_chunked_by(alloc, array, ItemOrder::Natural)
 }
 
 fn decode_typed<T: NativePType + WrappingAdd>(

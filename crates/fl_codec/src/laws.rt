@@ -4,27 +4,41 @@ ghost use Rattle.std.specs.Prelude.{◌≡◌, length, None, Ok};
 ghost use Rattle.fl_column.specs.Columns.{column_of_primitive};
 ghost use Rattle.fl_codec.specs.Deltas.{delta_column};
 ghost use Rattle.fl_codec.specs.FoRValues.{column_of_for, column_of_one_reference};
-ghost use Rattle.fl_codec.specs.Parts.{OneReference, compress_deltas, encode_chunked, encode_global, encode_runs};
+ghost use Rattle.fl_codec.specs.Parts.{OneReference, compress_deltas, encode_chunked, encode_chunked_by, encode_global, encode_global_by, encode_runs};
 ghost use Rattle.fl_codec.specs.RunColumns.{run_column, runs_refusal};
 
+use crate::for_::ItemOrder;
 use fl_column::PrimitiveArray;
 
 /// A column less its least item is the column again with that item added.
-#[tactic(auto, using(crate::proofs::FoRRoundTrips::global_back))]
 pub fn global_for_and_back(array: &PrimitiveArray)
     ensures { (parts : OneReference) → encode_global array.now ≡ Ok parts → column_of_one_reference parts ≡ column_of_primitive array.now }
 {
+    global_for_by_and_back(array, ItemOrder::Natural);
+}
+
+/// The same of the least item of an order.
+#[tactic(auto, using(crate::proofs::FoRRoundTrips::global_back))]
+pub fn global_for_by_and_back(array: &PrimitiveArray, order: ItemOrder)
+    ensures { (parts : OneReference) → encode_global_by order array.now ≡ Ok parts → column_of_one_reference parts ≡ column_of_primitive array.now }
+{
     array.prove_in_range();
-    let _validity = array.validity();
+    let (_order, _validity) = (order, array.validity());
 }
 
 /// A column less the least items of its chunks is the column again with those items added.
-#[tactic(auto, using(crate::proofs::FoRRoundTrips::chunked_back))]
 pub fn chunked_for_and_back(array: &PrimitiveArray)
     ensures { column_of_for (encode_chunked array.now) ≡ column_of_primitive array.now }
 {
+    chunked_for_by_and_back(array, ItemOrder::Natural);
+}
+
+/// The same of the least items of an order.
+pub fn chunked_for_by_and_back(array: &PrimitiveArray, order: ItemOrder)
+    ensures { column_of_for (encode_chunked_by order array.now) ≡ column_of_primitive array.now }
+{
     array.prove_in_range();
-    let _validity = array.validity();
+    let (_order, _validity) = (order, array.validity());
 }
 
 /// The bases and the deltas of a column sum to it.

@@ -14,8 +14,8 @@ use fl_types::{BitList, DType, FastLanesError, Scalar, Validity};
 use std::alloc::Global;
 use std::marker::Model;
 
-/// A plain array of booleans: a boolean in each place, also under a null, and which of them
-/// count.
+/// A plain array of booleans: a boolean for each item, also under a null, and which of them are
+/// valid.
 #[derive(Debug)]
 pub struct BoolArray {
     bits: BitList,
@@ -48,7 +48,7 @@ impl BoolArray {
     /// An array of these parts.
     ///
     /// # Errors
-    /// `ValidityLength` where the validity has not one bit for each boolean.
+    /// `ValidityLength` if the validity does not have one bit for each boolean.
     pub fn new(bits: BitList, validity: Validity) -> Result<BoolArray, FastLanesError>
         ensures { result ≡ new_bools bits validity }
     {
@@ -59,7 +59,7 @@ impl BoolArray {
         }
     }
 
-    /// How many items there are.
+    /// The number of items.
     #[tactic(auto, using(crate::proofs::ItemLaws::lengths, crate::proofs::ItemLaws::mapped))]
     pub fn len(&self) -> usize
         ensures bits { result ≡ length self.now.bits }
@@ -94,7 +94,7 @@ impl BoolArray {
         &self.bits
     }
 
-    /// The item at an index, or `None` of a null.
+    /// The item at an index, or `None` for a null.
     pub fn get(&self, i: usize) -> Option<bool>
         requires { i < length self.now.bits }
         ensures { result ≡ slice_index_or (bools self.now) i None }
@@ -119,7 +119,7 @@ impl BoolArray {
         }
     }
 
-    /// The items from `start` to below `end`.
+    /// The items of `start..end`.
     #[tactic(auto, using(crate::proofs::ItemLaws::slices, crate::proofs::ItemLaws::mapped))]
     pub fn slice(
         &self,
@@ -139,7 +139,7 @@ impl BoolArray {
         Ok(BoolArray { bits, validity })
     }
 
-    /// The same items in an array in which nulls may stand.
+    /// The same items in a nullable array.
     pub fn into_nullable(self) -> BoolArray
         ensures bits { result.bits ≡ self.bits }
         ensures column { column_of_bools result ≡ record { dtype = Bool Nullable; items = (column_of_bools self).items } }

@@ -14,8 +14,8 @@ use fl_types::{BitList, FastLanesError, NativePType, Nullability, Validity};
 use std::alloc::Global;
 use std::marker::Model;
 
-/// Items that are gathered one by one: a slot for each, and from the first null on a bit for each that
-/// is set where it is not null. Contracts see the list of the items.
+/// Items that are gathered one by one: a value for each, and from the first null on a validity bit for
+/// each. Contracts see the list of the items.
 #[derive(Drop)]
 pub struct PrimitiveBuilder<T: NativePType> {
     slots: Vec<T>,
@@ -78,7 +78,7 @@ impl<T: NativePType> PrimitiveBuilder<T> {
         })
     }
 
-    /// Adds an item.
+    /// Appends an item.
     #[tactic(auto, using(crate::proofs::BuilderLaws::item_more))]
     pub fn push(&mut self, alloc: Global, item: Option<T>) -> Result<(), FastLanesError>
         ensures items { OnOk result (self.new ≡ self.old ++ option_map T.value item ∷ []) }
@@ -92,7 +92,7 @@ impl<T: NativePType> PrimitiveBuilder<T> {
         Ok(())
     }
 
-    /// The array of the items, which are not null where none may stand.
+    /// The array of the items, none of which may be null if it is non-nullable.
     #[tactic(auto, using(crate::proofs::BuilderLaws::no_nulls_gathered))]
     pub fn finish(self, nullability: Nullability) -> PrimitiveArray
         requires { IsTrue (can_be_null nullability || list_all is_some self) }

@@ -166,8 +166,8 @@ impl PrimitiveArray {
     /// The same integers in another type.
     ///
     /// # Errors
-    /// `NotInteger` where the target is no integer type, then `CastNull` where an item is null and
-    /// the target isn't nullable, then `CastOutOfRange` where the target doesn't have an item.
+    /// `NotInteger` if the target is not an integer type, then `CastNull` if an item is null and
+    /// the target is not nullable, then `CastOutOfRange` if the target does not have an item.
     #[tactic(auto, using(crate::proofs::CastLaws::may_cast))]
     pub fn cast(&self, alloc: Global, target: DType) -> Result<PrimitiveArray, FastLanesError>
         ensures { Answers column_of_primitive result (cast_column target (column_of_primitive self.now)) }

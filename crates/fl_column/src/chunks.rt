@@ -1,11 +1,11 @@
-//! Chunks of 1024 items: how many this many items have, and where each begins and ends.
+//! Chunks of 1024 items: their number, and where each begins and ends.
 
 ghost use Rattle.std.specs.Prelude.{◌≡◌, ◌+◌, ◌*◌, ◌≤◌, length, min};
 ghost use Rattle.fl_column.specs.Chunks.{chunk, chunk_count};
 
 use fastlanes::FL_CHUNK_SIZE;
 
-/// How many chunks this many items have. The last one may be short.
+/// The number of chunks of this many items. The last one may be short.
 pub fn chunk_count(len: usize) -> usize
     ensures { result ≡ chunk_count len }
 {

@@ -1,4 +1,4 @@
-//! What plain arrays of integers answer: comparisons, range tests, constancy and order.
+//! Queries of plain arrays of integers: comparisons, range tests, constancy and order.
 
 mod between;
 mod compare;

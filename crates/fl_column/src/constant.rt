@@ -17,7 +17,7 @@ use fl_types::{DType, FastLanesError, PType, PValue, Scalar, Validity};
 use std::alloc::Global;
 use std::marker::Model;
 
-/// A constant array: an integer or a null, a number of times.
+/// A constant array: an integer or a null, repeated.
 #[derive(Clone, Debug, Drop)]
 pub struct ConstantArray {
     scalar: Scalar,
@@ -41,7 +41,7 @@ impl ConstantArray {
     /// A scalar, `len` times.
     ///
     /// # Errors
-    /// `NotInteger` where the scalar is a boolean, or a null in place of one.
+    /// `NotInteger` if the scalar is a boolean or the null of the boolean type.
     pub fn new(scalar: Scalar, len: usize) -> Result<ConstantArray, FastLanesError>
         ensures { result ≡ new_constant (scalar_parts scalar) len }
     {
@@ -51,7 +51,7 @@ impl ConstantArray {
         }
     }
 
-    /// How many items there are.
+    /// The number of items.
     #[tactic(auto, using(crate::proofs::ItemLaws::parts_of_constant))]
     pub fn len(&self) -> usize
         ensures constant_items { result ≡ self.now.len }
@@ -85,7 +85,7 @@ impl ConstantArray {
         }
     }
 
-    /// The integer, or `None` of a null.
+    /// The integer, or `None` for a null.
     pub fn value(&self) -> Option<PValue>
         ensures value { option_map integer_of result ≡ self.now.scalar.value }
         ensures typed { IfSome result (λ v. integer_type self.now.scalar.dtype ≡ Some (ptype_of_value v)) }
@@ -116,7 +116,7 @@ impl ConstantArray {
         self.scalar
     }
 
-    /// The items from `start` to below `end`.
+    /// The items of `start..end`.
     #[tactic(auto, using(crate::proofs::ItemLaws::parts_of_constant))]
     pub fn slice(&self, start: usize, end: usize) -> ConstantArray
         requires order { start ≤ end }
@@ -157,7 +157,7 @@ impl ConstantArray {
         }
     }
 
-    /// A copy, which takes no memory.
+    /// A copy, which allocates nothing.
     pub fn try_clone(&self) -> ConstantArray
         ensures { result ≡ self.now }
     {

@@ -1,4 +1,4 @@
-//! What holds of every column.
+//! Laws of every column.
 
 ghost use Rattle.std.specs.Prelude.{◌≡◌, ◌+◌, ◌-◌, ◌<◌, ◌≤◌, ℤ, true, not, length, map, Ok, Err};
 ghost use Rattle.std.specs.List.{list_all};
@@ -10,7 +10,7 @@ ghost use Rattle.fl_types.specs.declared.query.CompareOperator.TheVariants.{Eq, 
 
 use fl_types::DType;
 
-/// A slice of a slice is the slice between the places that both name.
+/// A slice of a slice is the slice by the composed range.
 #[tactic(auto, using(crate::proofs::ColumnAlgebra::slice_of_slice))]
 pub fn slice_of_slice(start: usize, end: usize, from: usize, to: usize)
     requires outer { start ≤ end }
@@ -19,32 +19,32 @@ pub fn slice_of_slice(start: usize, end: usize, from: usize, to: usize)
     ensures { (c : Column) → slice_of from to (slice_of start end c) ≡ slice_of (start + from) (start + to) c }
 {}
 
-/// A take from a slice names the items of the whole by the indices moved on to the slice's start.
+/// A take from a slice is a take from the whole, with the slice's start added to the indices.
 #[tactic(auto, using(crate::proofs::ColumnAlgebra::take_of_slice))]
 pub fn take_of_slice(start: usize, end: usize)
     ensures { (c indices : Column) → list_all (is_in_range (end - start)) indices.items ≡ true → take_of indices (slice_of start end c) ≡ record { dtype = (take_of indices c).dtype; items = map (λ index. item_named c.items (moved start index)) indices.items } }
 {}
 
-/// An item of a slice is the item this many places behind the slice's start.
+/// An item of a slice is the item of the whole at its index plus the slice's start.
 #[tactic(auto, using(crate::proofs::ColumnAlgebra::item_of_slice))]
 pub fn item_of_slice(start: usize, end: usize, i: usize)
     requires { i < end - start }
     ensures { (c : Column) → scalar_in (slice_of start end c) i ≡ scalar_in c (start + i) }
 {}
 
-/// A point read is the item, and beyond the length there is none.
+/// A point read is the item; beyond the length there is none.
 pub fn point_read(i: usize)
     ensures item { (c : Column) → i < length c.items → scalar_of_column i c ≡ Ok (scalar_in c i) }
     ensures beyond { (c : Column) → length c.items ≤ i → scalar_of_column i c ≡ Err IndexOutOfBounds }
 {}
 
-/// What a column that was cast becomes by another cast is what it becomes by that cast alone.
+/// A cast of a cast is the second cast alone.
 #[tactic(auto, using(crate::proofs::ColumnAlgebra::cast_of_cast))]
 pub fn cast_of_cast(first: DType, second: DType)
     ensures { (c d : Column) → cast_column first c ≡ Ok d → cast_column second d ≡ cast_column second c }
 {}
 
-/// An item differs from a constant exactly where it doesn't equal it.
+/// An item differs from a constant if and only if it does not equal it.
 pub fn not_equal_is_not_equal()
     ensures { (constant z : ℤ) → holds NotEq constant z ≡ not (holds Eq constant z) }
 {}

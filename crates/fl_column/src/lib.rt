@@ -1,5 +1,5 @@
 //! Columns of nullable integers, and the plain arrays that store them as they are. Types, values,
-//! validities and refusals are passed on, so that who uses columns lists this crate alone.
+//! validities and errors are re-exported, so that users of columns list this crate alone.
 #![tactic(auto)]
 
 pub mod bools;

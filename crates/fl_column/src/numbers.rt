@@ -11,7 +11,7 @@ use fl_types::{FastLanesError, NativePType, PType, match_each_integer_ptype};
 use num_traits::AsPrimitive;
 use std::alloc::{AllocError, Global};
 
-/// The number at a place.
+/// The number at an index.
 pub fn number_at<I: NativePType>(items: &[I], i: usize) -> usize
     requires { i < length items.now }
     ensures { result ≡ slice_index (numbers_by I.value items.now) i }
@@ -28,8 +28,8 @@ fn number_in<I: NativePType>(array: &PrimitiveArray, i: usize) -> usize
 }
 
 impl PrimitiveArray {
-    /// The stored number at a place. Who reads many takes `as_slice` and `number_at` instead, so that
-    /// the type is looked at once.
+    /// The stored number at an index. To read many, use `as_slice` and `number_at` instead, which
+    /// look at the type once.
     pub fn number_at(&self, i: usize) -> usize
         requires { i < length self.now.slots }
         ensures { result ≡ slice_index (numbers self.now) i }
@@ -52,7 +52,7 @@ where
     Ok(narrowed)
 }
 
-/// Numbers up to a bound as an array without nulls, of the smallest unsigned type that holds the bound.
+/// Numbers up to a bound as a non-nullable array of the smallest unsigned type that holds the bound.
 pub fn index_array(
     alloc: Global,
     numbers: Vec<u64>,

@@ -19,7 +19,7 @@ pub fn write_patterns<T: PhysicalPType>(values: &[T], block: &mut [T::Physical; 
     }
 }
 
-/// Adds the values of these patterns. Where a growth is refused nothing is added.
+/// Appends the values of these patterns. If a request for memory is refused, nothing is appended.
 pub fn push_values<T: PhysicalPType>(
     patterns: &[T::Physical],
     values: &mut Vec<T>,

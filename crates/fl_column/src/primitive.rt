@@ -19,7 +19,7 @@ use fl_types::{
 use std::alloc::{AllocError, Global};
 use std::marker::Model;
 
-/// A plain array of integers: a stored integer in each place, also under a null, and which of them
+/// A plain array of integers: a stored integer for each item, also under a null, and which of them
 /// are valid. Contracts see its type, its integers and its validity.
 #[derive(Debug)]
 pub struct PrimitiveArray {
@@ -60,7 +60,7 @@ impl PrimitiveArray {
     /// An array of these parts.
     ///
     /// # Errors
-    /// `ValidityLength` where the validity has not one bit for each integer.
+    /// `ValidityLength` if the validity does not have one bit for each integer.
     pub fn new<T: NativePType>(
         items: Vec<T>,
         validity: Validity,
@@ -86,14 +86,14 @@ impl PrimitiveArray {
         }
     }
 
-    /// An array of a type without items. It takes no memory.
+    /// An empty array of a type. It allocates nothing.
     pub fn empty(alloc: Global, ptype: PType, nullability: Nullability) -> PrimitiveArray
         ensures { result ≡ without_nulls ptype nullability [] }
     {
         match_each_integer_ptype!(ptype, empty_typed(alloc, nullability))
     }
 
-    /// An array of these integers, none of which is null, where nulls may stand or not.
+    /// An array of these integers, none of which is null, with this nullability.
     pub fn without_nulls<T: NativePType>(items: Vec<T>, nullability: Nullability) -> PrimitiveArray
         ensures { result ≡ without_nulls T.PTYPE nullability (map T.value items.items) }
     {
@@ -142,7 +142,7 @@ impl PrimitiveArray {
         (slots, validity)
     }
 
-    /// How many items there are.
+    /// The number of items.
     #[tactic(auto, using(crate::proofs::ItemLaws::lengths))]
     pub fn len(&self) -> usize
         ensures slots { result ≡ length self.now.slots }
@@ -198,7 +198,7 @@ impl PrimitiveArray {
         T::as_slice(&self.slots)
     }
 
-    /// Every stored integer lies in the type's range, so that the items are a column.
+    /// Every stored integer is in the type's range, so that the items are a column.
     #[tactic(auto, using(crate::proofs::SelectionLaws::plain_is_column))]
     pub fn prove_in_range(&self)
         ensures slots { IsTrue (list_all (fits self.now.ptype) self.now.slots) }
@@ -207,7 +207,7 @@ impl PrimitiveArray {
         prove_slots_in_range(&self.slots)
     }
 
-    /// The item at an index, or `None` of a null.
+    /// The item at an index, or `None` for a null.
     pub fn get(&self, i: usize) -> Option<PValue>
         requires { i < length self.now.slots }
         ensures item { option_map integer_of result ≡ slice_index_or (column_of_primitive self.now).items i None }
@@ -233,7 +233,7 @@ impl PrimitiveArray {
         }
     }
 
-    /// The items from `start` to below `end`.
+    /// The items of `start..end`.
     #[tactic(auto, using(crate::proofs::ItemLaws::slices))]
     pub fn slice(
         &self,

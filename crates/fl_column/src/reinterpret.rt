@@ -55,8 +55,8 @@ fn reinterpret_slots(slots: &PrimitiveBuffer, alloc: Global) -> Result<Primitive
 }
 
 impl PrimitiveArray {
-    /// The array whose slots have the same bits in another type of the same width. The validity is
-    /// kept, and so are the slots where the type stays.
+    /// The array whose values have the same bits in another type of the same width. The validity is
+    /// kept, and so are the values if the type stays.
     #[tactic(auto, using(crate::proofs::ItemLaws::reread_same))]
     pub fn reinterpret_cast(
         self,

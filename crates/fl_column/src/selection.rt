@@ -1,4 +1,4 @@
-//! Items of plain arrays that are selected: by positions, by ranges, by a mask.
+//! Selections from plain arrays: by indices, by ranges, by a mask.
 
 mod with_bits;
 pub(crate) mod without_nulls;
@@ -26,7 +26,7 @@ use fl_types::{
 };
 use std::alloc::Global;
 
-/// The item at an index, or `None` of a null.
+/// The item at an index, or `None` for a null.
 pub fn item_at<T: NativePType>(items: &[T], validity: &Validity, i: usize) -> Option<T>
     requires covers { IsTrue (covers validity.now (length items.now)) }
     requires range { i < length items.now }
@@ -242,10 +242,10 @@ fn total_len(ranges: &[(usize, usize)]) -> Option<usize>
     Some(total)
 }
 
-/// How many items ranges have, each a start and a length, in an array of `len` items.
+/// The number of items of ranges, each a start and a length, in an array of `len` items.
 ///
 /// # Errors
-/// `RangeOutOfBounds` where a range with items reaches beyond `len`, and then `LengthOverflow` where the
+/// `RangeOutOfBounds` if a range with items reaches beyond `len`, and then `LengthOverflow` if the
 /// lengths' sum is above `usize::MAX`.
 pub fn ranges_total(ranges: &[(usize, usize)], len: usize) -> Result<usize, FastLanesError>
     ensures value { result ≡ ranges_total len ranges.now }
@@ -309,11 +309,11 @@ fn take_between_nulls(
 }
 
 impl PrimitiveArray {
-    /// The positions that the items name among `len` items, none at a null. The integer under a null
-    /// is never looked at.
+    /// The positions that the items name among `len` items, `None` for a null. The integer under a null
+    /// is never read.
     ///
     /// # Errors
-    /// `IndexOutOfBounds` where an item is negative or not below `len`.
+    /// `IndexOutOfBounds` if an item is negative or not below `len`.
     pub fn positions(&self, alloc: Global, len: usize) -> Result<Vec<Option<usize>>, FastLanesError>
         ensures { Answers (λ v. v.items) result (positions_in len (column_of_primitive self.now).items) }
     {
@@ -321,10 +321,10 @@ impl PrimitiveArray {
     }
 
     /// The items that the indices name, null where an index is null. The integer under a null index
-    /// is never looked at.
+    /// is never read.
     ///
     /// # Errors
-    /// `IndexOutOfBounds` where an index is negative or not below the length.
+    /// `IndexOutOfBounds` if an index is negative or not below the length.
     pub fn take(
         &self,
         alloc: Global,
@@ -347,8 +347,8 @@ impl PrimitiveArray {
     /// items is skipped, wherever it starts.
     ///
     /// # Errors
-    /// `RangeOutOfBounds` where a range with items reaches beyond the length, and then
-    /// `LengthOverflow` where the lengths' sum is above `usize::MAX`.
+    /// `RangeOutOfBounds` if a range with items reaches beyond the length, and then
+    /// `LengthOverflow` if the lengths' sum is above `usize::MAX`.
     pub fn take_ranges(
         &self,
         alloc: Global,
@@ -360,7 +360,7 @@ impl PrimitiveArray {
         take_fitting_ranges(alloc, self, ranges, total)
     }
 
-    /// The items at the mask's true places, in order. The mask has the array's length.
+    /// The items whose bit of the mask is true, in order. The mask has the array's length.
     pub fn filter(&self, alloc: Global, mask: &Mask) -> Result<PrimitiveArray, FastLanesError>
         requires { mask_len mask.now ≡ length (column_of_primitive self.now).items }
         ensures { Answers column_of_primitive result (Ok (filter_of mask.now (column_of_primitive self.now))) }

@@ -67,8 +67,8 @@ fn simplest(validity: Validity, len: usize) -> Validity
 }
 
 impl PrimitiveArray {
-    /// The same items, and of the forms of their validity the simplest: `AllValid` where no item is null,
-    /// `AllInvalid` where every item is, and else a bit for each item. Where no null may stand it stays
+    /// The same items with the simplest form of their validity: `AllValid` if no item is null,
+    /// `AllInvalid` if every item is, and else a bit for each item. A non-nullable array stays
     /// `NonNullable`.
     #[tactic(auto, using(crate::proofs::SimplestLaws::simplest_column))]
     pub fn simplify_validity(self) -> PrimitiveArray

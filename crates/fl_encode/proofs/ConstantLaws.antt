@@ -13,8 +13,9 @@ use Rattle.fl_column.specs.Questions.{are_constant, same_item}
 use Rattle.fl_column.proofs.ConstantLaws.{constant_is_constant}
 use Rattle.fl_column.proofs.ItemLaws.{length-items_of}
 use Rattle.fl_column.proofs.ListLaws.{and_first, and_second}
-use Rattle.fl_codec.specs.FoRColumns.{chunk_references, common_reference}
-use Rattle.fl_codec.specs.Parts.{ByChunk, Nulls, encode_chunked, items_of_primitive, less_chunk_leasts, less_common, non_nullable, null_constant, reference_scalar}
+use Rattle.fl_codec.specs.FoRColumns.{chunk_references, common_reference, reading}
+use Rattle.fl_codec.specs.declared.for_.ItemOrder.{ItemOrder}
+use Rattle.fl_codec.specs.Parts.{ByChunk, Nulls, encode_chunked_by, items_of_primitive, less_chunk_leasts, less_common, non_nullable, null_constant, reference_scalar}
 use Rattle.fl_array.specs.Reads.{constant_in}
 use Rattle.fl_array.specs.Trees.{BitPackedBlocked, BitPackedGlobal, Constant, Delta, FoRChunked, FoRGlobal, Primitive, RLE, Tree, column}
 use Rattle.fl_array.specs.Trees as tree
@@ -85,12 +86,12 @@ common_differ p references None child others e is =
     subst (λ (o : PrimitiveParts). are_constant (column_of_primitive o).items ≡ false) same (differ references e)
 common_differ p references (Some z) child others e is = cc
 
-chosen_differ : (p : PrimitiveParts) (all : Bool) (child others : PrimitiveParts) → (if all then Nulls (null_constant p.ptype (length p.slots)) (reference_scalar p.ptype (pos 0)) else less_chunk_leasts p) ≡ ByChunk child others → are_constant (column_of_primitive others).items ≡ false
-chosen_differ p true child others is = cc
-chosen_differ p false child others is = common_differ p (chunk_references (items_of_primitive p)) (common_reference (chunk_references (items_of_primitive p))) child others refl is
+chosen_differ : (order : ItemOrder) (p : PrimitiveParts) (all : Bool) (child others : PrimitiveParts) → (if all then Nulls (null_constant p.ptype (length p.slots)) (reference_scalar p.ptype (pos 0)) else less_chunk_leasts order p) ≡ ByChunk child others → are_constant (column_of_primitive others).items ≡ false
+chosen_differ order p true child others is = cc
+chosen_differ order p false child others is = common_differ p (chunk_references (reading order p.ptype) (items_of_primitive p)) (common_reference (chunk_references (reading order p.ptype) (items_of_primitive p))) child others refl is
 
-pub references_differ : (p child others : PrimitiveParts) → encode_chunked p ≡ ByChunk child others → are_constant (column_of_primitive others).items ≡ false
-references_differ p child others is = chosen_differ p (nat_lt 0 (length p.slots) && list_all is_none (items_of_primitive p)) child others is
+pub references_differ : (order : ItemOrder) (p child others : PrimitiveParts) → encode_chunked_by order p ≡ ByChunk child others → are_constant (column_of_primitive others).items ≡ false
+references_differ order p child others is = chosen_differ order p (nat_lt 0 (length p.slots) && list_all is_none (items_of_primitive p)) child others is
 
 -- an array of items that differ is no constant one
 pub no_constant : (t : Tree) (c : Column) → column t ≡ c → are_constant c.items ≡ false → constant_in t ≡ None

@@ -10,7 +10,8 @@ use Rattle.fl_types.proofs.RefusalLaws.{Refuses_cases}
 use Rattle.fl_column.specs.Columns.{Column, ConstantParts, PrimitiveParts, column_of_primitive, integers_in}
 use Rattle.fl_codec.specs.DeltaRefusals.{delta_refusal}
 use Rattle.fl_codec.specs.FoRColumns.{chunked_for, global_for}
-use Rattle.fl_codec.specs.Parts.{ByChunk, FoRParts, Nulls, OneReference, RunParts, Whole, compress_deltas, encode_chunked, encode_global, encode_runs}
+use Rattle.fl_codec.specs.Parts.{ByChunk, FoRParts, Nulls, OneReference, RunParts, Whole, compress_deltas, encode_chunked_by, encode_global_by, encode_runs}
+use Rattle.fl_codec.specs.declared.for_.ItemOrder.{ItemOrder}
 use Rattle.fl_codec.specs.RunRefusals.{rle_refusal}
 use Rattle.fl_bitpacking.specs.Encoders.{AnswersUnless}
 use Rattle.fl_bitpacking.specs.Refusals.{accepted, otherwise}
@@ -20,8 +21,8 @@ use Rattle.fl_array.specs.Trees.{DeltaParts, OffsetLen, Tree, column, column_of_
 use Rattle.fl_array.specs.Trees as tree
 use Rattle.fl_array.proofs.EncodedRLE.{ok_is}
 use Rattle.fl_array.proofs.FoRSound.{no_constant}
-use Rattle.fl_encode.specs.declared.scheme.Scheme.{Scheme, FoR', FoRChunked', Delta', RLE', Held-Scheme-FoR-0 as ChildScheme}
-use Rattle.fl_encode.specs.Encodings.{EncodesAs, EncodesChildAs, HasChunkReferences, HasDeltas, HasOneReference, HasReference, HasReferences, HasRuns, IsChildAs, Makes, child_refusal, one_reference_refusal, references_refusal}
+use Rattle.fl_encode.specs.declared.scheme.Scheme.{Scheme, Delta', RLE', Held-Scheme-FoR-0 as ChildScheme}
+use Rattle.fl_encode.specs.Encodings.{EncodesAs, EncodesChildAs, EncodesChunkedForAs, EncodesForAs, HasChunkReferences, HasDeltas, HasOneReference, HasReference, HasReferences, HasRuns, IsChildAs, Makes, child_refusal, one_reference_refusal, references_refusal}
 
 -- ---- refusals
 -- memory ran out
@@ -84,17 +85,17 @@ over_reference_made scheme p reference t r h a =
     made (child_refusal scheme p) (HasOneReference (IsChildAs scheme) (record { child = p; reference = reference })) (column (tree.FoRGlobal (tree.Primitive p) reference)) (tree.FoRGlobal t reference) r
     (none_of (child_refusal scheme p) t h.refused) (t, h.form, refl) (ap (global_for (unwrap_or reference.value (pos 0))) h.stands_for) a
 
-pub one_reference_made : (scheme : ChildScheme) (p : PrimitiveParts) (parts : OneReference) (r : Result Tree FastLanesError) → encode_global p ≡ Ok parts
+pub one_reference_made : (order : ItemOrder) (scheme : ChildScheme) (p : PrimitiveParts) (parts : OneReference) (r : Result Tree FastLanesError) → encode_global_by order p ≡ Ok parts
     → column (tree.FoRGlobal (tree.Primitive parts.child) parts.reference) ≡ column_of_primitive p
     → Makes (child_refusal scheme parts.child) (HasOneReference (IsChildAs scheme) parts) (column (tree.FoRGlobal (tree.Primitive parts.child) parts.reference)) r
-    → EncodesAs (FoR' scheme) p r
-one_reference_made scheme p parts r e back h =
+    → EncodesForAs order scheme p r
+one_reference_made order scheme p parts r e back h =
     let there = subst (λ (c : Column). Makes (child_refusal scheme parts.child) (HasOneReference (IsChildAs scheme) parts) c r) back h in
     subst (λ (o : Result OneReference FastLanesError). Makes (one_reference_refusal (child_refusal scheme) o) (HasReference (IsChildAs scheme) o) (column_of_primitive p) r) (sym e) there
 
-pub no_reference : (scheme : ChildScheme) (p : PrimitiveParts) (e : FastLanesError) → Refuses e (encode_global p) → EncodesAs (FoR' scheme) p (Err e)
-no_reference scheme p e h = refused (one_reference_refusal (child_refusal scheme) (encode_global p)) (HasReference (IsChildAs scheme) (encode_global p)) (column_of_primitive p) e (elim (Refuses_cases e (encode_global p) h) [
-  | inl is ↦ by_memory (one_reference_refusal (child_refusal scheme) (encode_global p)) e is
+pub no_reference : (order : ItemOrder) (scheme : ChildScheme) (p : PrimitiveParts) (e : FastLanesError) → Refuses e (encode_global_by order p) → EncodesForAs order scheme p (Err e)
+no_reference order scheme p e h = refused (one_reference_refusal (child_refusal scheme) (encode_global_by order p)) (HasReference (IsChildAs scheme) (encode_global_by order p)) (column_of_primitive p) e (elim (Refuses_cases e (encode_global_by order p) h) [
+  | inl is ↦ by_memory (one_reference_refusal (child_refusal scheme) (encode_global_by order p)) e is
   | inr is ↦ rw is (λ n. refl)
 ])
 
@@ -132,26 +133,26 @@ over_references_made first other p others t u r h k a =
     made (otherwise (child_refusal first p) (child_refusal other others)) (HasChunkReferences (IsChildAs first) (IsChildAs other) p others) (column (tree.FoRChunked (tree.Primitive p) (tree.Primitive others) 0)) (tree.FoRChunked t u 0) r
     (neither_of (child_refusal first p) (child_refusal other others) (none_of (child_refusal first p) t h.refused) (none_of (child_refusal other others) u k.refused)) (t, u, h.form, k.form, refl) both a
 
-pub whole_made : (first other : ChildScheme) (p : PrimitiveParts) (parts : OneReference) (r : Result Tree FastLanesError) → encode_chunked p ≡ Whole parts
+pub whole_made : (order : ItemOrder) (first other : ChildScheme) (p : PrimitiveParts) (parts : OneReference) (r : Result Tree FastLanesError) → encode_chunked_by order p ≡ Whole parts
     → column (tree.FoRGlobal (tree.Primitive parts.child) parts.reference) ≡ column_of_primitive p
     → Makes (child_refusal first parts.child) (HasOneReference (IsChildAs first) parts) (column (tree.FoRGlobal (tree.Primitive parts.child) parts.reference)) r
-    → EncodesAs (FoRChunked' first other) p r
-whole_made first other p parts r e back h =
+    → EncodesChunkedForAs order first other p r
+whole_made order first other p parts r e back h =
     let there = subst (λ (c : Column). Makes (child_refusal first parts.child) (HasOneReference (IsChildAs first) parts) c r) back h in
     subst (λ (o : FoRParts). Makes (references_refusal (child_refusal first) (child_refusal other) o) (HasReferences (IsChildAs first) (IsChildAs other) o) (column_of_primitive p) r) (sym e) there
 
-pub references_made : (first other : ChildScheme) (p child others : PrimitiveParts) (r : Result Tree FastLanesError) → encode_chunked p ≡ ByChunk child others
+pub references_made : (order : ItemOrder) (first other : ChildScheme) (p child others : PrimitiveParts) (r : Result Tree FastLanesError) → encode_chunked_by order p ≡ ByChunk child others
     → column (tree.FoRChunked (tree.Primitive child) (tree.Primitive others) 0) ≡ column_of_primitive p
     → Makes (otherwise (child_refusal first child) (child_refusal other others)) (HasChunkReferences (IsChildAs first) (IsChildAs other) child others) (column (tree.FoRChunked (tree.Primitive child) (tree.Primitive others) 0)) r
-    → EncodesAs (FoRChunked' first other) p r
-references_made first other p child others r e back h =
+    → EncodesChunkedForAs order first other p r
+references_made order first other p child others r e back h =
     let there = subst (λ (c : Column). Makes (otherwise (child_refusal first child) (child_refusal other others)) (HasChunkReferences (IsChildAs first) (IsChildAs other) child others) c r) back h in
     subst (λ (o : FoRParts). Makes (references_refusal (child_refusal first) (child_refusal other) o) (HasReferences (IsChildAs first) (IsChildAs other) o) (column_of_primitive p) r) (sym e) there
 
-pub nulls_made : (first other : ChildScheme) (p : PrimitiveParts) (child : ConstantParts) (reference : ScalarParts) (r : Result Tree FastLanesError) → encode_chunked p ≡ Nulls child reference
+pub nulls_made : (order : ItemOrder) (first other : ChildScheme) (p : PrimitiveParts) (child : ConstantParts) (reference : ScalarParts) (r : Result Tree FastLanesError) → encode_chunked_by order p ≡ Nulls child reference
     → column (tree.FoRGlobal (tree.Constant child) reference) ≡ column_of_primitive p → Answers (λ (s : Tree). s) r (Ok (tree.FoRGlobal (tree.Constant child) reference))
-    → EncodesAs (FoRChunked' first other) p r
-nulls_made first other p child reference r e back a =
+    → EncodesChunkedForAs order first other p r
+nulls_made order first other p child reference r e back a =
     subst (λ (o : FoRParts). Makes (references_refusal (child_refusal first) (child_refusal other) o) (HasReferences (IsChildAs first) (IsChildAs other) o) (column_of_primitive p) r) (sym e)
     (made None (λ t. t ≡ tree.FoRGlobal (tree.Constant child) reference) (column_of_primitive p) (tree.FoRGlobal (tree.Constant child) reference) r refl refl back a)
 

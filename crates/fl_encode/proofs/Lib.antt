@@ -3,3 +3,6 @@ pub mod ConstantLaws
 pub mod EncodingLaws
 pub mod TextLaws
 pub mod TextBounds
+pub mod GrammarLaws
+pub mod GrammarCuts
+pub mod GrammarReads

@@ -1,6 +1,6 @@
 -- How large schemes are.
 use Rattle.std.proofs.Common.{◌+◌, ℕ}
-use Rattle.fl_encode.specs.declared.scheme.Scheme.{Scheme, Primitive, Constant, BitPacked, FoR', FoRChunked', Delta', RLE', Held-Scheme-FoR-0 as ChildScheme, None' as NoScheme, Some' as HasScheme}
+use Rattle.fl_encode.specs.declared.scheme.Scheme.{Scheme, Primitive, Constant, BitPacked, FoR', FoRChunked', FoRWrapped', FoRChunkedWrapped', Delta', RLE', Held-Scheme-FoR-0 as ChildScheme, None' as NoScheme, Some' as HasScheme}
 
 -- above those of the children, by as many steps as lead from a scheme to a child's
 abbrev mutual
@@ -10,6 +10,8 @@ abbrev mutual
   size (BitPacked packing) = 0
   size (FoR' encoded) = child_size encoded + 3
   size (FoRChunked' encoded references) = child_size encoded + child_size references + 3
+  size (FoRWrapped' encoded) = child_size encoded + 3
+  size (FoRChunkedWrapped' encoded references) = child_size encoded + child_size references + 3
   size (Delta' bases deltas) = child_size bases + child_size deltas + 3
   size (RLE' values indices offsets) = child_size values + (child_size indices + child_size offsets) + 3
 

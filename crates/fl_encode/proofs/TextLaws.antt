@@ -7,6 +7,8 @@ use Rattle.fl_column.proofs.ListLaws.{and_first, and_second}
 use Rattle.fl_encode.specs.declared.scheme.Packing.{Packing}
 use Rattle.fl_encode.specs.declared.scheme.Packing.TheVariants.{BestWidth, BestWidths, Width}
 use Rattle.std.specs.Option.{option_map_or}
+use Rattle.fl_encode.specs.declared.text.reading.Frame.{Frame}
+use Rattle.fl_encode.specs.declared.text.reading.Frame.TheVariants as frames
 use Rattle.fl_encode.specs.declared.text.reading.Head.{Head}
 use Rattle.fl_encode.specs.declared.text.reading.Head.TheVariants as heads
 use Rattle.fl_encode.specs.declared.text.reading.Stop.{Stop}
@@ -14,11 +16,11 @@ use Rattle.std.proofs.Common.{Box}
 use Rattle.std.specs.declared.alloc.Global.{Global}
 use Rattle.fl_encode.specs.declared.scheme.Scheme.{Scheme, back-Scheme-FoR-0 as child_scheme}
 use Rattle.fl_encode.specs.declared.scheme.Scheme as schemes
-use Rattle.fl_encode.specs.Shapes.{BitPacked, Constant, Delta, FoR, FoRChunked, Plain, Primitive, RLE, Shape, child_shape, in_parentheses, is_plain, scheme_text, shape, width_text}
-use Rattle.fl_encode.specs.Texts.{Finds, after, child_by, digits_behind, expected, goes_on, has_widths, head_in, one_by, packing_behind, positioned, rest_behind, scheme_by, scheme_in, scheme_of_text, tail_behind, three_by, two_by, whole, width_in}
+use Rattle.fl_encode.specs.Shapes.{BitPacked, Constant, Delta, FoR, FoRChunked, FoRChunkedWrapped, FoRWrapped, Plain, Primitive, RLE, Shape, child_shape, in_parentheses, is_plain, scheme_text, shape, width_text}
+use Rattle.fl_encode.specs.Texts.{Finds, after, child_by, digits_behind, expected, frame_in, goes_on, has_widths, head_in, one_by, packing_behind, positioned, scheme_by, scheme_in, scheme_of_text, tail_behind, three_by, two_by, whole, width_in}
 
 -- ---- what stands behind a scheme: nothing, a comma or a closing parenthesis
-abbrev follows : List ℕ → Bool
+abbrev pub follows : List ℕ → Bool
 follows [] = true
 follows (x ∷ rest) = x == 44 || x == 41
 
@@ -32,22 +34,30 @@ no_tail byte (x ∷ rest) e f h = elim (one_of x h) [
   | inr is ↦ rw (is, f) refl
 ]
 
-no_letter : (rest : List ℕ) → follows rest ≡ true → rest_behind (99 ∷ []) rest ≡ None
-no_letter [] h = refl
-no_letter (x ∷ rest) h = elim (one_of x h) [
+-- no letter of a frame's word
+pub no_letters : (rest : List ℕ) → follows rest ≡ true → frame_in rest ≡ (frames.Whole, rest)
+no_letters [] h = refl
+no_letters (x ∷ rest) h = elim (one_of x h) [
+  | inl is ↦ rw is refl
+  | inr is ↦ rw is refl
+]
+
+pub no_wrap : (rest : List ℕ) → follows rest ≡ true → frame_in (99 ∷ rest) ≡ (frames.Chunked, rest)
+no_wrap [] h = refl
+no_wrap (x ∷ rest) h = elim (one_of x h) [
   | inl is ↦ rw is refl
   | inr is ↦ rw is refl
 ]
 
 -- ---- widths
-stops : (number : ℕ) (rest : List ℕ) → follows rest ≡ true → digits_behind number rest ≡ (number, rest)
+pub stops : (number : ℕ) (rest : List ℕ) → follows rest ≡ true → digits_behind number rest ≡ (number, rest)
 stops number [] h = refl
 stops number (x ∷ rest) h = elim (one_of x h) [
   | inl is ↦ rw is refl
   | inr is ↦ rw is refl
 ]
 
-goes : (number byte : ℕ) → 48 ≤ byte → byte ≤ 57 → 10 * number + (byte - 48) ≤ 255 → goes_on number byte ≡ true
+pub goes : (number byte : ℕ) → 48 ≤ byte → byte ≤ 57 → 10 * number + (byte - 48) ≤ 255 → goes_on number byte ≡ true
 goes number byte low high fits = grind (arith, nat_tests)
 
 below : (n m : ℕ) → n < m → nat_lt n m ≡ true
@@ -93,18 +103,20 @@ width_back w rest fits f = elim (cases_Bool (nat_lt w 10)) [
 ]
 
 -- ---- children
-plain_is : (s : Shape) → is_plain s ≡ true → s ≡ Plain
+pub plain_is : (s : Shape) → is_plain s ≡ true → s ≡ Plain
 plain_is Plain h = refl
 plain_is Primitive h = cc
 plain_is Constant h = cc
 plain_is (BitPacked packing) h = cc
 plain_is (FoR a) h = cc
 plain_is (FoRChunked a b) h = cc
+plain_is (FoRWrapped a) h = cc
+plain_is (FoRChunkedWrapped a b) h = cc
 plain_is (Delta a b) h = cc
 plain_is (RLE a b c) h = cc
 
 -- a reader of schemes, and what it says of a text that begins with a shape's
-abbrev Reader : Type 0
+abbrev pub Reader : Type 0
 Reader = List ℕ → Result (Shape × List ℕ) ℕ
 
 child_from : (s : Shape) (read : Reader) (rest : List ℕ) → (is_plain s ≡ false → read (scheme_text s ++ rest) ≡ Ok (s, rest)) → child_by read (scheme_text s ++ rest) ≡ Ok (s, rest)
@@ -116,6 +128,8 @@ child_from (BitPacked (Width w)) read rest h = h refl
 child_from (BitPacked BestWidths) read rest h = h refl
 child_from (FoR a) read rest h = h refl
 child_from (FoRChunked a b) read rest h = h refl
+child_from (FoRWrapped a) read rest h = h refl
+child_from (FoRChunkedWrapped a b) read rest h = h refl
 child_from (Delta a b) read rest h = h refl
 child_from (RLE a b c) read rest h = h refl
 
@@ -123,7 +137,7 @@ child_from (RLE a b c) read rest h = h refl
 abbrev Back : Reader → Shape → Type 0
 Back read s = (more : List ℕ) → follows more ≡ true → child_by read (scheme_text s ++ more) ≡ Ok (s, more)
 
-no_children : (rest : List ℕ) → follows rest ≡ true → tail_behind 40 rest ≡ None
+pub no_children : (rest : List ℕ) → follows rest ≡ true → tail_behind 40 rest ≡ None
 no_children rest f = no_tail 40 rest refl refl f
 
 one_back : (a : Shape) (read : Reader) (rest : List ℕ) → follows rest ≡ true → Back read a → one_by read (in_parentheses (is_plain a) (scheme_text a) ++ rest) ≡ Ok (a, rest)
@@ -165,28 +179,34 @@ three_back a b c read rest f backa backb backc = elim (cases_Bool (is_plain a &&
 ]
 
 -- ---- schemes
-abbrev height : Shape → ℕ
+abbrev pub height : Shape → ℕ
 height Plain = 0
 height Primitive = 0
 height Constant = 0
 height (BitPacked packing) = 0
 height (FoR a) = height a + 1
 height (FoRChunked a b) = height a + height b + 1
+height (FoRWrapped a) = height a + 1
+height (FoRChunkedWrapped a b) = height a + height b + 1
 height (Delta a b) = height a + height b + 1
 height (RLE a b c) = height a + (height b + height c) + 1
 
-no_c : (all : Bool) (text rest : List ℕ) → follows rest ≡ true → rest_behind (99 ∷ []) (in_parentheses all text ++ rest) ≡ None
-no_c true text rest f = no_letter rest f
-no_c false text rest f = refl
+whole_word : (all : Bool) (text rest : List ℕ) → follows rest ≡ true → frame_in (in_parentheses all text ++ rest) ≡ (frames.Whole, in_parentheses all text ++ rest)
+whole_word true text rest f = no_letters rest f
+whole_word false text rest f = refl
 
-for_head : (more : List ℕ) → rest_behind (99 ∷ []) more ≡ None → head_in (102 ∷ 111 ∷ 114 ∷ more) ≡ Ok (heads.FoR, more)
-for_head more h = ap (λ (o : Option (List ℕ)). option_map_or (λ (rest : List ℕ). Ok (heads.FoRChunked, rest)) o (Ok (heads.FoR, more))) h
+chunked_word : (all : Bool) (text rest : List ℕ) → follows rest ≡ true → frame_in (99 ∷ (in_parentheses all text ++ rest)) ≡ (frames.Chunked, in_parentheses all text ++ rest)
+chunked_word true text rest f = no_wrap rest f
+chunked_word false text rest f = refl
+
+pub for_head : (word : List ℕ) (frame : Frame) (more : List ℕ) → frame_in word ≡ (frame, more) → head_in (102 ∷ 111 ∷ 114 ∷ word) ≡ Ok (heads.FoR frame, more)
+for_head word frame more h = ap (λ (x : Frame × List ℕ). Ok (heads.FoR x.0, x.1)) h
 
 -- what a word and its children say, and the width behind a colon
-abbrev headed : ℕ → Result (Head × List ℕ) ℕ → Result (Shape × List ℕ) ℕ
+abbrev pub headed : ℕ → Result (Head × List ℕ) ℕ → Result (Shape × List ℕ) ℕ
 headed n o = after o (λ x. scheme_by (scheme_in n) x.0 x.1)
 
-abbrev widened : Result (ℕ × List ℕ) ℕ → Result (Packing × List ℕ) ℕ
+abbrev pub widened : Result (ℕ × List ℕ) ℕ → Result (Packing × List ℕ) ℕ
 widened o = after o (λ x. Ok (Width x.0, x.1))
 
 pub reads : (s : Shape) (n : ℕ) (rest : List ℕ) → is_plain s ≡ false → has_widths s ≡ true → height s < n → follows rest ≡ true → scheme_in n (scheme_text s ++ rest) ≡ Ok (s, rest)
@@ -207,13 +227,25 @@ reads (FoR a) zero rest p w h f = absurd (omega arith)
 reads (FoR a) (suc n) rest p w h f =
     let back = one_back a (scheme_in n) rest f (λ more g. child_from a (scheme_in n) more (λ q. reads a n more q w (omega arith) g)) in
     let behind = in_parentheses (is_plain a) (scheme_text a) ++ rest in
-    ap (headed n) (for_head behind (no_c (is_plain a) (scheme_text a) rest f)) ∙ ap (λ (o : Result (Shape × List ℕ) ℕ). after o (λ x. Ok (FoR x.0, x.1))) back
+    ap (headed n) (for_head behind frames.Whole behind (whole_word (is_plain a) (scheme_text a) rest f)) ∙ ap (λ (o : Result (Shape × List ℕ) ℕ). after o (λ x. Ok (FoR x.0, x.1))) back
 reads (FoRChunked a b) zero rest p w h f = absurd (omega arith)
 reads (FoRChunked a b) (suc n) rest p w h f =
     let wa = and_first (has_widths a) (has_widths b) w in
     let wb = and_second (has_widths a) (has_widths b) w in
     let back = two_back a b (scheme_in n) rest f (λ more g. child_from a (scheme_in n) more (λ q. reads a n more q wa (omega arith) g)) (λ more g. child_from b (scheme_in n) more (λ q. reads b n more q wb (omega arith) g)) in
-    ap (λ (o : Result (Shape × Shape × List ℕ) ℕ). after o (λ x. Ok (FoRChunked x.0 x.1, x.2))) back
+    let text = scheme_text a ++ (codes "," ++ scheme_text b) in
+    let behind = in_parentheses (is_plain a && is_plain b) text ++ rest in
+    ap (headed n) (for_head (99 ∷ behind) frames.Chunked behind (chunked_word (is_plain a && is_plain b) text rest f)) ∙ ap (λ (o : Result (Shape × Shape × List ℕ) ℕ). after o (λ x. Ok (FoRChunked x.0 x.1, x.2))) back
+reads (FoRWrapped a) zero rest p w h f = absurd (omega arith)
+reads (FoRWrapped a) (suc n) rest p w h f =
+    let back = one_back a (scheme_in n) rest f (λ more g. child_from a (scheme_in n) more (λ q. reads a n more q w (omega arith) g)) in
+    ap (λ (o : Result (Shape × List ℕ) ℕ). after o (λ x. Ok (FoRWrapped x.0, x.1))) back
+reads (FoRChunkedWrapped a b) zero rest p w h f = absurd (omega arith)
+reads (FoRChunkedWrapped a b) (suc n) rest p w h f =
+    let wa = and_first (has_widths a) (has_widths b) w in
+    let wb = and_second (has_widths a) (has_widths b) w in
+    let back = two_back a b (scheme_in n) rest f (λ more g. child_from a (scheme_in n) more (λ q. reads a n more q wa (omega arith) g)) (λ more g. child_from b (scheme_in n) more (λ q. reads b n more q wb (omega arith) g)) in
+    ap (λ (o : Result (Shape × Shape × List ℕ) ℕ). after o (λ x. Ok (FoRChunkedWrapped x.0 x.1, x.2))) back
 reads (Delta a b) zero rest p w h f = absurd (omega arith)
 reads (Delta a b) (suc n) rest p w h f =
     let wa = and_first (has_widths a) (has_widths b) w in
@@ -263,6 +295,8 @@ tall (BitPacked (Width width)) = omega arith
 tall (BitPacked BestWidths) = omega arith
 tall (FoR a) = let inner = enclosed (height a) (is_plain a) (scheme_text a) (tall a) (λ h. ap height (plain_is a h)) in omega arith
 tall (FoRChunked a b) = let inner = both_tall a b (tall a) (tall b) in omega arith
+tall (FoRWrapped a) = let inner = enclosed (height a) (is_plain a) (scheme_text a) (tall a) (λ h. ap height (plain_is a h)) in omega arith
+tall (FoRChunkedWrapped a b) = let inner = both_tall a b (tall a) (tall b) in omega arith
 tall (Delta a b) = let inner = both_tall a b (tall a) (tall b) in omega arith
 tall (RLE a b c) = let inner = all_tall a b c (tall a) (tall b) (tall c) in omega arith
 
@@ -287,6 +321,8 @@ shape_some schemes.Constant = refl
 shape_some (schemes.BitPacked packing) = refl
 shape_some (schemes.FoR' a) = refl
 shape_some (schemes.FoRChunked' a b) = refl
+shape_some (schemes.FoRWrapped' a) = refl
+shape_some (schemes.FoRChunkedWrapped' a b) = refl
 shape_some (schemes.Delta' a b) = refl
 shape_some (schemes.RLE' a b c) = refl
 

@@ -2,12 +2,14 @@
 use Rattle.std.specs.Prelude.{◌≡◌, length, Option, Some, None, Result, Ok, Err, IfOk}
 use Rattle.fl_types.specs.declared.error.FastLanesError.{FastLanesError}
 use Rattle.fl_column.specs.Columns.{Column, PrimitiveParts, column_of_primitive}
-use Rattle.fl_codec.specs.Parts.{ByChunk, FoRParts, Nulls, OneReference, RunParts, Whole, compress_deltas, encode_chunked, encode_global, encode_runs}
+use Rattle.fl_codec.specs.Parts.{ByChunk, FoRParts, Nulls, OneReference, RunParts, Whole, compress_deltas, encode_chunked, encode_chunked_by, encode_global, encode_global_by, encode_runs}
+use Rattle.fl_codec.specs.declared.for_.ItemOrder.{ItemOrder}
+use Rattle.fl_codec.specs.declared.for_.ItemOrder.TheVariants.{Signed}
 use Rattle.fl_bitpacking.specs.Encoders.{AnswersUnless}
 use Rattle.fl_bitpacking.specs.Refusals.{otherwise}
 use Rattle.fl_array.specs.Trees.{DeltaParts, OffsetLen, Tree, column}
 use Rattle.fl_array.specs.Trees as tree
-use Rattle.fl_encode.specs.declared.scheme.Scheme.{Scheme, Primitive, Constant, BitPacked, FoR', FoRChunked', Delta', RLE', Held-Scheme-FoR-0 as ChildScheme, None' as NoScheme, Some' as HasScheme}
+use Rattle.fl_encode.specs.declared.scheme.Scheme.{Scheme, Primitive, Constant, BitPacked, FoR', FoRChunked', FoRWrapped', FoRChunkedWrapped', Delta', RLE', Held-Scheme-FoR-0 as ChildScheme, None' as NoScheme, Some' as HasScheme}
 use Rattle.fl_encode.specs.Packings.{IsPackedAs, constant_of, constant_refusal, packing_refusal}
 
 -- ---- frames of reference
@@ -68,6 +70,8 @@ abbrev mutual
   encode_refusal (BitPacked packing) p = packing_refusal packing p
   encode_refusal (FoR' encoded) p = one_reference_refusal (child_refusal encoded) (encode_global p)
   encode_refusal (FoRChunked' encoded references) p = references_refusal (child_refusal encoded) (child_refusal references) (encode_chunked p)
+  encode_refusal (FoRWrapped' encoded) p = one_reference_refusal (child_refusal encoded) (encode_global_by Signed p)
+  encode_refusal (FoRChunkedWrapped' encoded references) p = references_refusal (child_refusal encoded) (child_refusal references) (encode_chunked_by Signed p)
   encode_refusal (Delta' bases deltas) p = otherwise (child_refusal bases (compress_deltas p).0) (child_refusal deltas (compress_deltas p).1)
   encode_refusal (RLE' values indices offsets) p = otherwise (child_refusal values (encode_runs p).values) (otherwise (child_refusal indices (encode_runs p).indices) (child_refusal offsets (encode_runs p).offsets))
 
@@ -84,6 +88,8 @@ abbrev mutual
   IsEncodedAs (BitPacked packing) p t = IsPackedAs packing p t
   IsEncodedAs (FoR' encoded) p t = HasReference (IsChildAs encoded) (encode_global p) t
   IsEncodedAs (FoRChunked' encoded references) p t = HasReferences (IsChildAs encoded) (IsChildAs references) (encode_chunked p) t
+  IsEncodedAs (FoRWrapped' encoded) p t = HasReference (IsChildAs encoded) (encode_global_by Signed p) t
+  IsEncodedAs (FoRChunkedWrapped' encoded references) p t = HasReferences (IsChildAs encoded) (IsChildAs references) (encode_chunked_by Signed p) t
   IsEncodedAs (Delta' bases deltas) p t = HasDeltas (IsChildAs bases) (IsChildAs deltas) (compress_deltas p) (whole_delta p) t
   IsEncodedAs (RLE' values indices offsets) p t = HasRuns (IsChildAs values) (IsChildAs indices) (IsChildAs offsets) (encode_runs p) (whole_window p) t
 
@@ -106,3 +112,12 @@ EncodesAs scheme p result = Makes (encode_refusal scheme p) (IsEncodedAs scheme 
 -- the same of a child
 abbrev pub EncodesChildAs : ChildScheme → PrimitiveParts → Result Tree FastLanesError → Type 0
 EncodesChildAs scheme p result = Makes (child_refusal scheme p) (IsChildAs scheme p) (column_of_primitive p) result
+
+-- what encoding a primitive array less its least item by an order answers, with the child by its scheme
+abbrev pub EncodesForAs : ItemOrder → ChildScheme → PrimitiveParts → Result Tree FastLanesError → Type 0
+EncodesForAs order encoded p result = Makes (one_reference_refusal (child_refusal encoded) (encode_global_by order p)) (HasReference (IsChildAs encoded) (encode_global_by order p)) (column_of_primitive p) result
+
+-- what encoding a primitive array less the least items of its chunks by an order answers, with each child by its scheme
+abbrev pub EncodesChunkedForAs : ItemOrder → ChildScheme → ChildScheme → PrimitiveParts → Result Tree FastLanesError → Type 0
+EncodesChunkedForAs order encoded references p result =
+    Makes (references_refusal (child_refusal encoded) (child_refusal references) (encode_chunked_by order p)) (HasReferences (IsChildAs encoded) (IsChildAs references) (encode_chunked_by order p)) (column_of_primitive p) result

@@ -2,3 +2,4 @@ pub mod Packings
 pub mod Encodings
 pub mod Shapes
 pub mod Texts
+pub mod Grammar

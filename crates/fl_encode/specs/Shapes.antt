@@ -13,6 +13,8 @@ pub data Shape : Type 0 where
   BitPacked : Packing → Shape
   FoR : Shape → Shape
   FoRChunked : Shape → Shape → Shape
+  FoRWrapped : Shape → Shape
+  FoRChunkedWrapped : Shape → Shape → Shape
   Delta : Shape → Shape → Shape
   RLE : Shape → Shape → Shape → Shape
 
@@ -24,6 +26,8 @@ abbrev mutual
   shape (schemes.BitPacked packing) = BitPacked packing
   shape (schemes.FoR' encoded) = FoR (child_shape encoded)
   shape (schemes.FoRChunked' encoded references) = FoRChunked (child_shape encoded) (child_shape references)
+  shape (schemes.FoRWrapped' encoded) = FoRWrapped (child_shape encoded)
+  shape (schemes.FoRChunkedWrapped' encoded references) = FoRChunkedWrapped (child_shape encoded) (child_shape references)
   shape (schemes.Delta' bases deltas) = Delta (child_shape bases) (child_shape deltas)
   shape (schemes.RLE' values indices offsets) = RLE (child_shape values) (child_shape indices) (child_shape offsets)
 
@@ -64,5 +68,7 @@ scheme_text Constant = codes "constant"
 scheme_text (BitPacked packing) = packing_text packing
 scheme_text (FoR encoded) = codes "for" ++ in_parentheses (is_plain encoded) (scheme_text encoded)
 scheme_text (FoRChunked encoded references) = codes "forc" ++ in_parentheses (is_plain encoded && is_plain references) (scheme_text encoded ++ (codes "," ++ scheme_text references))
+scheme_text (FoRWrapped encoded) = codes "forw" ++ in_parentheses (is_plain encoded) (scheme_text encoded)
+scheme_text (FoRChunkedWrapped encoded references) = codes "forcw" ++ in_parentheses (is_plain encoded && is_plain references) (scheme_text encoded ++ (codes "," ++ scheme_text references))
 scheme_text (Delta bases deltas) = codes "delta" ++ in_parentheses (is_plain bases && is_plain deltas) (scheme_text bases ++ (codes "," ++ scheme_text deltas))
 scheme_text (RLE values indices offsets) = codes "rle" ++ in_parentheses (is_plain values && (is_plain indices && is_plain offsets)) (scheme_text values ++ (codes "," ++ (scheme_text indices ++ (codes "," ++ scheme_text offsets))))

@@ -6,19 +6,21 @@ ghost use Rattle.fl_column.specs.Columns.{column_of_primitive};
 ghost use Rattle.fl_column.specs.Questions.{are_constant};
 ghost use Rattle.fl_array.specs.FoRArrays.{ChunkReferences, for_refusal, reference_refusal};
 ghost use Rattle.fl_array.specs.Trees.{FoRChunked, FoRGlobal, Primitive, column};
-ghost use Rattle.fl_encode.specs.Encodings.{EncodesAs, EncodesChildAs, HasChunkReferences, HasOneReference, IsChildAs, Makes, child_refusal};
+ghost use Rattle.fl_encode.specs.Encodings.{EncodesAs, EncodesChildAs, EncodesChunkedForAs, EncodesForAs, HasChunkReferences, HasOneReference, IsChildAs, Makes, child_refusal};
 ghost use Rattle.fl_bitpacking.specs.Refusals.{otherwise};
-ghost use Rattle.fl_encode.specs.declared.scheme.Scheme.{Delta', FoR', FoRChunked', RLE', back-Scheme-FoR-0 as child_scheme};
+ghost use Rattle.fl_encode.specs.declared.scheme.Scheme.{Delta', RLE', back-Scheme-FoR-0 as child_scheme};
 
 use crate::parts::{
     over_deltas, over_nulls, over_reference, over_references, over_runs, pack, prove_few, repeat,
 };
 use crate::scheme::Scheme;
 use fl_array::{ArrayRef, IntoArray};
-use fl_codec::for_::{EncodedFoR, GlobalFoR};
-use fl_codec::laws::{chunked_for_and_back, deltas_and_back, global_for_and_back, runs_and_back};
+use fl_codec::for_::{EncodedFoR, GlobalFoR, ItemOrder, encode_by, encode_chunked_by};
+use fl_codec::laws::{
+    chunked_for_by_and_back, deltas_and_back, global_for_by_and_back, runs_and_back,
+};
 use fl_codec::rle::Runs;
-use fl_codec::{delta, for_, rle};
+use fl_codec::{delta, rle};
 use fl_column::{FastLanesError, PrimitiveArray, Scalar};
 use std::alloc::Global;
 
@@ -70,7 +72,7 @@ fn encode_over_references(
     over_references(alloc, encoded, references)
 }
 
-/// The FoR array of a primitive one, with its least valid item as the one reference.
+/// The FoR array of a primitive one, with its least valid item by an order as the one reference.
 ///
 /// # Errors
 /// `NoMinimum` where no item is valid, else those of the child.
@@ -78,16 +80,17 @@ fn encode_over_references(
 fn encode_for(
     alloc: Global,
     array: &PrimitiveArray,
+    order: ItemOrder,
     scheme: &Option<Box<Scheme>>,
 ) -> Result<ArrayRef, FastLanesError>
-    ensures { EncodesAs (FoR' (child_scheme scheme.now)) array.now result }
+    ensures { EncodesForAs order (child_scheme scheme.now) array.now result }
 {
-    global_for_and_back(array);
-    let GlobalFoR { child, reference } = for_::encode(alloc, array)?;
+    global_for_by_and_back(array, order);
+    let GlobalFoR { child, reference } = encode_by(alloc, array, order)?;
     encode_over_reference(alloc, child, reference, scheme)
 }
 
-/// The FoR array of a primitive one, with the least valid item of each chunk as its reference, or one
+/// The FoR array of a primitive one, with the least valid item of each chunk, by an order, as its reference, or one
 /// reference where all of these are equal. Nothing but nulls become a constant child, which isn't encoded.
 ///
 /// # Errors
@@ -96,15 +99,16 @@ fn encode_for(
 fn encode_chunked_for(
     alloc: Global,
     array: &PrimitiveArray,
+    order: ItemOrder,
     encoded: &Option<Box<Scheme>>,
     references: &Option<Box<Scheme>>,
 ) -> Result<ArrayRef, FastLanesError>
-    ensures { EncodesAs (FoRChunked' (child_scheme encoded.now) (child_scheme references.now)) array.now result }
+    ensures { EncodesChunkedForAs order (child_scheme encoded.now) (child_scheme references.now) array.now result }
 {
-    chunked_for_and_back(array);
+    chunked_for_by_and_back(array, order);
     prove_few(array);
     let _validity = array.validity();
-    match for_::encode_chunked(alloc, array)? {
+    match encode_chunked_by(alloc, array, order)? {
         EncodedFoR::Global(GlobalFoR { child, reference }) => {
             encode_over_reference(alloc, child, reference, encoded)
         }
@@ -177,10 +181,10 @@ fn encode_rle(
 /// The first refusal, that of the outer encoding before those of its children in the order of their slots:
 /// - `Constant` is refused with `CastOutOfRange` where two items differ.
 /// - `BitPacked` is refused with the first of `NegativeValue`, `WidthTooLarge` and `AllBlocksNative` that holds.
-/// - `FoR` is refused with `NoMinimum` where no item is valid.
+/// - `FoR` and `FoRWrapped` are refused with `NoMinimum` where no item is valid.
 ///
-/// `FoRChunked` makes one reference of equal ones, and a constant child of nothing but nulls: the schemes of
-/// children that are not there are not run.
+/// `FoRChunked` and `FoRChunkedWrapped` make one reference of equal ones, and a constant child of nothing but nulls:
+/// the schemes of children that are not there are not run.
 #[cycle(encode)]
 pub fn encode(
     alloc: Global,
@@ -193,11 +197,16 @@ pub fn encode(
         Scheme::Primitive => Ok(array.try_clone(alloc)?.into_array()),
         Scheme::Constant => repeat(array),
         Scheme::BitPacked(packing) => pack(alloc, array, *packing),
-        Scheme::FoR { encoded } => encode_for(alloc, array, encoded),
+        Scheme::FoR { encoded } => encode_for(alloc, array, ItemOrder::Natural, encoded),
         Scheme::FoRChunked {
             encoded,
             references,
-        } => encode_chunked_for(alloc, array, encoded, references),
+        } => encode_chunked_for(alloc, array, ItemOrder::Natural, encoded, references),
+        Scheme::FoRWrapped { encoded } => encode_for(alloc, array, ItemOrder::Signed, encoded),
+        Scheme::FoRChunkedWrapped {
+            encoded,
+            references,
+        } => encode_chunked_for(alloc, array, ItemOrder::Signed, encoded, references),
         Scheme::Delta { bases, deltas } => encode_delta(alloc, array, bases, deltas),
         Scheme::RLE {
             values,

@@ -1,8 +1,9 @@
 //! What holds of every scheme.
 
-ghost use Rattle.std.specs.Prelude.{◌≡◌, Ok, true};
+ghost use Rattle.std.specs.Prelude.{◌≡◌, ℕ, List, Ok, Err, take, true};
 ghost use Rattle.fl_encode.specs.declared.scheme.Scheme.{back-Scheme-FoR-0 as child_scheme};
-ghost use Rattle.fl_encode.specs.Shapes.{child_shape, scheme_text, shape};
+ghost use Rattle.fl_encode.specs.Grammar.{BeginsScheme, IsSchemeText};
+ghost use Rattle.fl_encode.specs.Shapes.{Shape, child_shape, scheme_text, shape};
 ghost use Rattle.fl_encode.specs.Shapes as shapes;
 ghost use Rattle.fl_encode.specs.Texts.{has_widths, scheme_of_text};
 
@@ -27,8 +28,12 @@ fn prove_widths(scheme: &Scheme)
     match scheme {
         Scheme::Primitive | Scheme::Constant => (),
         Scheme::BitPacked(packing) => prove_width(*packing),
-        Scheme::FoR { encoded } => prove_child_widths(encoded),
+        Scheme::FoR { encoded } | Scheme::FoRWrapped { encoded } => prove_child_widths(encoded),
         Scheme::FoRChunked {
+            encoded,
+            references,
+        }
+        | Scheme::FoRChunkedWrapped {
             encoded,
             references,
         } => {
@@ -69,3 +74,14 @@ pub fn printed_is_read(scheme: &Scheme)
 {
     prove_widths(scheme);
 }
+
+/// A text is read as a scheme exactly where the grammar says that it is a text of it.
+pub fn grammar_is_read()
+    ensures read { (text : List ℕ) (scheme : Shape) → scheme_of_text text ≡ Ok scheme → IsSchemeText scheme text }
+    ensures all { (text : List ℕ) (scheme : Shape) → IsSchemeText scheme text → scheme_of_text text ≡ Ok scheme }
+{}
+
+/// The bytes before a wrong one begin the text of some scheme: no earlier one is wrong.
+pub fn no_byte_before_is_wrong()
+    ensures { (text : List ℕ) (position : ℕ) → scheme_of_text text ≡ Err position → BeginsScheme (take position text) }
+{}

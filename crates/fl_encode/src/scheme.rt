@@ -32,6 +32,18 @@ pub enum Scheme {
         /// The reference of each chunk.
         references: Option<Box<Scheme>>,
     },
+    /// A frame of reference for the whole array, whose reference is the least item read as signed.
+    FoRWrapped {
+        /// The differences.
+        encoded: Option<Box<Scheme>>,
+    },
+    /// A frame of reference for each chunk of 1024, whose references are the least items read as signed.
+    FoRChunkedWrapped {
+        /// The differences.
+        encoded: Option<Box<Scheme>>,
+        /// The reference of each chunk.
+        references: Option<Box<Scheme>>,
+    },
     /// Delta.
     Delta {
         /// The bases of the blocks.

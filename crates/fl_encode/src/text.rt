@@ -5,6 +5,7 @@ mod printing;
 mod reading;
 
 ghost use Rattle.std.specs.Prelude.{◌≡◌, ◌++◌, IfOk};
+ghost use Rattle.fl_encode.specs.Grammar.{FollowsGrammar};
 ghost use Rattle.fl_encode.specs.Shapes.{scheme_text, shape};
 ghost use Rattle.fl_encode.specs.Texts.{IsParsed, scheme_of_text};
 
@@ -23,7 +24,7 @@ pub enum SchemeError {
 }
 
 /// The scheme that a text says. The words are `primitive`, `constant`, `bitpacked`, `bitpacked:7` (a width up to
-/// 255), `blocked`, `for`, `forc`, `delta` and `rle`.
+/// 255), `blocked`, `for`, `forc`, `forw`, `forcw`, `delta` and `rle`.
 ///
 /// It calls itself once for each level, and no depth is refused: a text from a stranger is to be short, since one of
 /// very many levels may exhaust the stack.
@@ -31,7 +32,8 @@ pub enum SchemeError {
 /// # Errors
 /// `WrongByte` with the position of the first byte that is wrong; `OutOfMemory`.
 pub fn parse(alloc: Global, text: &[u8]) -> Result<Scheme, SchemeError>
-    ensures { IsParsed result (scheme_of_text text.now) }
+    ensures grammar { FollowsGrammar text.now result }
+    ensures read { IsParsed result (scheme_of_text text.now) }
 {
     match read_whole(alloc, text) {
         Ok(scheme) => Ok(scheme),

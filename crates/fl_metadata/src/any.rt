@@ -5,7 +5,7 @@ ghost use Rattle.fl_metadata.specs.Wire.{IsMessage};
 
 use super::schema::Values;
 
-/// Whether the bytes are a message, whatever it says: a row of fields, or nothing.
+/// Whether the bytes are a message of any schema: a row of fields, or nothing.
 pub fn is_message(bytes: &[u8]) -> bool
     ensures { IsTrue result ↔ IsMessage bytes.now }
 {

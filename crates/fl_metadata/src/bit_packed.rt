@@ -10,9 +10,9 @@ use std::alloc::Global;
 /// The metadata of a bit-packed array of one width.
 #[derive(Clone, Copy, Debug, PartialEq, Eq)]
 pub struct BitPackedMetadata {
-    /// How many bits each packed item has.
+    /// The number of bits of each packed item.
     pub bit_width: u32,
-    /// Where in the first block the array begins.
+    /// The position in the first block at which the array begins.
     pub offset: u32,
     /// The patches, if there are any.
     pub patches: Option<PatchesMetadata>,
@@ -24,8 +24,8 @@ impl BitPackedMetadata {
     ghost use Rattle.fl_metadata.specs.WrittenText.{message_text};
     ghost use Rattle.fl_metadata.specs.Messages.{bit_packed_of, bit_packed_slots};
 
-    /// Reads the message: `BadMetadata` where the bytes aren't this message, else `UnknownType` where a number
-    /// stands for no type.
+    /// Reads the message: `BadMetadata` if the bytes are not this message, else `UnknownType` if a number
+    /// is that of no type.
     #[tactic(auto, unfolding(crate::specs::Messages::bit_packed_of))]
     pub fn decode(bytes: &[u8]) -> Result<Self, FastLanesError>
         ensures { result ≡ bit_packed_of bytes.now }
@@ -59,7 +59,7 @@ impl BitPackedMetadata {
 /// The metadata of a bit-packed array with a width for each block.
 #[derive(Clone, Copy, Debug, PartialEq, Eq)]
 pub struct BitPackedBlockedMetadata {
-    /// Where in the first block the array begins.
+    /// The position in the first block at which the array begins.
     pub offset: u32,
     /// The type of the blocks' boundaries.
     pub block_offsets: PType,
@@ -73,8 +73,8 @@ impl BitPackedBlockedMetadata {
     ghost use Rattle.fl_metadata.specs.WrittenText.{message_text};
     ghost use Rattle.fl_metadata.specs.Messages.{bit_packed_blocked_of, bit_packed_blocked_slots};
 
-    /// Reads the message: `BadMetadata` where the bytes aren't this message, else `UnknownType` where a number
-    /// stands for no type.
+    /// Reads the message: `BadMetadata` if the bytes are not this message, else `UnknownType` if a number
+    /// is that of no type.
     #[tactic(auto, unfolding(crate::specs::Messages::bit_packed_blocked_of))]
     pub fn decode(bytes: &[u8]) -> Result<Self, FastLanesError>
         ensures { result ≡ bit_packed_blocked_of bytes.now }

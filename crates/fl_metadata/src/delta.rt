@@ -8,9 +8,9 @@ use std::alloc::Global;
 /// The metadata of a Delta array.
 #[derive(Clone, Copy, Debug, PartialEq, Eq)]
 pub struct DeltaMetadata {
-    /// How many deltas are stored.
+    /// The number of stored deltas.
     pub deltas_len: u64,
-    /// Where in the first block the array begins.
+    /// The position in the first block at which the array begins.
     pub offset: u32,
 }
 
@@ -20,7 +20,7 @@ impl DeltaMetadata {
     ghost use Rattle.fl_metadata.specs.WrittenText.{message_text};
     ghost use Rattle.fl_metadata.specs.Messages.{delta_metadata_of, delta_slots};
 
-    /// Reads the message: `BadMetadata` where the bytes aren't this message.
+    /// Reads the message: `BadMetadata` if the bytes are not this message.
     #[tactic(auto, unfolding(crate::specs::Messages::delta_metadata_of))]
     pub fn decode(bytes: &[u8]) -> Result<Self, FastLanesError>
         ensures { result ≡ delta_metadata_of bytes.now }

@@ -8,7 +8,7 @@ use std::alloc::Global;
 /// The metadata of a FoR array with a reference for each chunk.
 #[derive(Clone, Copy, Debug, PartialEq, Eq)]
 pub struct FoRChunkedMetadata {
-    /// Where in the first chunk the array begins.
+    /// The position in the first chunk at which the array begins.
     pub offset: u32,
 }
 
@@ -18,7 +18,7 @@ impl FoRChunkedMetadata {
     ghost use Rattle.fl_metadata.specs.WrittenText.{message_text};
     ghost use Rattle.fl_metadata.specs.Messages.{for_chunked_of, for_chunked_slots};
 
-    /// Reads the message: `BadMetadata` where the bytes aren't this message.
+    /// Reads the message: `BadMetadata` if the bytes are not this message.
     #[tactic(auto, unfolding(crate::specs::Messages::for_chunked_of))]
     pub fn decode(bytes: &[u8]) -> Result<Self, FastLanesError>
         ensures { result ≡ for_chunked_of bytes.now }

@@ -1,4 +1,4 @@
-//! What holds of every text.
+//! Laws of messages.
 
 ghost use Rattle.std.specs.Prelude.{◌≡◌, ◌<◌, ◌≤◌, ◌^◌, ℕ, ℤ, List, Option, Some, IfSome, Ok, Err, length};
 ghost use Rattle.fl_types.specs.declared.error.FastLanesError.{FastLanesError};
@@ -20,13 +20,13 @@ ghost use Rattle.fl_metadata.specs.declared.patches.PatchesMetadata.{PatchesMeta
 ghost use Rattle.fl_metadata.specs.declared.bit_packed.BitPackedMetadata.{BitPackedMetadata};
 ghost use Rattle.fl_metadata.specs.declared.bit_packed.BitPackedBlockedMetadata.{BitPackedBlockedMetadata};
 
-/// Reading finds the fields of a text exactly where it is a row of them.
+/// Reading finds the fields of a text if and only if it is a row of them.
 pub fn row_is_read()
     ensures found { (bytes : List ℕ) (fs : List Field) → fields_of bytes ≡ Some fs → IsRow fs bytes }
     ensures only { (bytes : List ℕ) (fs : List Field) → IsRow fs bytes → fields_of bytes ≡ Some fs }
 {}
 
-/// The values of a text are those that a row of its fields says; else it is no message of the schema.
+/// The values of a text are those of a row of its fields; otherwise it is not a message of the schema.
 pub fn row_is_said()
     ensures found { (schema : List Kind) (bytes : List ℕ) (values : List (Option Payload))
         → values_of schema bytes ≡ Ok values → (fs : List Field) × IsRow fs bytes × Says schema fs values }
@@ -36,7 +36,7 @@ pub fn row_is_said()
         → values_of schema bytes ≡ Err e → e ≡ BadMetadata }
 {}
 
-/// The varint that is written is the shortest of its number, and no other is as short.
+/// The varint that is written is the only shortest one of its number.
 pub fn varint_is_shortest()
     ensures spelled { (n : ℕ) → n < 2 ^ 64 → IsVarint (varint_text n) n }
     ensures shortest { (n : ℕ) (bytes : List ℕ)
@@ -58,7 +58,7 @@ pub fn written_is_read()
         → IfSome value (FitsIn ptype) → scalar_of ptype (message_text (scalar_slots ptype value)) ≡ Ok value }
 {}
 
-/// A message that is written is the canonical encoding of its fields: rising tags, and nothing longer than it need be.
+/// A message that is written is the canonical encoding of its fields: rising tags and shortest varints.
 pub fn written_is_one_text()
     ensures bit_packed { (m : BitPackedMetadata)
         → BitPackedFits m → IsOneText (fields_in (bit_packed_slots m)) (message_text (bit_packed_slots m)) }
@@ -73,7 +73,7 @@ pub fn written_is_one_text()
         → IfSome value (FitsIn ptype) → IsOneText (fields_in (scalar_slots ptype value)) (message_text (scalar_slots ptype value)) }
 {}
 
-/// A scalar that is read is one of its type.
+/// A scalar that is read fits its type.
 pub fn scalar_fits()
     ensures { (ptype : PType) (bytes : List ℕ) (z : ℤ) → scalar_of ptype bytes ≡ Ok (Some z) → FitsIn ptype z }
 {}

@@ -1,6 +1,6 @@
 //! The metadata messages of serialized arrays.
 //!
-//! A message is a row of fields in the wire form of Protocol Buffers.
+//! A message is a row of fields in the wire format of Protocol Buffers.
 #![tactic(auto)]
 
 mod any;

@@ -1,4 +1,4 @@
-//! The message that patches have inside a bit-packed node's.
+//! The message of patches within that of a bit-packed node.
 
 use super::schema::{Kind, Values};
 use super::types::{optional_type_number, optional_type_of_number, type_number, type_of_number};
@@ -9,9 +9,9 @@ use std::alloc::Global;
 /// The metadata of patches.
 #[derive(Clone, Copy, Debug, PartialEq, Eq)]
 pub struct PatchesMetadata {
-    /// How many patches there are.
+    /// The number of patches.
     pub len: u64,
-    /// What the indices count from.
+    /// The offset that is subtracted from the indices.
     pub offset: u64,
     /// The type of the indices.
     pub indices: PType,
@@ -27,8 +27,8 @@ impl PatchesMetadata {
     ghost use Rattle.fl_metadata.specs.Schemas.{values_of, seen_values, Gives};
     ghost use Rattle.fl_metadata.specs.Messages.{patches_schema, patches_of, patches_in, patches_text, embedded_of};
 
-    /// Reads the message: `BadMetadata` where the bytes aren't this message, else `UnknownType` where a number
-    /// stands for no type.
+    /// Reads the message: `BadMetadata` if the bytes are not this message, else `UnknownType` if a number
+    /// is that of no type.
     #[tactic(auto, unfolding(crate::specs::Messages::patches_of))]
     pub fn decode(bytes: &[u8]) -> Result<Self, FastLanesError>
         ensures { result ≡ patches_of bytes.now }

@@ -9,17 +9,17 @@ use std::alloc::Global;
 /// The metadata of an RLE array.
 #[derive(Clone, Copy, Debug, PartialEq, Eq)]
 pub struct RLEMetadata {
-    /// How many run values are stored.
+    /// The number of stored run values.
     pub values_len: u64,
-    /// How many indices are stored.
+    /// The number of stored indices.
     pub indices_len: u64,
     /// The type of the indices.
     pub indices: PType,
-    /// How many run offsets are stored.
+    /// The number of stored run offsets.
     pub values_idx_offsets_len: u64,
     /// The type of the run offsets.
     pub values_idx_offsets: PType,
-    /// Where in the first chunk the array begins.
+    /// The position in the first chunk at which the array begins.
     pub offset: u64,
 }
 
@@ -29,8 +29,8 @@ impl RLEMetadata {
     ghost use Rattle.fl_metadata.specs.WrittenText.{message_text};
     ghost use Rattle.fl_metadata.specs.Messages.{rle_of, rle_slots};
 
-    /// Reads the message: `BadMetadata` where the bytes aren't this message, else `UnknownType` where a number
-    /// stands for no type.
+    /// Reads the message: `BadMetadata` if the bytes are not this message, else `UnknownType` if a number
+    /// is that of no type.
     #[tactic(auto, unfolding(crate::specs::Messages::rle_of))]
     pub fn decode(bytes: &[u8]) -> Result<Self, FastLanesError>
         ensures { result ≡ rle_of bytes.now }

@@ -87,8 +87,8 @@ fn scalar_values(ptype: PType, bytes: &[u8]) -> Result<Values<'_>, FastLanesErro
     }
 }
 
-/// Reads a scalar of a type; `None` is null. `BadMetadata` where the bytes are no message, and where the
-/// number doesn't fit the type.
+/// Reads a scalar of a type; `None` is null. `BadMetadata` if the bytes are no message, and where the
+/// number does not fit the type.
 #[tactic(auto, unfolding(crate::specs::Scalars::scalar_of))]
 pub fn decode_scalar(ptype: PType, bytes: &[u8]) -> Result<Option<i128>, FastLanesError>
     ensures { result ≡ scalar_of ptype bytes.now }
@@ -100,7 +100,7 @@ pub fn decode_scalar(ptype: PType, bytes: &[u8]) -> Result<Option<i128>, FastLan
     }
 }
 
-/// Writes a scalar of a type; `None` is null, which is no bytes.
+/// Writes a scalar of a type; `None` is null, which takes no bytes.
 pub fn encode_scalar(
     alloc: Global,
     ptype: PType,

@@ -8,12 +8,12 @@ ghost use Rattle.fl_metadata.specs.Schemas.{kind_at, is_of_kind, is_within, are_
 use super::wire::{Value, first_field};
 use fl_types::FastLanesError;
 
-/// What a message has under a tag. A schema is a list of kinds, by tag; tag 0 is never written.
+/// The kind of value that a message has under a tag. A schema is a list of kinds, by tag; tag 0 is never written.
 #[derive(Clone, Copy)]
 pub enum Kind {
     /// Nothing: a field is skipped.
     Unknown,
-    /// A number, and the greatest that it may be.
+    /// A number with its maximum.
     Number(u64),
     /// Bytes, which are a message.
     Message,
@@ -64,8 +64,8 @@ pub struct Values<'a> {
 }
 
 impl<'a> Values<'a> {
-    /// Reads the values of a message in one pass: `BadMetadata` where the bytes are no row of fields,
-    /// where a field isn't of its tag's kind, and where a last value passes its limit.
+    /// Reads the values of a message in one pass: `BadMetadata` if the bytes are not a row of fields,
+    /// if a field does not have its tag's kind, or if a last value is above its maximum.
     pub fn read(schema: &[Kind], bytes: &'a [u8]) -> Result<Values<'a>, FastLanesError>
         ensures is { Gives seen_values result (values_of schema.now bytes.now) }
         ensures within { IfOk result (λ values. KeepsLimits schema.now (seen_values values)) }

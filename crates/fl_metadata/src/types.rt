@@ -1,4 +1,4 @@
-//! The numbers that stand for integer types.
+//! The numbers of integer types.
 
 ghost use Rattle.std.specs.Prelude.{◌≡◌, option_map};
 ghost use Rattle.fl_types.specs.Integers.{code_of};
@@ -6,7 +6,7 @@ ghost use Rattle.fl_metadata.specs.Messages.{type_numbered, optional_type_of};
 
 use fl_types::{FastLanesError, PType};
 
-/// The number that stands for a type: U8 to U64 are 0 to 3, I8 to I64 are 4 to 7.
+/// The number of a type: U8 to U64 are 0 to 3, I8 to I64 are 4 to 7.
 pub fn type_number(ptype: PType) -> u64
     ensures { result ≡ code_of ptype }
 {
@@ -22,7 +22,7 @@ pub fn type_number(ptype: PType) -> u64
     }
 }
 
-/// The type that a number stands for: `UnknownType` above 7.
+/// The type of a number: `UnknownType` above 7.
 pub fn type_of_number(number: u64) -> Result<PType, FastLanesError>
     ensures { result ≡ type_numbered number }
 {

@@ -3,14 +3,14 @@
 ghost use Rattle.std.specs.Prelude.{◌≡◌, ◌<◌, ◌≤◌, length, IfSome};
 ghost use Rattle.fl_metadata.specs.WireReading.{groups_at, varint_at, front_at, payload_at, field_at, seen, seen_field, Sees};
 
-/// What a field has behind its key.
+/// The value of a field, after its key.
 #[derive(Clone, Copy)]
 pub enum Value<'a> {
     /// A varint.
     Number(u64),
     /// Eight bytes.
     Eight(&'a [u8]),
-    /// Bytes behind their length.
+    /// Bytes after their length.
     Bytes(&'a [u8]),
     /// Four bytes.
     Four(&'a [u8]),
@@ -93,7 +93,7 @@ fn payload(wire: u8, bytes: &[u8]) -> Option<(Value<'_>, &[u8])>
     }
 }
 
-/// The field at the front, and the bytes behind it.
+/// The first field, and the bytes after it.
 #[tactic(auto, unfolding(crate::specs::WireReading::field_at))]
 pub fn first_field(bytes: &[u8]) -> Option<(Field<'_>, &[u8])>
     ensures is { Sees (λ x. (seen_field x.0, x.1.now)) result (field_at bytes.now) }

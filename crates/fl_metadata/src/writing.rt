@@ -17,7 +17,7 @@ pub struct Slot<'a> {
 }
 
 impl<'a> Slot<'a> {
-    /// A number, which isn't written at 0.
+    /// A number, which is written unless it is 0.
     pub fn number(tag: u32, number: u64) -> Slot<'a>
         ensures { seen_slot result ≡ number_slot tag number }
     {
@@ -29,7 +29,7 @@ impl<'a> Slot<'a> {
         Slot { tag, value }
     }
 
-    /// A number that is written where it is there, also at 0.
+    /// A number that is written if it is present, even if it is 0.
     pub fn stated(tag: u32, number: Option<u64>) -> Slot<'a>
         ensures { seen_slot result ≡ stated_slot tag number }
     {
@@ -40,7 +40,7 @@ impl<'a> Slot<'a> {
         Slot { tag, value }
     }
 
-    /// A message that is written where it is there.
+    /// A message that is written if it is present.
     pub fn message(tag: u32, text: &'a Option<Vec<u8>>) -> Slot<'a>
         ensures { seen_slot result ≡ message_slot tag (option_map (λ held. held.items) text.now) }
     {

@@ -6,3 +6,4 @@ pub mod Selections
 pub mod CastForms
 pub mod Takes
 pub mod Sums
+pub mod Unpacked

@@ -1,8 +1,7 @@
 -- Questions, and what a column answers.
-use Rattle.std.specs.Prelude.{◌&&◌, ◌||◌, ℤ, pos, Bool, true, false, not, Result, Ok, Err, is_some, map, option_map, unwrap_or}
+use Rattle.std.specs.Prelude.{◌&&◌, ◌||◌, ℤ, pos, Bool, true, not, Result, Ok, Err, is_some, map, option_map, unwrap_or}
 use Rattle.fl_types.specs.declared.error.FastLanesError.{FastLanesError}
 use Rattle.fl_types.specs.declared.query.CompareOperator.{CompareOperator}
-use Rattle.fl_types.specs.declared.query.CompareOperator.TheVariants.{Eq, NotEq, Gt, Gte, Lt, Lte}
 use Rattle.fl_types.specs.declared.dtype.DType.TheVariants as dtypes
 use Rattle.fl_types.specs.declared.query.BetweenOptions.{BetweenOptions}
 use Rattle.fl_types.specs.Types.{either_nullable, is_integer, nullability_in, same_type}
@@ -40,15 +39,6 @@ compare_scalar operator constant c = mapped (nullable_with constant) (compare_co
 -- the range test of each item between two constants, or why there is none
 abbrev pub between_scalars : ScalarParts → ScalarParts → BetweenOptions → Column → Result Column FastLanesError
 between_scalars lower upper options c = mapped (λ answers. nullable_with upper (nullable_with lower answers)) (between_column (integer_in lower) (integer_in upper) options c)
-
--- the operator tests equality
-abbrev pub is_equality : CompareOperator → Bool
-is_equality Eq = true
-is_equality NotEq = true
-is_equality Gt = false
-is_equality Gte = false
-is_equality Lt = false
-is_equality Lte = false
 
 -- the other truth value in each place, a null at a null
 abbrev pub negated : Column → Column

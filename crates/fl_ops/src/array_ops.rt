@@ -1,4 +1,4 @@
-//! Operations and questions on arrays.
+//! Operations and queries of arrays.
 
 ghost use Rattle.std.specs.Prelude.{◌*◌, ◌≡◌, ◌≤◌, Err, IfOk, IfSome, IsTrue, Ok, length, ℕ};
 ghost use Rattle.fl_types.specs.declared.error.FastLanesError.{FastLanesError};
@@ -10,17 +10,17 @@ ghost use Rattle.fl_types.specs.Values.{scalar_parts, integer_of, ptype_of_value
 ghost use Rattle.fl_column.specs.Columns.{column_of_bools};
 ghost use Rattle.fl_column.specs.Operations.{cast_column, filter_column, ranges_column, ranges_of, take_column, take_of};
 ghost use Rattle.fl_column.specs.Questions.{holds, is_between, is_constant_column, is_sorted_column};
-ghost use Rattle.fl_array.specs.BitPackedArrays.{bitpacked_in};
 ghost use Rattle.fl_array.specs.Trees.{Tree, column};
-ghost use Rattle.fl_array.specs.UnpackedBlocks.{IsComparisonOf};
 ghost use Rattle.fl_ops.specs.Normalized.{SameShown};
 ghost use Rattle.fl_ops.specs.Results.{IsFiltered, cast_to, picked};
 ghost use Rattle.fl_ops.specs.Takes.{has_block_widths};
+ghost use Rattle.fl_ops.specs.Unpacked.{IsTestOfArray};
 ghost use Rattle.fl_ops.specs.Questions.{between_scalars, compare_scalar, integer_in, is_comparable, nullable_with};
 
+use crate::encoded_tests::{between_plain, compare_plain, encoded_between, encoded_comparison};
 use crate::selection::{Selection, select};
 use crate::takes::take_packed_counted;
-use crate::{casting, equality, plain_ops, sorting};
+use crate::{casting, constancy, sorting};
 use fastlanes::Work;
 use fl_array::ArrayRef;
 use fl_column::{
@@ -29,24 +29,24 @@ use fl_column::{
 };
 use std::alloc::Global;
 
-/// Operations and questions on arrays of integers. Each refuses a Bool array with `NotInteger`.
+/// Operations and queries of arrays of integers. Each returns `NotInteger` for a Bool array.
 /// Takes and filters of a FoR array of one reference give such an array over the encoded array's
-/// result, and plain arrays of all other kinds.
+/// result; those of all other kinds give plain arrays.
 pub trait ArrayOps {
     /// The tree of the array.
     ghost tree: { Self → Tree };
 
     /// The items that the indices name, null where an index is null. The integer under a null index
-    /// is never looked at.
+    /// is never read.
     ///
     /// # Errors
-    /// `NotInteger` where one of the arrays is not of integers, then `IndexOutOfBounds` where an
+    /// `NotInteger` if one of the arrays is not of integers, then `IndexOutOfBounds` if an
     /// index is negative or not below the length.
     fn take(&self, alloc: Global, indices: &ArrayRef) -> Result<ArrayRef, FastLanesError>
         ensures column { Answers column result (take_column (column indices.now) (column (tree self.now))) }
         ensures tree { IfOk result (λ a. SameShown a (picked (take_of (column indices.now)) (tree self.now))) };
 
-    /// As `take`, and what was read of packed bytes for it, where this is a bit-packed array; nothing is
+    /// As `take`, and what was read of packed bytes for it, if this is a bit-packed array; nothing is
     /// counted for any other. Where each block has a width of its own, a block is unpacked for seventeen
     /// indices at least, and at most two words are read for an index.
     ///
@@ -63,11 +63,11 @@ pub trait ArrayOps {
         ensures words { IsTrue (has_block_widths (tree self.now)) → IfOk result (λ r. r.1.words ≤ 2 * length (column indices.now).items) };
 
     /// The items of the ranges, each a start and a length, one range after another. A range without
-    /// items is skipped, wherever it starts. A refusal takes no memory.
+    /// items is skipped, wherever it starts. An error allocates nothing.
     ///
     /// # Errors
-    /// `NotInteger`, then `RangeOutOfBounds` where a range with items reaches beyond the length,
-    /// then `LengthOverflow` where the lengths' sum is above `usize::MAX`.
+    /// `NotInteger`, then `RangeOutOfBounds` if a range with items reaches beyond the length,
+    /// then `LengthOverflow` if the lengths' sum is above `usize::MAX`.
     fn take_ranges(
         &self,
         alloc: Global,
@@ -77,7 +77,7 @@ pub trait ArrayOps {
         ensures tree { IfOk result (λ a. SameShown a (picked (ranges_of ranges.now) (tree self.now))) }
         ensures refused { (e : FastLanesError) → ranges_column ranges.now (column (tree self.now)) ≡ Err e → result ≡ Err e };
 
-    /// The items at the mask's true places, in order. The mask has the array's length; one that
+    /// The items whose bit of the mask is true, in order. The mask has the array's length; one that
     /// keeps all items by its form gives a copy.
     ///
     /// # Errors
@@ -95,8 +95,8 @@ pub trait ArrayOps {
     /// else becomes a plain array.
     ///
     /// # Errors
-    /// `NotInteger` where the array or the target is not of integers, then `CastNull` where an item
-    /// is null and the target isn't nullable, then `CastOutOfRange` where the target doesn't have an
+    /// `NotInteger` if the array or the target is not of integers, then `CastNull` if an item
+    /// is null and the target is not nullable, then `CastOutOfRange` if the target does not have an
     /// item.
     fn cast(&self, alloc: Global, target: DType) -> Result<ArrayRef, FastLanesError>
         ensures column { Answers column result (cast_column target (column (tree self.now))) }
@@ -116,8 +116,8 @@ pub trait ArrayOps {
         requires { IsTrue (is_comparable (column (tree self.now)) (scalar_parts constant.now)) }
         ensures { Answers column_of_bools result (compare_scalar operator (scalar_parts constant.now) (column (tree self.now))) };
 
-    /// Whether each item lies between two bounds of the array's type that are not null; a null stays
-    /// a null. Nothing lies between bounds of which the lower is above the upper. The answer is nullable
+    /// Whether each item is between two bounds of the array's type that are not null; a null stays
+    /// a null. No item is between bounds of which the lower is greater than the upper. The answer is nullable
     /// where the array or one of the bounds is.
     ///
     /// # Errors
@@ -135,7 +135,9 @@ pub trait ArrayOps {
 
     /// The same as `compare`, and what was unpacked for it of the packed bytes of a bit-packed array: of one width each block, or
     /// none where there is no item or the width decides the comparison; of a width for each block those blocks whose own width
-    /// does not decide it. Of any other array the count says nothing.
+    /// does not decide it. A FoR array of one reference hands back the count of its encoded array, where a width decides the
+    /// comparison if it has one answer for the sums of the reference and each integer of so many bits. Of any other array the
+    /// count says nothing.
     ///
     /// # Errors
     /// `NotInteger`.
@@ -147,7 +149,7 @@ pub trait ArrayOps {
     ) -> Result<(BoolArray, Work), FastLanesError>
         requires { IsTrue (is_comparable (column (tree self.now)) (scalar_parts constant.now)) }
         ensures answer { Answers (λ r. column_of_bools r.0) result (compare_scalar operator (scalar_parts constant.now) (column (tree self.now))) }
-        ensures work { IfOk result (λ r. IfSome (bitpacked_in (tree self.now)) (λ a. IsComparisonOf a (holds operator (integer_in (scalar_parts constant.now))) r.1)) };
+        ensures work { IfOk result (λ r. IsTestOfArray (tree self.now) (holds operator (integer_in (scalar_parts constant.now))) r.1) };
 
     /// The same as `between`, and what was unpacked for it, as by `compare_counted`.
     ///
@@ -163,7 +165,7 @@ pub trait ArrayOps {
         requires lower { IsTrue (is_comparable (column (tree self.now)) (scalar_parts lower.now)) }
         requires upper { IsTrue (is_comparable (column (tree self.now)) (scalar_parts upper.now)) }
         ensures answer { Answers (λ r. column_of_bools r.0) result (between_scalars (scalar_parts lower.now) (scalar_parts upper.now) options.now (column (tree self.now))) }
-        ensures work { IfOk result (λ r. IfSome (bitpacked_in (tree self.now)) (λ a. IsComparisonOf a (is_between options.now (integer_in (scalar_parts lower.now)) (integer_in (scalar_parts upper.now))) r.1)) };
+        ensures work { IfOk result (λ r. IsTestOfArray (tree self.now) (is_between options.now (integer_in (scalar_parts lower.now)) (integer_in (scalar_parts upper.now))) r.1) };
 
     /// Whether all items are equal; a null equals a null. An empty array is constant.
     ///
@@ -172,7 +174,7 @@ pub trait ArrayOps {
     fn is_constant(&self, alloc: Global) -> Result<bool, FastLanesError>
         ensures { Answers (λ b. b) result (is_constant_column (column (tree self.now))) };
 
-    /// Whether no item is above the next or, where `strict`, each item is below the next; a null is
+    /// Whether no item is greater than the next or, if `strict`, each item is less than the next; a null is
     /// below every integer. An empty array is sorted.
     ///
     /// # Errors
@@ -250,21 +252,16 @@ impl ArrayOps for ArrayRef {
         casting::cast(alloc, self, target)
     }
 
-    #[tactic(auto, using(crate::proofs::NullableLaws::comparisons))]
     fn compare(
         &self,
         alloc: Global,
         operator: CompareOperator,
         constant: &Scalar,
     ) -> Result<BoolArray, FastLanesError> {
-        let DType::Primitive(_, _) = self.dtype() else {
-            return Err(FastLanesError::NotInteger);
-        };
-        let answers = equality::compare(alloc, self, operator, integer_for(self, constant))?;
-        Ok(nullable_with(answers, constant))
+        let (answers, _work) = self.compare_counted(alloc, operator, constant)?;
+        Ok(answers)
     }
 
-    #[tactic(auto, using(crate::proofs::NullableLaws::comparisons))]
     fn between(
         &self,
         alloc: Global,
@@ -272,12 +269,8 @@ impl ArrayOps for ArrayRef {
         upper: &Scalar,
         options: &BetweenOptions,
     ) -> Result<BoolArray, FastLanesError> {
-        let DType::Primitive(_, _) = self.dtype() else {
-            return Err(FastLanesError::NotInteger);
-        };
-        let (low, high) = (integer_for(self, lower), integer_for(self, upper));
-        let answers = plain_ops::between(alloc, self, low, high, *options)?;
-        Ok(nullable_with(nullable_with(answers, lower), upper))
+        let (answers, _work) = self.between_counted(alloc, lower, upper, options)?;
+        Ok(answers)
     }
 
     #[tactic(auto, using(crate::proofs::NullableLaws::comparisons))]
@@ -291,14 +284,15 @@ impl ArrayOps for ArrayRef {
             return Err(FastLanesError::NotInteger);
         };
         let integer = integer_for(self, constant);
-        match self.as_bitpacked() {
+        let (encoded, range) = encoded_comparison(self, operator, integer);
+        match encoded.as_bitpacked() {
             Some(packed) => {
-                let (answers, work) = packed.compare_counted(alloc, operator, integer)?;
+                let (answers, work) = packed.test_counted(alloc, range)?;
                 Ok((nullable_with(answers, constant), work))
             }
             None => {
-                let plain = equality::compare(alloc, self, operator, integer)?;
-                Ok((nullable_with(plain, constant), Work::new()))
+                let answers = compare_plain(alloc, self, operator, integer)?;
+                Ok((nullable_with(answers, constant), Work::new()))
             }
         }
     }
@@ -315,15 +309,16 @@ impl ArrayOps for ArrayRef {
             return Err(FastLanesError::NotInteger);
         };
         let (low, high) = (integer_for(self, lower), integer_for(self, upper));
-        match self.as_bitpacked() {
+        let (encoded, range) = encoded_between(self, low, high, *options);
+        match encoded.as_bitpacked() {
             Some(packed) => {
-                let (answers, work) = packed.between_counted(alloc, low, high, *options)?;
+                let (answers, work) = packed.test_counted(alloc, range)?;
                 Ok((nullable_with(nullable_with(answers, lower), upper), work))
             }
             None => {
-                let plain = plain_ops::between(alloc, self, low, high, *options)?;
+                let answers = between_plain(alloc, self, low, high, *options)?;
                 Ok((
-                    nullable_with(nullable_with(plain, lower), upper),
+                    nullable_with(nullable_with(answers, lower), upper),
                     Work::new(),
                 ))
             }
@@ -331,7 +326,7 @@ impl ArrayOps for ArrayRef {
     }
 
     fn is_constant(&self, alloc: Global) -> Result<bool, FastLanesError> {
-        equality::is_constant(alloc, self)
+        constancy::is_constant(alloc, self)
     }
 
     fn is_sorted(&self, alloc: Global, strict: bool) -> Result<bool, FastLanesError> {

@@ -1,4 +1,4 @@
-//! What holds of the arrays that operations make, and of answers.
+//! Laws of operations and queries.
 
 ghost use Rattle.std.specs.Prelude.{◌≡◌, ◌≤◌, ℤ, Bool, List, IfOk, IsTrue, Ok, length, map};
 ghost use Rattle.fl_types.specs.declared.query.CompareOperator.TheVariants.{Eq};
@@ -23,21 +23,20 @@ use fl_column::{BoolArray, CompareOperator, DType, FastLanesError, Scalar};
 use std::alloc::Global;
 use std::ops::Range;
 
-/// Arrays that are the same but for slots under nulls have one column and one kind.
+/// Arrays that are equal up to what is stored under nulls have one column and one kind.
 #[tactic(auto, using(crate::proofs::NormalizedLaws::same_columns, crate::proofs::NormalizedLaws::same_kinds))]
 pub fn same_shown()
     ensures column { (a b : Tree) → SameShown a b → column a ≡ column b }
     ensures kind { (a b : Tree) → SameShown a b → kind a ≡ kind b }
 {}
 
-/// The array that operations make of one is one, but for slots under nulls.
+/// A list of operations determines its result, up to what is stored under nulls.
 #[tactic(auto, using(crate::proofs::OneResult::one_result))]
 pub fn one_result()
     ensures { (first : Tree) (steps : List Step) (a b : Tree) → IsResult first steps a → IsResult first steps b → SameShown a b }
 {}
 
-/// What one operation makes of an array. The array that is stated for it has the operation's column, and its
-/// kind.
+/// The result of one operation. The array that its contract states has the operation's column and kind.
 ///
 /// # Errors
 /// As `apply_all` of the one operation.
@@ -50,8 +49,7 @@ pub fn stated_result(array: &ArrayRef, alloc: Global, op: &Op) -> Result<ArrayRe
     apply(alloc, array, op)
 }
 
-/// The cast of an array, and the cast of that, which has the column that the second cast gives of the array
-/// itself.
+/// The cast of an array, and the cast of that, whose column is that of the second cast of the array itself.
 ///
 /// # Errors
 /// As the first cast, then as the second.
@@ -70,8 +68,8 @@ pub fn cast_of_cast(
     Ok((once, twice))
 }
 
-/// Whether each item equals a constant, and whether each differs from it: the one is the negation of the other
-/// at each item that is not null.
+/// Whether each item equals a constant, and whether each does not: one is the negation of the other for each
+/// valid item.
 ///
 /// # Errors
 /// `NotInteger`.
@@ -89,14 +87,14 @@ pub fn differing_is_not_equal(
     Ok((equal, differing))
 }
 
-/// The items of a column plus a reference rise as the items do, where no sum passes the type's end.
+/// Adding a reference keeps the order of a column's items, if no sum passes the end of the type.
 #[tactic(auto, using(crate::proofs::SortedLaws::sums_rise))]
 pub fn sums_rise()
     ensures { (strict : Bool) (reference : ℤ) (c : Column) → IsTrue (sums_fit (ptype_of_column c) reference c.items) → is_sorted_column strict (global_for reference c) ≡ is_sorted_column strict c }
 {}
 
-/// A slice of an array, and a take from it, which has the items of the array that the indices, moved on to the
-/// slice's start, name.
+/// A slice of an array, and a take from it, which is the take from the array with the slice's start added to
+/// the indices.
 ///
 /// # Errors
 /// As the take.

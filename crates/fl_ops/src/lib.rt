@@ -1,9 +1,10 @@
-//! Operations and questions on arrays of every kind.
+//! Operations and queries of arrays of every kind.
 #![tactic(auto)]
 
 pub mod array_ops;
 mod casting;
-mod equality;
+mod constancy;
+mod encoded_tests;
 pub mod laws;
 pub mod operations;
 mod plain_ops;

@@ -23,7 +23,7 @@ pub enum Op {
     Take(ArrayRef),
     /// The items of ranges, each a start and a length, one range after another.
     TakeRanges(Vec<(usize, usize)>),
-    /// The items at a mask's true places.
+    /// The items whose bit of a mask is true.
     Filter(Mask),
     /// The same integers in another type.
     Cast(DType),
@@ -69,11 +69,11 @@ pub(crate) fn apply(alloc: Global, array: &ArrayRef, op: &Op) -> Result<ArrayRef
     }
 }
 
-/// What the operations make of an array, one after another; no operation at all makes a copy.
+/// Applies the operations to an array, one after another. An empty list makes a copy.
 ///
 /// # Errors
-/// The first operation's refusal that refuses: `RangeOutOfBounds` of a slice out of range,
-/// `MaskLength` of a filter by a mask of another length, else as the calls of `ArrayOps` do.
+/// The error of the first operation that fails: `RangeOutOfBounds` of a slice out of range,
+/// `MaskLength` of a filter by a mask of another length, else as of the calls of `ArrayOps`.
 #[tactic(auto, using(crate::proofs::Runs::runs))]
 pub fn apply_all(alloc: Global, array: &ArrayRef, ops: &[Op]) -> Result<ArrayRef, FastLanesError>
     ensures column { Answers column result (run_columns (column array.now) (map step_of ops.now)) }

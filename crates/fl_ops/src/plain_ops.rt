@@ -1,4 +1,4 @@
-//! Operations and questions on arrays, answered by the plain array of the same column.
+//! Operations and queries of arrays, by the plain array of the same column.
 
 ghost use Rattle.std.specs.Prelude.{◌≡◌, IsTrue, Ok, length};
 ghost use Rattle.fl_types.specs.declared.mask.Mask.TheVariants.{AllFalse};
@@ -6,17 +6,18 @@ ghost use Rattle.fl_types.specs.Masks.{mask_len};
 ghost use Rattle.fl_types.specs.Refusals.{Answers};
 ghost use Rattle.fl_types.specs.Types.{has_ptype, is_integer};
 ghost use Rattle.fl_types.specs.Values.{integer_of, ptype_of_value};
-ghost use Rattle.fl_column.specs.Columns.{column_of_bools, column_of_constant, column_of_primitive};
+ghost use Rattle.fl_column.specs.Columns.{column_of_bools, column_of_constant, column_of_primitive, ptype_of_column};
 ghost use Rattle.fl_column.specs.Operations.{cast_column, filter_column, ranges_column, take_column};
-ghost use Rattle.fl_column.specs.Questions.{between_column, compare_column, holds, is_between, is_constant_column, is_sorted_column, tested};
-ghost use Rattle.fl_array.specs.BitPackedArrays.{tree_of_bitpacked};
+ghost use Rattle.fl_column.specs.Questions.{between_column, compare_column, is_constant_column, is_sorted_column, tested};
+ghost use Rattle.fl_bitpacking.specs.RangeTests.{IsTestOf, passes};
 ghost use Rattle.fl_array.specs.Trees.{column};
 
 use crate::takes::items::take_items;
 use crate::takes::{filter_by_runs, filter_packed, ranges_by_runs, take_ranges_packed};
 use fastlanes::FL_CHUNK_SIZE;
 use fl_array::ArrayRef;
-use fl_array::bitpacking::BitPackedArray;
+use fl_bitpacking::RangeTest;
+use fl_bitpacking::compute::compare::primitive::test_primitive;
 use fl_column::{
     BetweenOptions, BoolArray, CompareOperator, ConstantArray, DType, FastLanesError, Mask, PValue,
     PrimitiveArray, ranges_total,
@@ -151,33 +152,6 @@ pub(crate) fn cast(
     array.to_primitive(alloc)?.cast(alloc, target)
 }
 
-/// How each item of a bit-packed array compares with a constant, by its packed blocks.
-fn compare_packed(
-    alloc: Global,
-    packed: &BitPackedArray,
-    operator: CompareOperator,
-    constant: PValue,
-) -> Result<BoolArray, FastLanesError>
-    ensures { Answers column_of_bools result (Ok (tested (holds operator (integer_of constant)) (column (tree_of_bitpacked packed.now)))) }
-{
-    let (answers, _work) = packed.compare_counted(alloc, operator, constant)?;
-    Ok(answers)
-}
-
-/// Whether each item of a bit-packed array lies between two bounds, by its packed blocks.
-fn between_packed(
-    alloc: Global,
-    packed: &BitPackedArray,
-    lower: PValue,
-    upper: PValue,
-    options: BetweenOptions,
-) -> Result<BoolArray, FastLanesError>
-    ensures { Answers column_of_bools result (Ok (tested (is_between options (integer_of lower) (integer_of upper)) (column (tree_of_bitpacked packed.now)))) }
-{
-    let (answers, _work) = packed.between_counted(alloc, lower, upper, options)?;
-    Ok(answers)
-}
-
 /// How each item compares with a constant.
 pub(crate) fn compare(
     alloc: Global,
@@ -195,15 +169,12 @@ pub(crate) fn compare(
     if let Some(constant_array) = array.as_constant() {
         return constant_array.compare(alloc, operator, constant);
     }
-    if let Some(packed) = array.as_bitpacked() {
-        return compare_packed(alloc, packed, operator, constant);
-    }
     array
         .to_primitive(alloc)?
         .compare(alloc, operator, constant)
 }
 
-/// Whether each item lies between two bounds.
+/// Whether each item is between two bounds.
 pub(crate) fn between(
     alloc: Global,
     array: &ArrayRef,
@@ -222,12 +193,25 @@ pub(crate) fn between(
     if let Some(constant_array) = array.as_constant() {
         return constant_array.between(alloc, lower, upper, options);
     }
-    if let Some(packed) = array.as_bitpacked() {
-        return between_packed(alloc, packed, lower, upper, options);
-    }
     array
         .to_primitive(alloc)?
         .between(alloc, lower, upper, options)
+}
+
+/// The answers of a test for the items.
+pub(crate) fn test(
+    alloc: Global,
+    array: &ArrayRef,
+    range: RangeTest,
+) -> Result<BoolArray, FastLanesError>
+    requires integers { IsTrue (is_integer (column array.now).dtype) }
+    requires test { IsTestOf (ptype_of_column (column array.now)) range }
+    ensures { Answers column_of_bools result (Ok (tested (passes range) (column array.now))) }
+{
+    if let Some(plain) = array.as_primitive() {
+        return test_primitive(alloc, plain, range);
+    }
+    test_primitive(alloc, &array.to_primitive(alloc)?, range)
 }
 
 /// A Constant array is of integers. The call does nothing of use when it runs.

@@ -1,4 +1,4 @@
-//! Questions to arrays.
+//! Queries of arrays.
 
 ghost use Rattle.std.specs.Prelude.{◌≡◌, IfErr, IsTrue};
 ghost use Rattle.fl_types.specs.declared.error.FastLanesError.TheVariants.{OutOfMemory};
@@ -14,27 +14,27 @@ use fl_array::ArrayRef;
 use fl_column::{BetweenOptions, BoolArray, CompareOperator, FastLanesError, Scalar};
 use std::alloc::Global;
 
-/// A question to an array.
+/// A query of an array.
 #[derive(Drop)]
 pub enum Query {
     /// The item at an index.
     ScalarAt(usize),
     /// How each item compares with a constant.
     Compare(CompareOperator, Scalar),
-    /// Whether each item lies between a lower and an upper bound.
+    /// Whether each item is between a lower and an upper bound.
     Between(Scalar, Scalar, BetweenOptions),
     /// Whether all items are equal.
     IsConstant,
-    /// Whether no item is above the next or, where set, each is below the next.
+    /// Whether no item is greater than the next or, if set, each item is less than the next.
     IsSorted(bool),
 }
 
-/// An answer to a question.
+/// The answer to a query.
 #[derive(Drop)]
 pub enum Answer {
     /// An item.
     Scalar(Scalar),
-    /// A bool for each item, or a null.
+    /// A bool or a null for each item.
     Bools(BoolArray),
     /// One bool.
     Bool(bool),
@@ -52,13 +52,13 @@ fn scalar_within(alloc: Global, array: &ArrayRef, i: usize) -> Result<Scalar, Fa
     }
 }
 
-/// What an array answers to a question. The constants that a question compares with are of the
-/// array's type and not null.
+/// The answer of an array to a query. The constants that it compares with have the array's type and are not
+/// null.
 ///
 /// # Errors
 /// `IndexOutOfBounds` for the item at an index that is not below the length; `NotInteger` for every
-/// other question to a Bool array; else only `OutOfMemory`. A point read takes no memory where no
-/// array of differences stands in the array.
+/// other query of a Bool array; else only `OutOfMemory`. A point read allocates nothing unless the array
+/// is or holds a Delta array.
 #[tactic(auto, using(crate::proofs::Truths::first_true, crate::proofs::Truths::second_true))]
 pub fn ask(alloc: Global, array: &ArrayRef, query: &Query) -> Result<Answer, FastLanesError>
     requires { IsTrue (may_ask (column array.now) query.now) }

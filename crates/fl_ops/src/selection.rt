@@ -1,5 +1,5 @@
-//! Operations that pick items of an array: takes, takes of ranges and filters. Those of a FoR array of one
-//! reference go through the encoded array.
+//! Operations that select items of an array: takes, takes of ranges and filters. Those of a FoR array of one
+//! reference work on the encoded array.
 
 ghost use Rattle.std.specs.Prelude.{◌≡◌, false, IfNone, IfOk, IfSome, Ok, length};
 ghost use Rattle.fl_types.specs.Refusals.{Answers};
@@ -24,7 +24,7 @@ pub(crate) enum Selection<'a> {
     Indices(&'a ArrayRef),
     /// The items of ranges, each a start and a length, one range after another.
     Ranges(&'a [(usize, usize)]),
-    /// The items at a mask's true places.
+    /// The items whose bit of a mask is true.
     Mask(&'a Mask),
 }
 

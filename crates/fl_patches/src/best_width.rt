@@ -6,7 +6,7 @@ ghost use Rattle.fl_patches.specs.Costs.{best_width, choose_width, count_above, 
 
 use fl_types::{FastLanesError, PType};
 
-/// How many items of a histogram have more bits than a width. Their number fits a `usize`, as it
+/// The number of items of a histogram that have more bits than a width. It fits a `usize`, as it
 /// does for the histogram of an array.
 pub fn count_exceptions(width: u8, histogram: &[usize]) -> usize
     requires { count_above width histogram.now < 2 ^ 64 }
@@ -75,13 +75,12 @@ pub(crate) fn least_cost(ptype: PType, histogram: &[usize]) -> u8
     best
 }
 
-/// The smallest width at which the items of a histogram take fewest bytes, below the number of
-/// entries, or 0 without entries. At width `w` the packed items take `w` bits each, rounded up to
-/// bytes together, and each item with more bits takes 5, 6, 8 or 12 bytes more, for 8, 16, 32 or 64
-/// bits of the type.
+/// The smallest width of least cost for the items of a histogram, below the number of entries, or 0
+/// without entries. The cost of width `w` is `w` bits for each item, rounded up to bytes together,
+/// and for each item with more bits 5, 6, 8 or 12 bytes, if the type has 8, 16, 32 or 64 bits.
 ///
 /// # Errors
-/// `TooManyWidths` where the histogram has more than 255 entries.
+/// `TooManyWidths` if the histogram has more than 255 entries.
 pub fn find_best_bit_width(ptype: PType, histogram: &[usize]) -> Result<u8, FastLanesError>
     ensures width { result ≡ choose_width ptype histogram.now }
     ensures within { IfOk result (λ width. 0 < length histogram.now → width < length histogram.now) }

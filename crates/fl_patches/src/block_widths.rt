@@ -117,12 +117,12 @@ fn choose_widths<T: PhysicalPType>(
 }
 
 /// The best width of each block of 1024 items, and how many items of the array have more bits than
-/// the width of their block. The best width of a block is the smallest one at which it takes fewest
-/// bytes, as `find_best_bit_width` counts them; a short last block counts as one of 1024 items, of
-/// which those behind the last have no bits. No other list of as many widths takes fewer bytes.
+/// the width of their block. The best width of a block is the smallest one of least cost, as in
+/// `find_best_bit_width`; a short last block counts as one of 1024 items, padded with items of no
+/// bits. No other list of as many widths costs less.
 ///
 /// # Errors
-/// `NegativeValue` where an item is negative and not null.
+/// `NegativeValue` if an item is negative and not null.
 pub fn find_best_bit_widths(
     alloc: Global,
     array: &PrimitiveArray,

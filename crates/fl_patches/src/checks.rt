@@ -1,4 +1,4 @@
-//! What the parts of patches must be.
+//! The checks of the parts of patches.
 
 ghost use Rattle.std.specs.Prelude.{◌≡◌, ◌&&◌, ◌==◌, IsTrue, length, nat_lt};
 ghost use Rattle.std.specs.List.{list_all};

@@ -1,4 +1,4 @@
-//! The patches of the items that a width leaves out.
+//! The patches of the exceptions at a width.
 
 ghost use Rattle.std.specs.Prelude.{◌≡◌, ◌+◌, ◌*◌, ◌/◌, ◌<◌, ◌≤◌, ◌^◌, ◌++◌, ◌∷◌, [], ℕ, ℤ, pos, List, Option, IfOk, IsTrue, OnOk, None, Ok, Some, length, map, min, slice_index, slice_index_or};
 ghost use Rattle.fl_types.specs.Bits.{between, tabulate};
@@ -230,11 +230,11 @@ fn gather(
     )
 }
 
-/// The patches of an array's items that are valid and have more bits than a width, or `None` where
+/// The patches of an array's items that are valid and have more bits than a width, or `None` if
 /// there is none. The indices are `U8` for a length below 255, `U16` below 65535, `U32` below
-/// 4294967295, else `U64`. The values may be null where the array's items may, and none is. Each chunk
-/// of 1024 items has a chunk offset, as `U64`. `hint` is about how many patches there are, and changes
-/// no answer.
+/// 4294967295, else `U64`. The values are nullable if the array is, and none is null. Each chunk of
+/// 1024 items has a chunk offset, as `U64`. `hint` is about how many patches there are, and does not
+/// change the result.
 pub fn gather_patches(
     alloc: Global,
     array: &PrimitiveArray,
@@ -248,8 +248,8 @@ pub fn gather_patches(
     gather(alloc, array, Widths::Global(width as usize), holds, hint)
 }
 
-/// The same at a width for each block of 1024 items, a short last one too. The indices are of the
-/// smallest type that holds the length.
+/// The same at a width for each block of 1024 items, a short last one included. The indices have the
+/// smallest unsigned type that holds the length.
 pub fn gather_blocked_patches(
     alloc: Global,
     array: &PrimitiveArray,

@@ -1,4 +1,4 @@
-//! How many items have how many bits.
+//! Histograms of the bits of items.
 
 ghost use Rattle.std.specs.Prelude.{◌≡◌, ◌+◌, ◌<◌, ◌≤◌, [], ℕ, IfOk, IsTrue, None, Ok, Some, length, map, slice_index_or};
 ghost use Rattle.fl_types.specs.Bits.{between};
@@ -111,9 +111,9 @@ fn histogram_typed<T: PhysicalPType>(
     Ok(entries)
 }
 
-/// How many items of an array have how many bits: entry `b`, from 0 to the bits of the type, counts
-/// the items whose bit pattern has `b` bits, which is the bits of the type less its leading zeros.
-/// A null has none, whatever is stored under it.
+/// The histogram of the bits of an array's items: entry `b`, from 0 to the bits of the type, counts
+/// the items whose bit pattern has `b` bits, that is the bits of the type minus its leading zeros.
+/// A null has 0 bits, whatever is stored under it.
 pub fn bit_width_histogram(
     alloc: Global,
     array: &PrimitiveArray,

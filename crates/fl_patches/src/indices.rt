@@ -1,4 +1,4 @@
-//! Rising indices, and where a number stands among them.
+//! Rising indices, and the rank of a number among them.
 
 ghost use Rattle.std.specs.Prelude.{◌≡◌, ◌≤◌, IsTrue, length, unsigned_abs, nat_lt};
 ghost use Rattle.fl_column.specs.Numbers.{numbers, numbers_by};
@@ -30,8 +30,8 @@ fn count_between<I: NativePType>(indices: &[I], start: usize, end: usize, limit:
     start + count_below_typed(&indices[start..end], limit)
 }
 
-/// The place of a number among the rising indices, if it is one of them. It is looked for from `start`
-/// to below `end`.
+/// The rank of a number among the rising indices, if it is one of them. It is searched in
+/// `start..end`.
 pub fn rank_between<I: NativePType>(
     indices: &[I],
     start: usize,
@@ -50,7 +50,7 @@ pub fn rank_between<I: NativePType>(
     }
 }
 
-/// The place of a number among the rising indices, if it is one of them.
+/// The rank of a number among the rising indices, if it is one of them.
 pub fn rank_typed<I: NativePType>(indices: &[I], index: u128) -> Option<usize>
     requires { IsTrue (is_rising (numbers_by I.value indices.now)) }
     ensures { result ≡ rank_of index (numbers_by I.value indices.now) }
@@ -72,8 +72,8 @@ fn rank_in_typed<I: NativePType>(
     rank_between(indices.as_slice::<I>(), start, end, index)
 }
 
-/// The place of a number among the rising indices, if it is one of them. It is looked for from `start`
-/// to below `end`.
+/// The rank of a number among the rising indices, if it is one of them. It is searched in
+/// `start..end`.
 pub(crate) fn rank_in(
     indices: &PrimitiveArray,
     start: usize,

@@ -1,4 +1,4 @@
-//! Laws that tie histograms, exceptions and patches.
+//! Laws of histograms, exceptions and patches.
 
 ghost use Rattle.std.specs.Prelude.{◌≡◌, ◌≤◌, ℕ, length, sum};
 ghost use Rattle.fl_types.specs.Integers.{bits_of_type};
@@ -9,8 +9,8 @@ ghost use Rattle.fl_patches.specs.PatchParts.{blocked_patches, global_patches, p
 
 use fl_column::PrimitiveArray;
 
-/// A histogram counts each item once, so that no more items than there are have more bits than a
-/// width, and its best width is one of the type's.
+/// A histogram counts each item once, so at most all items have more bits than a width, and its best
+/// width is at most the bits of the type.
 pub fn histogram_counts_each(array: &PrimitiveArray)
     ensures once { sum (histogram_of array.now.ptype (items_of array.now.validity array.now.slots)) ≡ length array.now.slots }
     ensures few { (width : ℕ) → count_above width (histogram_of array.now.ptype (items_of array.now.validity array.now.slots)) ≤ length array.now.slots }
@@ -20,12 +20,12 @@ pub fn histogram_counts_each(array: &PrimitiveArray)
     let _validity = array.validity();
 }
 
-/// There are as many patches at a width as the histogram has items above it.
+/// The number of patches at a width is the histogram's number of items above it.
 pub fn patches_are_counted(_array: &PrimitiveArray)
     ensures { (width : ℕ) → patch_count (global_patches width _array.now) ≡ count_above width (histogram_of _array.now.ptype (items_of _array.now.validity _array.now.slots)) }
 {}
 
-/// There are as many patches at the best widths of the blocks as are counted with the widths.
+/// The number of patches at the best widths of the blocks is the one that is counted with the widths.
 pub fn blocked_patches_are_counted(_array: &PrimitiveArray)
     ensures { patch_count (blocked_patches (best_widths _array.now.ptype (items_of _array.now.validity _array.now.slots)) _array.now) ≡ (chosen_widths _array.now.ptype (items_of _array.now.validity _array.now.slots)).exceptions }
 {}

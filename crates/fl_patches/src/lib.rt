@@ -1,6 +1,5 @@
-//! Patches: a finite map from positions of an array to values that stand there in place of others;
-//! the widths of least cost for the bits of a column's items, and the patches of the items that a
-//! width leaves out.
+//! Patches: a finite map from positions of an array to values, which replace the packed ones; the
+//! widths of least cost for a column's items, and the patches of the exceptions at a width.
 #![tactic(auto)]
 
 pub mod best_width;

@@ -19,7 +19,7 @@ use std::marker::Model;
 use std::ops::Range;
 
 /// Patches of an array: values at some of its positions. The patch at position `i` has the index
-/// `offset + i`, so that a slice can keep the indices of the array that it was cut from. Contracts
+/// `offset + i`, so that a slice can keep the indices of the array that it is a slice of. Contracts
 /// see the parts, and the map from positions to values as `patched`.
 #[derive(Debug)]
 pub struct Patches {
@@ -95,15 +95,15 @@ fn slice_of(
 
 impl Patches {
     /// Patches of these parts: the value of the position `indices[k] - offset` among `array_len`
-    /// items is `values[k]`. Chunk offset `k`, where there are chunk offsets, is the number of
+    /// items is `values[k]`. Chunk offset `k`, if there are chunk offsets, is the number of
     /// indices below `1024 * k`.
     ///
     /// # Errors
-    /// `PatchType` where the type of the indices or chunk offsets is signed or nullable. Then
-    /// `PatchLength` where there is no patch, not one value for each index, or not one chunk offset
-    /// for each 1024 items, rounded up. Then `PatchContent` where the indices don't rise, an index is
+    /// `PatchType` if the type of the indices or chunk offsets is signed or nullable. Then
+    /// `PatchLength` if there is no patch, not one value for each index, or not one chunk offset
+    /// for each 1024 items, rounded up. Then `PatchContent` if the indices do not rise, an index is
     /// not in `offset .. offset + array_len`, a value is null, or there are chunk offsets and the
-    /// offset is not 0 or one of them miscounts.
+    /// offset is not 0 or one of them is wrong.
     pub fn new(
         array_len: usize,
         offset: usize,
@@ -147,7 +147,7 @@ impl Patches {
         let _ = &self.offset;
     }
 
-    /// How many items the patched array has.
+    /// The number of items of the patched array.
     pub fn array_len(&self) -> usize
         ensures { result ≡ self.now.array_len }
     {
@@ -161,7 +161,7 @@ impl Patches {
         self.offset
     }
 
-    /// How many patches there are, at least 1.
+    /// The number of patches, at least 1.
     pub fn num_patches(&self) -> usize
         ensures { result ≡ length self.now.indices.slots }
     {
@@ -182,24 +182,23 @@ impl Patches {
         &self.indices
     }
 
-    /// The value beside each index.
+    /// The value for each index.
     pub fn values(&self) -> &PrimitiveArray
         ensures { result.now ≡ self.now.values }
     {
         &self.values
     }
 
-    /// For each 1024 items, the last ones cut, how many patches stand before them.
+    /// For each chunk of 1024 items, the number of patches before it.
     pub fn chunk_offsets(&self) -> Option<&PrimitiveArray>
         ensures { option_copied result ≡ self.now.chunk_offsets }
     {
         self.chunk_offsets.as_ref()
     }
 
-    /// Where the index of a position is to be looked for among the indices: from the first of these
-    /// places to below the second. With chunk offsets they are those of the patches of the position's
-    /// chunk of 1024 items, without chunk offsets those of all patches. They hold for each position of
-    /// the chunk.
+    /// The range of the indices among which the index of a position is to be searched: with chunk
+    /// offsets that of the patches of the position's chunk of 1024 items, without chunk offsets that of
+    /// all patches. It is the same for each position of the chunk.
     pub fn search_range(&self, i: usize) -> (usize, usize)
         ensures range { IsChunkRange self.now (i / 1024) result.0 result.1 }
         ensures narrow { IfSome self.now.chunk_offsets (λ _. result ≡ chunk_places (numbers self.now.indices) (i / 1024)) }
@@ -226,7 +225,7 @@ impl Patches {
         value_in(&self.values, rank)
     }
 
-    /// The patches of the items of a range, or `None` where there are none. The indices stay, the
+    /// The patches of the items of a range, or `None` if there are none. The indices stay the same, the
     /// range's start is added to the offset, and there are no chunk offsets.
     pub fn slice(
         &self,

@@ -1,4 +1,4 @@
-//! How many bits the patterns of integers have.
+//! The number of bits of the patterns of integers.
 
 ghost use Rattle.std.specs.Prelude.{◌≡◌, ◌≤◌};
 ghost use Rattle.fl_types.specs.Integers.{bits_of_type, pattern_of};

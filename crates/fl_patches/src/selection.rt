@@ -1,4 +1,4 @@
-//! Patches of selected items: of those that indices name, and of those that a mask keeps.
+//! Patches of selected items: by indices, and by a mask.
 
 ghost use Rattle.std.specs.Prelude.{◌≡◌, ◌+◌, ◌≤◌, ◌<◌, ℕ, Bool, false, true, List, Option, Some, None, IfOk, IfErr, IsTrue, Ok, length, map, option_and_then, slice_index_or, unsigned_abs};
 ghost use Rattle.std.specs.List.{list_all};
@@ -193,12 +193,12 @@ fn find_by_mask(
 }
 
 impl Patches {
-    /// The patches of the items that the indices name, or `None` where there are none. A null index
-    /// names no item, and the integer under it is never looked at. The offset is 0, the indices are of
+    /// The patches of the items that the indices name, or `None` if there are none. A null index
+    /// names no item, and the integer under it is never read. The offset is 0, the indices are of
     /// the smallest unsigned type that holds the number of items, and there are no chunk offsets.
     ///
     /// # Errors
-    /// `IndexOutOfBounds` where an index is negative or not below the length.
+    /// `IndexOutOfBounds` if an index is negative or not below the length.
     pub fn take(
         &self,
         alloc: Global,
@@ -211,7 +211,7 @@ impl Patches {
         select(self, alloc, &positions)
     }
 
-    /// The patches of the items at the mask's true places, or `None` where there are none. The mask
+    /// The patches of the items whose bit of the mask is true, or `None` if there are none. The mask
     /// has the array's length. The offset is 0, the indices are of the smallest unsigned type that
     /// holds the number of items, and there are no chunk offsets.
     pub fn filter(&self, alloc: Global, mask: &Mask) -> Result<Option<Patches>, FastLanesError>

@@ -11,7 +11,7 @@ use fl_column::PrimitiveArray;
 pub enum Widths<'a> {
     /// All blocks have this one.
     Global(usize),
-    /// Block `j` lies between the boundaries `j` and `j + 1`, in bytes, and has 128 for each bit.
+    /// Block `j` is between the boundaries `j` and `j + 1`, in bytes, and takes 128 for each bit.
     Boundaries(&'a PrimitiveArray),
     /// Each block has its own.
     PerBlock(&'a [u8]),

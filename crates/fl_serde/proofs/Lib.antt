@@ -15,4 +15,5 @@ pub mod TypesRead
 pub mod NodesStand
 pub mod OneColumn
 pub mod Meanings
+pub mod ByteLaws
 mod BlockedIds

@@ -12,3 +12,4 @@ pub mod Encodings
 pub mod RoundTrip
 pub mod NodeColumns
 pub mod NodeIds
+pub mod ByteCounts

@@ -1,4 +1,4 @@
-//! The refusals of a node before its children are read.
+//! The errors of a node before its children are read.
 
 ghost use Rattle.std.specs.Prelude.{◌≡◌, ◌==◌, IfOk, None, length};
 ghost use Rattle.fl_column.specs.Columns.{option_all};
@@ -13,7 +13,7 @@ use fl_bitpacking::refusals::positions_refusal;
 use fl_column::{FastLanesError, Nullability, PType};
 use fl_serialized::SerializedArray;
 
-/// The first buffer of a node, or no bytes where it has none.
+/// The first buffer of a node, or no bytes if it has none.
 pub fn own_bytes(node: &SerializedArray) -> &[u8]
     ensures { result.now ≡ own_bytes (head_of node.now) }
 {
@@ -101,13 +101,13 @@ fn bounds_refusal(node: &SerializedArray, info: &NodeInfo) -> Option<FastLanesEr
     }
 }
 
-/// What a node says, unless it is refused before its children are read.
+/// What a node says of its array, or the first error before its children are read.
 ///
 /// # Errors
-/// Those of `info_of`; then `BufferCount`; `PackedLength` where the buffer of a primitive or boolean node has
-/// another length than its items take; `ChildCount`, also where a node without nulls has a validity; and for the
+/// Those of `info_of`; then `BufferCount`; `PackedLength` if the buffer of a primitive or boolean node has
+/// another length than its items take; `ChildCount`, also if a non-nullable node has a validity; and for the
 /// lengths of the children `OffsetTooLarge`, then `LengthOverflow` (blocked or chunked), and `ChildLength`
-/// where the deltas are not whole blocks.
+/// if the deltas are not whole blocks.
 pub fn check(node: &SerializedArray) -> Result<NodeInfo, FastLanesError>
     ensures info { result ≡ checked (head_of node.now) (length (listed (children_of node.now))) }
     ensures sound { IfOk result (λ m. IsChecked (head_of node.now) m (length (listed (children_of node.now)))) }

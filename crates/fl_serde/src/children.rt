@@ -1,4 +1,4 @@
-//! What is asked of the children of a node.
+//! What the children of a node must be.
 
 ghost use Rattle.std.specs.Prelude.{◌≡◌, ◌≤◌, ◌+◌, ◌*◌, ◌/◌, [], ◌∷◌, ◌++◌, ◌==◌, ◌&&◌, None, OnOk, Ok, length};
 ghost use Rattle.fl_types.specs.Integers.{lanes_of_type};
@@ -17,12 +17,12 @@ use fl_metadata::{PatchesMetadata, RLEMetadata};
 use fl_serialized::SerializedArray;
 use std::alloc::{AllocError, Global};
 
-/// What a child is expected to be: its type and its length.
+/// The type and the length that a child must have.
 #[derive(Clone, Copy, Debug, PartialEq, Eq)]
 pub struct ExpectedChild {
     /// The type.
     pub dtype: DType,
-    /// How many items there are.
+    /// The number of items.
     pub len: usize,
 }
 
@@ -57,7 +57,7 @@ impl ExpectedChild {
         }
     }
 
-    /// Whether a node is of the type and the length.
+    /// Whether a node has the type and the length.
     pub fn matches(&self, node: &SerializedArray) -> bool
         ensures { result ≡ (same_dtype self.now.dtype (head_of node.now).dtype && (self.now.len == (head_of node.now).len)) }
     {
@@ -78,7 +78,7 @@ fn patch_count(dtype: DType, patches: &Option<PatchesMetadata>) -> usize
     }
 }
 
-/// How many children a node has in front of its validity.
+/// The number of children before a node's validity.
 pub fn front_count(node: &SerializedArray, info: &NodeInfo) -> usize
     ensures len { result ≡ length (front_children (head_of node.now) info.now) }
     ensures few { result ≤ 3 }
@@ -104,7 +104,7 @@ fn back_count(node: &SerializedArray, info: &NodeInfo) -> usize
     }
 }
 
-/// How many children a node has beside its validity.
+/// The number of children besides a node's validity.
 pub fn child_count(node: &SerializedArray, info: &NodeInfo) -> usize
     ensures len { result ≡ child_count (head_of node.now) info.now }
     ensures few { result ≤ 4 }
@@ -266,7 +266,7 @@ fn push_back(
     Ok(())
 }
 
-/// What is asked of each of this many children of a node, in order.
+/// What each of this many children of a node must be, in order.
 pub fn expected_children(
     alloc: Global,
     node: &SerializedArray,

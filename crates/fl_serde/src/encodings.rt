@@ -1,4 +1,4 @@
-//! Kinds by themselves: each is written and read under its own ids alone.
+//! Kinds by themselves: each is written and read under its own ids only.
 
 ghost use Rattle.std.specs.Prelude.{◌≡◌, [], ◌∷◌, ℕ, Bool, IfOk, List, map};
 ghost use Rattle.fl_types.specs.Refusals.{Answers};
@@ -43,7 +43,7 @@ impl BitPackedPlugin {
     /// The node of a bit-packed array.
     ///
     /// # Errors
-    /// `UnknownId` where the array is of another kind.
+    /// `UnknownId` if the array is of another kind.
     pub fn serialize(alloc: Global, array: &ArrayRef) -> Result<SerializedArray, FastLanesError>
         ensures node { Answers (λ node. node) result (written_under is_bitpacked array.now) }
         ensures column { IfOk result (λ node. StandsFor node (column array.now)) }
@@ -57,7 +57,7 @@ impl BitPackedPlugin {
     /// The array that a bit-packed node is read as.
     ///
     /// # Errors
-    /// `UnknownId` where the node's id is of another kind, else those of `deserialize`.
+    /// `UnknownId` if the node's id is that of another kind, else those of `deserialize`.
     pub fn deserialize(alloc: Global, node: &SerializedArray) -> Result<ArrayRef, FastLanesError>
         ensures array { Answers (λ a. a) result (reading_under is_bitpacked node.now) }
         ensures column { IfOk result (λ a. StandsFor node.now (column a)) }
@@ -91,7 +91,7 @@ impl FoRPlugin {
     /// The node of a FoR array.
     ///
     /// # Errors
-    /// `UnknownId` where the array is of another kind.
+    /// `UnknownId` if the array is of another kind.
     pub fn serialize(alloc: Global, array: &ArrayRef) -> Result<SerializedArray, FastLanesError>
         ensures node { Answers (λ node. node) result (written_under is_for array.now) }
         ensures column { IfOk result (λ node. StandsFor node (column array.now)) }
@@ -105,7 +105,7 @@ impl FoRPlugin {
     /// The array that a FoR node is read as.
     ///
     /// # Errors
-    /// `UnknownId` where the node's id is of another kind, else those of `deserialize`.
+    /// `UnknownId` if the node's id is that of another kind, else those of `deserialize`.
     pub fn deserialize(alloc: Global, node: &SerializedArray) -> Result<ArrayRef, FastLanesError>
         ensures array { Answers (λ a. a) result (reading_under is_for node.now) }
         ensures column { IfOk result (λ a. StandsFor node.now (column a)) }
@@ -132,7 +132,7 @@ pub trait ArrayForm {
     /// The node of an array of the encoding.
     ///
     /// # Errors
-    /// `UnknownId` where the array is of another kind.
+    /// `UnknownId` if the array is of another kind.
     fn serialize(alloc: Global, array: &ArrayRef) -> Result<SerializedArray, FastLanesError>
         ensures node { Answers (λ node. node) result (written_under takes array.now) }
         ensures column { IfOk result (λ node. StandsFor node (column array.now)) };
@@ -140,7 +140,7 @@ pub trait ArrayForm {
     /// The array that a node of the encoding is read as.
     ///
     /// # Errors
-    /// `UnknownId` where the node's id is of another kind, else those of the function `deserialize`.
+    /// `UnknownId` if the node's id is of another kind, else those of the function `deserialize`.
     fn deserialize(alloc: Global, node: &SerializedArray) -> Result<ArrayRef, FastLanesError>
         ensures array { Answers (λ a. a) result (reading_under takes node.now) }
         ensures column { IfOk result (λ a. StandsFor node.now (column a)) };

@@ -8,7 +8,7 @@ use fl_serialized::ids::{
     primitive_id, rle_id,
 };
 
-/// What a node's id says that its array is.
+/// The kind of a node's array, by the node's id.
 #[derive(Clone, Copy, Debug, PartialEq, Eq)]
 pub enum NodeKind {
     /// A primitive array.
@@ -49,7 +49,7 @@ impl NodeKind {
         }
     }
 
-    /// The kind that an id names, or `None` of any other text.
+    /// The kind that an id names, or `None` for any other text.
     pub fn of_id(id: &str) -> Option<NodeKind>
         ensures { result ≡ kind_of_id id.now }
     {

@@ -1,10 +1,11 @@
-//! Serialized arrays: what a columnar file keeps of an array, and the reader that any tree can be handed to.
+//! Serialized arrays: what a columnar file stores of an array, and a reader of any tree of nodes.
 //!
-//! A node is judged by itself first: the bytes of leaves, what it says of its array by its id, its type and its
-//! metadata, what is asked of its buffers and its children, and the refusals before these are read.
+//! A node is checked by itself first: the bytes of leaves, what it says of its array by its id, its type and its
+//! metadata, what its buffers and its children must be, and the errors before these are read.
 #![tactic(auto)]
 
 pub mod bit_bytes;
+pub mod byte_counts;
 pub mod checks;
 pub mod children;
 pub mod encodings;
@@ -14,11 +15,13 @@ pub mod node_info;
 mod nodes;
 mod patches;
 mod plain;
+mod proof_support;
 pub mod reading;
 pub mod scalars;
 pub mod slot_bytes;
 pub mod writing;
 
+pub use crate::byte_counts::nbytes;
 pub use crate::checks::check;
 pub use crate::children::ExpectedChild;
 pub use crate::encodings::{ArrayForm, BitPackedPlugin, FoRPlugin};

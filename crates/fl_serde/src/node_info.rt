@@ -1,4 +1,4 @@
-//! What nodes say by their ids, types and metadata.
+//! What nodes say of their arrays, by ids, types and metadata.
 
 ghost use Rattle.std.specs.Prelude.{◌≡◌, IfOk, IfSome, is_some};
 ghost use Rattle.fl_types.specs.Integers.{FitsIn};
@@ -15,7 +15,7 @@ use fl_metadata::{
 };
 use fl_serialized::SerializedArray;
 
-/// What a node says by its id, its type and its metadata: the kind of its array, the integer type, and the
+/// What a node says of its array by its id, its type and its metadata: the kind, the integer type, and the
 /// kind's own message.
 #[derive(Clone, Copy)]
 pub enum NodeInfo {
@@ -122,12 +122,12 @@ fn bool_info(kind: NodeKind, node: &SerializedArray) -> Result<NodeInfo, FastLan
     }
 }
 
-/// What a node says by its id, its type and its metadata.
+/// What a node says of its array by its id, its type and its metadata.
 ///
 /// # Errors
-/// `UnknownId`; then `NotInteger` of booleans under any id but that of boolean arrays, and `TypeMismatch` of
-/// integers under that one; then `BadMetadata`, also where the scalar of a constant array that has no nulls is
-/// null; then `UnknownType`.
+/// `UnknownId`; then `NotInteger` for booleans under any id but that of boolean arrays, and `TypeMismatch` for
+/// integers under that one; then `BadMetadata`, also if the scalar of a non-nullable constant array is null;
+/// then `UnknownType`.
 pub fn info_of(node: &SerializedArray) -> Result<NodeInfo, FastLanesError>
     ensures info { result ≡ info_of (head_of node.now) }
     ensures fits { IfOk result HasFittingValue }

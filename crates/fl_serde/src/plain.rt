@@ -1,4 +1,4 @@
-//! Children that are held plain.
+//! Children that are decoded when they are read.
 
 ghost use Rattle.std.specs.Prelude.{◌≡◌, ◌<◌, ◌≤◌, IsTrue, Ok, IfOk, length, map, option_map};
 ghost use Rattle.std.specs.List.{slice_index_or};
@@ -72,7 +72,7 @@ fn plain(alloc: Global, array: PrimitiveArray) -> Result<PrimitiveArray, FastLan
 /// An array as a plain one.
 ///
 /// # Errors
-/// `NotInteger` where it is of booleans.
+/// `NotInteger` if it is of booleans.
 pub fn decoded(alloc: Global, array: &ArrayRef) -> Result<PrimitiveArray, FastLanesError>
     ensures { Answers (λ a. a) result (decoded array.now) }
 {

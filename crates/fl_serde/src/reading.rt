@@ -395,14 +395,14 @@ fn read(alloc: Global, node: &SerializedArray) -> Result<ArrayRef, FastLanesErro
     make(alloc, node, &info, children.len(), trees)
 }
 
-/// The array that a node is read as, of the node's type and length and of the column for which the node stands, with
-/// patches and validities held plain and packed bytes shared with the node. No memory is asked for by a length that
-/// the node's bytes don't bear out, but for items that the array's own kind has to look at: patches, boundaries, run
-/// offsets and run indices.
+/// Reads a node as an array of the node's type and length, with the column that the node stands for. Patches and
+/// validities are decoded, and packed bytes are shared with the node. A length that the node's bytes do not support
+/// requests no memory, except for items that the array's kind has to read: patches, boundaries, run offsets and run
+/// indices.
 ///
 /// # Errors
-/// The first that holds: those of `check`; then for each child in order `ChildMismatch`, where its type or its
-/// length isn't the one that is asked of it, else its own; then `PatchType`, `PatchLength` and `PatchContent`;
+/// The first of these that applies: those of `check`; then for each child in order `ChildMismatch`, if its type or its
+/// length is not the one that it must have, else its own; then `PatchType`, `PatchLength` and `PatchContent`;
 /// then those of the kind's constructor.
 #[tactic(auto, using(crate::proofs::TypesRead::answer_typed, crate::proofs::NodesStand::answer_stands))]
 pub fn deserialize(alloc: Global, node: &SerializedArray) -> Result<ArrayRef, FastLanesError>

@@ -1,4 +1,4 @@
-//! The values of integer types that nodes say.
+//! The values of integer types in nodes.
 
 ghost use Rattle.std.specs.Prelude.{◌≡◌};
 ghost use Rattle.fl_types.specs.Integers.{FitsIn};
@@ -6,7 +6,7 @@ ghost use Rattle.fl_types.specs.Values.{integer_of, ptype_of_value};
 
 use fl_column::{PType, PValue};
 
-/// The value of a type that an integer is.
+/// An integer as a value of a type.
 pub fn value_of(ptype: PType, integer: i128) -> PValue
     requires { FitsIn ptype integer }
     ensures value { integer_of result ≡ integer }
@@ -21,15 +21,5 @@ pub fn value_of(ptype: PType, integer: i128) -> PValue
         PType::I16 => PValue::I16(integer as i16),
         PType::I32 => PValue::I32(integer as i32),
         PType::I64 => PValue::I64(integer as i64),
-    }
-}
-
-/// A value lies in the range of its type.
-pub fn prove_in_range(value: PValue)
-    ensures { FitsIn (ptype_of_value value) (integer_of value) }
-{
-    match value {
-        PValue::U8(_) | PValue::U16(_) | PValue::U32(_) | PValue::U64(_) => {}
-        PValue::I8(_) | PValue::I16(_) | PValue::I32(_) | PValue::I64(_) => {}
     }
 }

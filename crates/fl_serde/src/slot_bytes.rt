@@ -141,7 +141,7 @@ fn array_of_typed<T: PhysicalPType>(
 /// The array of the integers that bytes store.
 ///
 /// # Errors
-/// `ValidityLength` where the validity has not one bit for each integer.
+/// `ValidityLength` if the validity does not have one bit for each integer.
 pub fn array_of_bytes(
     alloc: Global,
     ptype: PType,

@@ -13,13 +13,13 @@ ghost use Rattle.fl_array.specs.FoRArrays.{tree_of_for};
 ghost use Rattle.fl_array.specs.DeltaArrays.{tree_of_delta};
 ghost use Rattle.fl_array.specs.RLEArrays.{tree_of_rle};
 ghost use Rattle.fl_serde.specs.NodeColumns.{StandsFor};
+ghost use Rattle.fl_serde.specs.RoundTrip.{IsReadBack};
 ghost use Rattle.fl_serde.specs.Writing.{buffers_of, head_written, metadata_of, node_kind, node_over, packed_nodes, scalar_bytes, validity_nodes, written};
 
 use crate::NodeKind;
 use crate::bit_bytes::bytes_of_bits;
-use crate::laws::prove_read_back;
 use crate::nodes::{one_node, packed_nodes, patches_message, validity_nodes};
-use crate::scalars::prove_in_range;
+use crate::proof_support::{prove_in_range, prove_read_back};
 use crate::slot_bytes::bytes_of_slots;
 use bytes::Bytes;
 use fl_array::bitpacking::{BitPackedArray, BitWidthsView};
@@ -368,14 +368,15 @@ fn write(alloc: Global, array: &ArrayRef) -> Result<SerializedArray, FastLanesEr
 
 /// The node of an array: its id, its type and its length, its own parts as buffers, the messages of its kind in
 /// their canonical encoding, and the nodes of the arrays in it. It stands for the array's column. Packed bytes are
-/// shared with the array.
+/// shared with the array. It is read as the same array, the form of validities aside.
 ///
 /// # Errors
-/// None but `OutOfMemory`.
+/// Only `OutOfMemory`.
 #[tactic(auto, using(crate::proofs::Meanings::answer_written))]
 pub fn serialize(alloc: Global, array: &ArrayRef) -> Result<SerializedArray, FastLanesError>
     ensures node { Answers (λ node. node) result (Ok (written array.now)) }
     ensures column { IfOk result (λ node. StandsFor node (column array.now)) }
+    ensures read_back { IsReadBack array.now }
 {
     prove_read_back(array);
     write(alloc, array)

@@ -1,4 +1,4 @@
-//! A serialized array: what a columnar file keeps of an array.
+//! A serialized array: what a columnar file stores of an array.
 
 ghost use Rattle.std.specs.Prelude.{◌≡◌, ◌<◌, length, Ok, Some};
 ghost use Rattle.std.specs.List.{All, slice_get};
@@ -10,19 +10,19 @@ use fl_types::{DType, FastLanesError};
 use std::alloc::Global;
 use std::marker::Model;
 
-/// What a columnar file keeps of an array: a node, with the nodes in it. Contracts see it as a `Node`.
+/// What a columnar file stores of an array: a node with its child nodes. Contracts see it as a `Node`.
 pub struct SerializedArray {
     /// The text that names the array's kind.
     pub id: String,
     /// The type of the array's column.
     pub dtype: DType,
-    /// How many items the array has.
+    /// The number of items of the array.
     pub len: usize,
-    /// The message that says what the kind needs beside buffers and children.
+    /// The message with what the kind needs besides buffers and children.
     pub metadata: Vec<u8>,
-    /// The array's own bytes, shared with whoever else holds them.
+    /// The array's own bytes, shared with their other owners.
     pub buffers: Vec<Bytes>,
-    /// The arrays in this one.
+    /// The child nodes.
     pub children: Vec<SerializedArray>,
 }
 
@@ -73,14 +73,14 @@ impl SerializedArray {
         self.dtype
     }
 
-    /// How many items the array has.
+    /// The number of items of the array.
     pub fn len(&self) -> usize
         ensures { result ≡ (head_of self.now).len }
     {
         self.len
     }
 
-    /// The message that says what the kind needs beside buffers and children.
+    /// The message with what the kind needs besides buffers and children.
     pub fn metadata(&self) -> &[u8]
         ensures { result.now ≡ (head_of self.now).metadata }
     {
@@ -94,7 +94,7 @@ impl SerializedArray {
         &self.buffers
     }
 
-    /// The arrays in this one.
+    /// The child nodes.
     pub fn children(&self) -> &[SerializedArray]
         ensures children { result.now ≡ listed (children_of self.now) }
         ensures smaller { All (λ child. depth child < depth self.now) result.now }
@@ -102,7 +102,7 @@ impl SerializedArray {
         &self.children
     }
 
-    /// The array in this one at a place.
+    /// The child node at an index.
     pub fn child(&self, i: usize) -> &SerializedArray
         requires { i < length (listed (children_of self.now)) }
         ensures child { slice_get (listed (children_of self.now)) i ≡ Some result.now }
@@ -111,7 +111,7 @@ impl SerializedArray {
         &self.children()[i]
     }
 
-    /// A copy. Its buffers are shared with this one.
+    /// A copy, which shares the buffers.
     pub fn try_clone(&self, alloc: Global) -> Result<SerializedArray, FastLanesError>
         ensures { Answers (λ a. a) result (Ok self.now) }
     {

@@ -1,4 +1,4 @@
-//! Serialized arrays: what a columnar file keeps of an array.
+//! Serialized arrays: what a columnar file stores of an array.
 #![tactic(auto)]
 
 pub mod array;

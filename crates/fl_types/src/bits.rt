@@ -13,7 +13,7 @@ use crate::error::FastLanesError;
 use std::alloc::{AllocError, Global};
 use std::marker::Model;
 
-/// A list of booleans, kept 64 to a word. Contracts see the list.
+/// A list of booleans, stored 64 to a word. Contracts see the list.
 #[derive(Debug, Drop)]
 pub struct BitList {
     words: Vec<u64>,
@@ -32,7 +32,7 @@ impl Model for BitList {
 }
 
 impl BitList {
-    /// The empty list, which grows by this allocator.
+    /// An empty list, which grows with this allocator.
     #[tactic(auto, unfolding(crate::specs::Bits::first_bits))]
     pub fn new(alloc: Global) -> BitList
         ensures { result ≡ [] }
@@ -43,7 +43,7 @@ impl BitList {
         }
     }
 
-    /// How many booleans there are.
+    /// The number of booleans.
     #[tactic(auto, using(crate::proofs::BitLists::length_first_bits))]
     pub fn len(&self) -> usize
         ensures { result ≡ length self.now }
@@ -51,7 +51,7 @@ impl BitList {
         self.len
     }
 
-    /// The `len` bits of these words from bit `start` on, the lowest bit of each word first. It takes no memory.
+    /// The `len` bits of these words from bit `start` on, the lowest bit of each word first. It allocates nothing.
     pub fn from_words(mut words: Vec<u64>, start: usize, len: usize) -> BitList
         requires room { start + len ≤ 64 * length words.items }
         requires few { start + len < 2 ^ 64 }
@@ -95,7 +95,7 @@ impl BitList {
         }
     }
 
-    /// Adds one at the end. A list of `usize::MAX` grows no more.
+    /// Appends a boolean. A list of `usize::MAX` cannot grow.
     pub fn push(&mut self, bit: bool) -> Result<(), FastLanesError>
         ensures ok { OnOk result (self.new ≡ self.old ++ bit ∷ []) }
         ensures err { OnErr result (self.new ≡ self.old) }
@@ -109,7 +109,7 @@ impl BitList {
         Ok(())
     }
 
-    /// Puts a boolean at an index.
+    /// Sets the boolean at an index.
     pub fn set(&mut self, i: usize, bit: bool)
         requires { i < length self.old }
         ensures { self.new ≡ slice_set self.old i bit }
@@ -117,7 +117,7 @@ impl BitList {
         set_bit(&mut self.words, i, bit);
     }
 
-    /// Those from `start` to below `end`.
+    /// The booleans of `start..end`.
     pub fn slice(&self, alloc: Global, start: usize, end: usize) -> Result<BitList, FastLanesError>
         requires order { start ≤ end }
         requires range { end ≤ length self.now }
@@ -136,7 +136,7 @@ impl BitList {
         })
     }
 
-    /// How many are true.
+    /// The number of booleans that are true.
     pub fn count_true(&self) -> usize
         ensures { result ≡ true_count self.now }
     {
@@ -150,7 +150,7 @@ impl BitList {
     }
 }
 
-/// Two lists are equal where they are as long and have the same bits.
+/// Two lists are equal if they have the same length and the same bits.
 impl PartialEq for BitList {
     ghost eq = { pointwise beq };
 
@@ -207,7 +207,7 @@ fn word_of<F: Fn(usize) -> bool>(start: usize, count: usize, bit: &F) -> u64
     word
 }
 
-/// Adds a bit behind the first `len` of these words.
+/// Adds a bit after the first `len` of these words.
 fn push_bit(words: &mut Vec<u64>, len: usize, bit: bool) -> Result<(), AllocError>
     requires { length words.old.items ≡ (len + 63) / 64 }
     ensures count { OnOk result (length words.new.items ≡ (len + 1 + 63) / 64) }

@@ -43,7 +43,7 @@ impl PrimitiveBuffer {
         }
     }
 
-    /// How many there are.
+    /// The number of integers.
     #[tactic(auto, using(std::proofs::Common::arith))]
     pub fn len(&self) -> usize
         ensures { result ≡ length (integers_of self.now) }

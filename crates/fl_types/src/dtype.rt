@@ -26,7 +26,7 @@ pub enum PType {
 }
 
 impl PType {
-    /// How many bits a value has.
+    /// The number of bits of a value.
     pub fn bit_width(self) -> usize
         ensures { result ≡ bits_of_type self }
     {
@@ -61,7 +61,7 @@ impl PType {
     }
 }
 
-/// Whether nulls may stand in a column.
+/// Whether items of a column may be null.
 #[derive(Clone, Copy, Debug, PartialEq, Eq, Hash)]
 pub enum Nullability {
     /// No item is null.
@@ -71,7 +71,7 @@ pub enum Nullability {
 }
 
 impl Nullability {
-    /// Nullable where one of the two is.
+    /// Nullable if one of the two is.
     pub fn or(self, other: Nullability) -> Nullability
         ensures { result ≡ either_nullable self other }
     {
@@ -92,7 +92,7 @@ pub enum DType {
 }
 
 impl DType {
-    /// Whether nulls may stand in the column.
+    /// Whether items may be null.
     pub fn nullability(self) -> Nullability
         ensures { result ≡ nullability_in self }
     {
@@ -102,7 +102,7 @@ impl DType {
         }
     }
 
-    /// The integer type, or `None` of booleans.
+    /// The integer type, or `None` for booleans.
     pub fn ptype(self) -> Option<PType>
         ensures { result ≡ integer_type self }
     {
@@ -112,7 +112,7 @@ impl DType {
         }
     }
 
-    /// The same type, where nulls may stand or not.
+    /// The same type with this nullability.
     pub fn with_nullability(self, nullability: Nullability) -> DType
         ensures { result ≡ with_nullability nullability self }
     {
@@ -122,7 +122,7 @@ impl DType {
         }
     }
 
-    /// Whether it is of unsigned integers without nulls, as positions and lengths are.
+    /// Whether it is a non-nullable unsigned integer type, as that of positions and lengths.
     pub fn is_index_type(self) -> bool
         ensures { result ≡ is_index_type self }
     {

@@ -1,4 +1,4 @@
-//! What holds of the integer types.
+//! Laws of the integer types.
 
 ghost use Rattle.std.specs.Prelude.{◌≡◌, ◌<◌, ◌^◌, ℕ, ℤ, IsTrue};
 ghost use Rattle.fl_types.specs.Integers.{bits_of_type, fits, pattern_of, read_as};

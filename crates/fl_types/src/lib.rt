@@ -1,5 +1,5 @@
-//! The vocabulary of columns: refusals, types, values, bits, validities, masks, and the words of
-//! questions.
+//! The vocabulary of columns: errors, types, values, bits, validities, masks, and the options of
+//! queries.
 #![tactic(auto)]
 
 pub mod bits;

@@ -1,7 +1,7 @@
 //! Choosing a type by its name.
 
-/// The call of a generic function at the type that `ptype` names, behind another type where one
-/// stands before.
+/// A call of a generic function at the type that `ptype` names, after another type argument if there
+/// is one.
 #[macro_export]
 macro_rules! match_each_integer_ptype {
     ($ptype:expr, $function:ident($($argument:expr),*)) => {

@@ -12,7 +12,7 @@ use std::alloc::Global;
 /// Which items a filter keeps.
 #[derive(Debug, PartialEq, Eq, Drop)]
 pub enum Mask {
-    /// Keeps each of this many items.
+    /// Keeps all of this many items.
     AllTrue(usize),
     /// Keeps none of this many items.
     AllFalse(usize),
@@ -21,7 +21,7 @@ pub enum Mask {
 }
 
 impl Mask {
-    /// How many items it is for.
+    /// The number of items that it is for.
     pub fn len(&self) -> usize
         ensures { result ≡ mask_len self.now }
     {
@@ -55,7 +55,7 @@ impl Mask {
         }
     }
 
-    /// How many items it keeps.
+    /// The number of items that it keeps.
     #[tactic(auto, using(crate::proofs::MaskLaws::mask_counts))]
     pub fn count_true(&self) -> usize
         ensures { result ≡ true_count (mask_bits self.now) }

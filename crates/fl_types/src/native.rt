@@ -17,8 +17,8 @@ use num_traits::Integral;
 
 /// An integer type of columns. Contracts see a value as its integer, `T.value x`.
 ///
-/// It stands on few traits, since each is a parameter of all that is proved of a function over it.
-/// A function that needs more asks for it beside, as in `T: NativePType + WrappingSub`.
+/// It has few supertraits, since each is a parameter of everything that is proved of a function over
+/// it. A function that needs more requires it too, as in `T: NativePType + WrappingSub`.
 pub trait NativePType: Copy + Integral {
     /// The type's name.
     const PTYPE: PType;
@@ -41,7 +41,7 @@ pub trait NativePType: Copy + Integral {
     fn unsigned_abs(self) -> u64
         ensures { result ≡ unsigned_abs (Self.value self) };
 
-    /// The value lies in the type's range.
+    /// The value is in the type's range.
     fn prove_in_range(self)
         ensures { IsTrue (fits PTYPE (Self.value self)) };
 
@@ -72,14 +72,14 @@ pub trait NativePType: Copy + Integral {
     ghost one_value: { (x y : Self) → Self.value x ≡ Self.value y → x ≡ y };
 }
 
-/// Whether the two values are one integer.
+/// Whether the two values are equal.
 pub fn is_equal<T: NativePType>(x: T, y: T) -> bool
     ensures { result ≡ int_eq (T.value x) (T.value y) }
 {
     x == y
 }
 
-/// Whether the first value is below the second.
+/// Whether the first value is less than the second.
 pub fn is_less<T: NativePType>(x: T, y: T) -> bool
     ensures { result ≡ int_lt (T.value x) (T.value y) }
 {

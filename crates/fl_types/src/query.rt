@@ -1,36 +1,36 @@
-//! What is asked of items.
+//! Comparisons and range tests.
 
 /// How an item is compared with a constant.
 #[derive(Clone, Copy, Debug, PartialEq, Eq, Hash)]
 pub enum CompareOperator {
     /// The item equals the constant.
     Eq,
-    /// The item differs from the constant.
+    /// The item does not equal the constant.
     NotEq,
-    /// The item is above the constant.
+    /// The item is greater than the constant.
     Gt,
-    /// The item is at or above the constant.
+    /// The item is greater than or equal to the constant.
     Gte,
-    /// The item is below the constant.
+    /// The item is less than the constant.
     Lt,
-    /// The item is at or below the constant.
+    /// The item is less than or equal to the constant.
     Lte,
 }
 
-/// Whether a bound itself is left out of a range.
+/// Whether a range excludes its bound.
 #[derive(Clone, Copy, Debug, PartialEq, Eq, Hash)]
 pub enum StrictComparison {
-    /// The bound is outside.
+    /// The bound is excluded.
     Strict,
-    /// The bound is inside.
+    /// The bound is included.
     NonStrict,
 }
 
-/// How the two bounds of a range are meant.
+/// Whether a range excludes its two bounds.
 #[derive(Clone, Copy, Debug, PartialEq, Eq, Hash)]
 pub struct BetweenOptions {
-    /// Whether the lower bound is left out.
+    /// Whether the lower bound is excluded.
     pub lower_strict: StrictComparison,
-    /// Whether the upper bound is left out.
+    /// Whether the upper bound is excluded.
     pub upper_strict: StrictComparison,
 }

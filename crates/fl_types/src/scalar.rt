@@ -63,16 +63,16 @@ impl PValue {
     }
 }
 
-/// A value of a type, or a null. A null's type is nullable.
+/// A value of a type, or a null. The type of a null is nullable.
 #[derive(Clone, Copy, Debug, PartialEq, Eq, Hash)]
 pub enum Scalar {
-    /// An integer, and whether a null may stand in its place.
+    /// An integer, and whether its type is nullable.
     Integer(PValue, Nullability),
-    /// A boolean, and whether a null may stand in its place.
+    /// A boolean, and whether its type is nullable.
     Bool(bool, Nullability),
-    /// A null in place of an integer of this type.
+    /// A null of this integer type.
     NullInteger(PType),
-    /// A null in place of a boolean.
+    /// A null of the boolean type.
     NullBool,
 }
 
@@ -91,7 +91,7 @@ impl Scalar {
         Scalar::Bool(value, nullability)
     }
 
-    /// A null, whose type is this one made nullable.
+    /// A null of this type, made nullable.
     pub fn null(dtype: DType) -> Scalar
         ensures { scalar_parts result ≡ record { dtype = with_nullability Nullable dtype; value = None } }
     {
@@ -120,7 +120,7 @@ impl Scalar {
         matches!(self, Scalar::NullInteger(_) | Scalar::NullBool)
     }
 
-    /// The integer, or `None` of a null or a boolean.
+    /// The integer, or `None` for a null or a boolean.
     pub fn as_pvalue(self) -> Option<PValue>
         ensures value { IfSome result (λ v. (scalar_parts self).value ≡ Some (integer_of v)) }
         ensures typed { IfSome result (λ v. integer_type (scalar_parts self).dtype ≡ Some (ptype_of_value v)) }
@@ -132,7 +132,7 @@ impl Scalar {
         }
     }
 
-    /// The boolean, or `None` of a null or an integer.
+    /// The boolean, or `None` for a null or an integer.
     pub fn as_bool(self) -> Option<bool>
         ensures value { IfSome result (λ b. (scalar_parts self).value ≡ Some (bool_number b)) }
         ensures found { IsSome result ↔ ((integer_type (scalar_parts self).dtype ≡ None) × IsSome (scalar_parts self).value) }

@@ -22,7 +22,7 @@ pub enum Validity {
     Array(BitList),
 }
 
-/// The validity of an array without a null.
+/// The validity of an array without nulls.
 impl From<Nullability> for Validity {
     ghost from_gives = { λ nullability validity. validity ≡ full_validity nullability };
 
@@ -57,7 +57,7 @@ impl Validity {
         }
     }
 
-    /// Whether it is one for this many items: a list has a bit for each, the other forms fit any number.
+    /// Whether it fits this many items: a list has one bit for each, the other forms fit any number.
     pub fn covers(&self, len: usize) -> bool
         ensures { result ≡ covers self.now len }
     {
@@ -81,7 +81,7 @@ impl Validity {
         }
     }
 
-    /// The validity of the items from start to below end.
+    /// The validity of the items of `start..end`.
     pub fn slice(
         &self,
         alloc: Global,

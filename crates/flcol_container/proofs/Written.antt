@@ -1,12 +1,12 @@
 -- What is written is a node's container.
-use Rattle.std.proofs.Common.{◌≡◌, ℕ, zero, suc, min, ◌+◌, ◌-◌, ◌^◌, ◌<◌, ◌≤◌, true, false, ◌&&◌, List, [], ◌∷◌, ◌++◌, length, take, get_or, refl, sym, subst, ap, ◌∙◌, append_assoc, arith, add-one}
+use Rattle.std.proofs.Common.{◌≡◌, ℕ, zero, suc, min, ◌+◌, ◌-◌, ◌^◌, ◌<◌, ◌≤◌, true, false, ◌&&◌, List, [], ◌∷◌, ◌++◌, length, take, drop, get_or, refl, sym, subst, ap, ◌∙◌, append_assoc, arith, add-one}
 use Rattle.std.specs.Prelude.{flat_map, codes, nat_lt}
 use Rattle.std.specs.List.{list_all}
 use Rattle.std.specs.Int.{w64, to_le_bytes}
 use Rattle.std.proofs.lemmas.Bool.{lt-ltb, ltb-true}
 use Rattle.std.proofs.lemmas.Grind.{flat_map-append}
 use Rattle.std.proofs.lemmas.List.{append-nil, length-append}
-use Rattle.std.proofs.Math.Seq.{take-suc}
+use Rattle.std.proofs.Math.Seq.{drop-append_seam, take-append_seam, take-suc}
 use Rattle.fl_serialized.specs.Nodes.{And, Head, NoMore, Node, Nodes, Of, children_of, depth, depth_of, head_of, nodes_of}
 use Rattle.flcol_container.specs.Container.{HasNoContainer, HeadFits, IsContainer, NodeFits, NodesFit, head_bytes, length_prefixed, node_bytes, node_count, nodes_bytes}
 use Rattle.flcol_container.specs.Room.{AreInMemory, AreShort, IsInMemory, has_room, have_room, head_has_room, level_has_room}
@@ -105,15 +105,21 @@ pub begun : (node : Node) (old out new : List ℕ) (count : ℕ) → out ≡ old
 begun node old out new count before is e =
     e ∙ ap (λ x. x ++ count ∷ []) before ∙ ap (λ k. (old ++ head_bytes (head_of node)) ++ k ∷ []) is ∙ append_assoc old (head_bytes (head_of node)) (node_count (children_of node) ∷ []) ∙ ap (λ x. old ++ x) (sym (so_far_none node))
 
-pub next_written : (node : Node) (nodes : List Node) (i : ℕ) (child : Node) (size : ℕ) (old out middle new : List ℕ) → i < length nodes → child ≡ get_or nodes i child → length (node_bytes child) < 2 ^ 64 → size ≡ min (length (node_bytes child)) (2 ^ 64 - 1)
-    → out ≡ old ++ so_far node (take i nodes) → middle ≡ out ++ to_le_bytes w64 size → new ≡ middle ++ node_bytes child → new ≡ old ++ so_far node (take (i + 1) nodes)
-next_written node nodes i child size old out middle new lt is short sized before e e' =
-    let exact : size ≡ length (node_bytes child) = omega (arith, sized, short) in
-    e' ∙ ap (λ x. x ++ node_bytes child) e ∙ ap (λ x. (x ++ to_le_bytes w64 size) ++ node_bytes child) before ∙ ap (λ k. ((old ++ so_far node (take i nodes)) ++ to_le_bytes w64 k) ++ node_bytes child) exact
-    ∙ regroup old (so_far node (take i nodes)) (to_le_bytes w64 (length (node_bytes child))) (node_bytes child) ∙ ap (λ x. old ++ x) (sym (so_far_next node nodes i child lt is))
-  where
-    regroup : (a b c d : List ℕ) → ((a ++ b) ++ c) ++ d ≡ a ++ (b ++ (c ++ d))
-    regroup a b c d = simp append_assoc
+-- what was added behind an index, with its length written over the eight bytes there
+put_back : (out zeros bytes full new : List ℕ) (at : ℕ) → at ≡ length out → length zeros ≡ 8 → full ≡ (out ++ zeros) ++ bytes → new ≡ take at full ++ (to_le_bytes w64 (length full - (at + 8)) ++ drop (at + 8) full) → new ≡ out ++ length_prefixed w64 bytes
+put_back out zeros bytes full new at here eight whole e =
+    let front : take at full ≡ out = ap (λ k. take k full) here ∙ ap (take (length out)) (whole ∙ append_assoc out zeros bytes) ∙ take-append_seam out (zeros ++ bytes) in
+    let seam : at + 8 ≡ length (out ++ zeros) = omega (arith, here, eight, length-append out zeros) in
+    let behind : drop (at + 8) full ≡ bytes = ap (λ k. drop k full) seam ∙ ap (drop (length (out ++ zeros))) whole ∙ drop-append_seam (out ++ zeros) bytes in
+    let size : length full - (at + 8) ≡ length bytes = omega (arith, seam, ap length whole, length-append (out ++ zeros) bytes) in
+    e ∙ ap (λ x. x ++ (to_le_bytes w64 (length full - (at + 8)) ++ drop (at + 8) full)) front ∙ ap (λ k. out ++ (to_le_bytes w64 k ++ drop (at + 8) full)) size ∙ ap (λ x. out ++ (to_le_bytes w64 (length bytes) ++ x)) behind
+
+pub next_written : (node : Node) (nodes : List Node) (i : ℕ) (child : Node) (at : ℕ) (old out middle full new : List ℕ) → i < length nodes → child ≡ get_or nodes i child → at ≡ length out
+    → out ≡ old ++ so_far node (take i nodes) → middle ≡ out ++ to_le_bytes w64 0 → full ≡ middle ++ node_bytes child → new ≡ take at full ++ (to_le_bytes w64 (length full - (at + 8)) ++ drop (at + 8) full)
+    → new ≡ old ++ so_far node (take (i + 1) nodes)
+next_written node nodes i child at old out middle full new lt is here before e e' e'' =
+    put_back out (to_le_bytes w64 0) (node_bytes child) full new at here refl (e' ∙ ap (λ x. x ++ node_bytes child) e) e''
+    ∙ ap (λ x. x ++ length_prefixed w64 (node_bytes child)) before ∙ append_assoc old (so_far node (take i nodes)) (length_prefixed w64 (node_bytes child)) ∙ ap (λ x. old ++ x) (sym (so_far_next node nodes i child lt is))
 
 pub all_written : (node : Node) (nodes : List Node) (i : ℕ) (old out : List ℕ) → length nodes ≤ i → nodes_of nodes ≡ children_of node → out ≡ old ++ so_far node (take i nodes) → out ≡ old ++ node_bytes node
 all_written node nodes i old out le all e = e ∙ ap (λ x. old ++ x) (so_far_all node nodes i le all)

@@ -5,6 +5,7 @@ mod ascii;
 pub mod error;
 pub mod laws;
 pub mod limits;
+mod proof_support;
 pub mod reading;
 pub mod writing;
 

@@ -1,12 +1,13 @@
 //! What has room in a container.
 
-ghost use Rattle.std.specs.Prelude.{◌≡◌, ◌<◌, min, ◌-◌, ◌^◌, length, flat_map};
+ghost use Rattle.std.specs.Prelude.{◌≡◌, min, ◌-◌, ◌^◌, length, flat_map};
 ghost use Rattle.std.specs.Int.{w64};
 ghost use Rattle.fl_serialized.specs.Nodes.{children_of, head_of};
 ghost use Rattle.flcol_container.specs.Container.{head_bytes, length_prefixed, node_bytes, node_count};
 ghost use Rattle.flcol_container.specs.Room.{AreShort, IsInMemory, has_room, head_has_room, level_has_room};
 
 use crate::ascii::is_ascii;
+use crate::proof_support::prove_len;
 use bytes::Bytes;
 use fl_serialized::SerializedArray;
 
@@ -76,13 +77,6 @@ fn head_size(array: &SerializedArray) -> usize
         .saturating_add(array.id.len())
         .saturating_add(array.metadata.len())
         .saturating_add(buffers_size(&array.buffers))
-}
-
-/// A machine's word holds the array's length.
-fn prove_len(array: &SerializedArray)
-    ensures { (head_of array.now).len < 2 ^ 64 }
-{
-    let _ = array.len();
 }
 
 /// How many bytes a node takes; `usize::MAX` where it is more.

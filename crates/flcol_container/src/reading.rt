@@ -5,7 +5,6 @@ ghost use Rattle.std.specs.List.{list_all};
 ghost use Rattle.std.specs.Option.{option_copied};
 ghost use Rattle.std.specs.Int.{w32, w64};
 ghost use Rattle.fl_serialized.specs.Nodes.{Of, nodes_of};
-ghost use Rattle.fl_metadata.specs.WrittenText.{AreBytes};
 ghost use Rattle.flcol_container.specs.ContainerReading.{buffers_at, byte_at, container_of, dtype_at, dtype_numbered, dtype_of_byte, front_at, head_at, id_at, node_in, nodes_at, number_at, prefixed_at};
 ghost use Rattle.flcol_container.specs.Outcomes.{Finds, IsReading, Takes};
 ghost use Rattle.flcol_container.specs.Heads.{seen_head};
@@ -13,6 +12,7 @@ ghost use Rattle.flcol_container.specs.Heads.{seen_head};
 use crate::ascii::is_ascii;
 use crate::error::ContainerError;
 use crate::limits::MAX_DEPTH;
+use crate::proof_support::prove_bytes;
 use bytes::{Buf, Bytes};
 use fl_metadata::type_of_number;
 use fl_serialized::SerializedArray;
@@ -28,13 +28,6 @@ pub fn read_container(alloc: Global, bytes: &Bytes) -> Result<SerializedArray, C
 {
     prove_bytes(bytes.as_slice());
     read_beginning(alloc, bytes)
-}
-
-/// Each is a number below 256.
-fn prove_bytes(bytes: &[u8])
-    ensures { AreBytes bytes.now }
-{
-    let _ = bytes.len();
 }
 
 /// The node behind the beginning of a container.

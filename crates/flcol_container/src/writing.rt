@@ -1,6 +1,6 @@
 //! Writing a container.
 
-ghost use Rattle.std.specs.Prelude.{◌≡◌, ◌∷◌, [], ◌++◌, ◌<◌, ◌^◌, OnOk, flat_map, length};
+ghost use Rattle.std.specs.Prelude.{◌≡◌, ◌∷◌, [], ◌+◌, ◌-◌, ◌++◌, ◌<◌, ◌≤◌, ◌^◌, OnOk, drop, flat_map, length, take};
 ghost use Rattle.std.specs.Int.{to_le_bytes, w32, w64};
 ghost use Rattle.fl_serialized.specs.Nodes.{head_of};
 ghost use Rattle.flcol_container.specs.Container.{HeadFits, NodeFits, dtype_byte, head_bytes, length_prefixed, node_bytes};
@@ -98,7 +98,16 @@ fn push_head(out: &mut Vec<u8>, array: &SerializedArray) -> Result<(), AllocErro
     push_buffers(out, array.buffers())
 }
 
-/// Adds a node.
+/// Writes over the eight bytes from an index on how many bytes there are behind them.
+fn put_length(out: &mut Vec<u8>, at: usize)
+    requires { at + 8 ≤ length out.now.items }
+    ensures { out.new.items ≡ take at out.old.items ++ (to_le_bytes w64 (length out.old.items - (at + 8)) ++ drop (at + 8) out.old.items) }
+{
+    let len = (out.len() - (at + 8)) as u64;
+    out[at..at + 8].copy_from_slice(&len.to_le_bytes());
+}
+
+/// Adds a node. The length of each child is written once the child is there.
 fn push_node(out: &mut Vec<u8>, array: &SerializedArray) -> Result<(), AllocError>
     requires { NodeFits array.now }
     ensures { OnOk result (out.new.items ≡ out.old.items ++ node_bytes array.now) }
@@ -106,8 +115,10 @@ fn push_node(out: &mut Vec<u8>, array: &SerializedArray) -> Result<(), AllocErro
     push_head(out, array)?;
     out.push(child_count(array) as u8)?;
     for child in &array.children {
-        push_length(out, node_size(child))?;
+        let at = out.as_slice().len();
+        push_length(out, 0)?;
         push_node(out, child)?;
+        put_length(out, at);
     }
     Ok(())
 }

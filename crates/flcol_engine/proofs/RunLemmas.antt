@@ -1,5 +1,5 @@
 -- How runs end.
-use Rattle.std.proofs.Common.{◌≡◌, ◌≢◌, ℕ, List, Bool, true, false, Option, None, Some, Ok, Err, IsTrue, refl, subst, sym, ap, arith, ◌∙◌}
+use Rattle.std.proofs.Common.{◌≡◌, ◌≢◌, ℕ, List, [], Bool, true, false, Option, None, Some, Ok, Err, IsTrue, refl, subst, sym, ap, arith, ◌∙◌}
 use Rattle.std.specs.Prelude.{IfSome, IsErrAnd, IsOkAnd, MatchResult, Result, ok_or}
 use Rattle.std.specs.Io.KnownBytes.{Keeps}
 use Rattle.fl_types.specs.declared.error.FastLanesError.{FastLanesError}
@@ -18,7 +18,7 @@ use Rattle.flcol_engine.specs.declared.fault.Fault.TheVariants as faults
 use Rattle.flcol_engine.specs.Command.{CommandParts, EncodeParts, IsCommandOutcome, IsRun, OfRun, PackParts}
 use Rattle.flcol_engine.specs.Encodings.{EncodesAs}
 use Rattle.flcol_engine.specs.Faults.{out_of_memory}
-use Rattle.flcol_engine.specs.Outputs.{GoesWith, IsAnswer, IsEncodeOutput, IsEncodedOutput, IsOutcomeOf, IsRunOutput, IsStored, Meets, of_library}
+use Rattle.flcol_engine.specs.Outputs.{GoesWith, IsAnswer, IsEncodeOutput, IsEncodedOutput, IsOfResult, IsOutcomeOf, IsRunOutput, IsStored, Meets, of_library}
 use Rattle.flcol_engine.specs.Printing.{line}
 use Rattle.flcol_engine.specs.Text.{column_in_text, primitive_of_column}
 use Rattle.flcol_engine.specs.Words.{RunParts}
@@ -84,6 +84,20 @@ stored view encoding p t (Err f) made is = λ ne. absurd (never_deep encoding p 
 pub stored_column : {X : Type 0} (view : X → List ℕ) (command : Encode) (text : List ℕ) (p : PrimitiveParts) (t : Tree) (r : Result X Fault) → IsOkAnd (ok_or (column_in_text command.ptype command.nullability text) faults.BadColumn) (λ c. p ≡ primitive_of_column c)
     → EncodesAs command.encoding p (Ok t) → Meets view (IsStored t) r → Meets view (IsEncodeOutput command text) r
 stored_column view command text p t r said made is = with_column view (IsEncodedOutput command.encoding) (column_in_text command.ptype command.nullability text) p r said (stored view command.encoding p t r made is)
+
+-- ---- what is said of the last array is said after the operations
+of_last : (Is : Tree → Result (List ℕ) Fault → Type 0) (steps : List Step) (t last : Tree) (output : Result (List ℕ) Fault) → run_columns (column t) steps ≡ Ok (column last) → IsResult t steps last → IsOfResult Is [] last output → IsOfResult Is steps t output
+of_last Is steps t last output same made (other, is_last, is) = rw same (last, made, subst (λ x. Is x output) is_last is)
+
+answer_of_last : (question : Question) (steps : List Step) (t last : Tree) (output : Result (List ℕ) Fault) → run_columns (column t) steps ≡ Ok (column last) → IsResult t steps last → IsAnswer question [] last output → IsAnswer question steps t output
+answer_of_last (questions.Column question) steps t last output same made is = rw same is
+answer_of_last questions.Id steps t last output same made is = of_last (λ last text. text ≡ Ok (line (id_of last))) steps t last output same made is
+answer_of_last questions.Store steps t last output same made is = of_last IsStored steps t last output same made is
+answer_of_last questions.Migrate steps t last output same made is = of_last (λ last container. IsStored (to_blocked_tree last) container) steps t last output same made is
+
+pub after_operations : {X : Type 0} (view : X → List ℕ) (question : Question) (steps : List Step) (t last : Tree) (r : Result X Fault) → run_columns (column t) steps ≡ Ok (column last) → IsResult t steps last → Meets view (IsAnswer question [] last) r → Meets view (IsAnswer question steps t) r
+after_operations view question steps t last (Ok x) same made is = answer_of_last question steps t last (Ok (view x)) same made is
+after_operations view question steps t last (Err f) same made is = λ ne. answer_of_last question steps t last (Err f) same made (is ne)
 
 -- ---- a command is refused before anything is written
 refused_outcome : (Is : Result (List ℕ) Fault → Type 0) (old new : Option (List ℕ)) (e : Fault) → (Is (Err faults.WriteFault) → ⊥) → (e ≢ out_of_memory → Is (Err e)) → IsOutcomeOf Is (Err e) old new

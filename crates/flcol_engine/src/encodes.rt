@@ -12,10 +12,10 @@ use std::alloc::Global;
 ///
 /// # Errors
 /// The first that holds: `BadColumn`; the outer encoder's refusal; that of its child's packing.
-pub fn encode(alloc: Global, command: Encode, text: &[u8]) -> Result<Vec<u8>, Fault>
-    ensures { Meets (λ bytes. bytes.items) (IsEncodeOutput command text.now) result }
+pub fn encode(alloc: Global, command: Encode, text: Vec<u8>) -> Result<Vec<u8>, Fault>
+    ensures { Meets (λ bytes. bytes.items) (IsEncodeOutput command text.items) result }
 {
-    let array = text::parse(alloc, command.ptype, command.nullability, text)?;
+    let array = text::parse_owned(alloc, command.ptype, command.nullability, text)?;
     let array = encoding::encode(alloc, array, command.encoding)?;
     store(alloc, &array)
 }

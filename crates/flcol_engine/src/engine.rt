@@ -17,10 +17,10 @@ use fl_column::FastLanesError;
 use std::alloc::Global;
 
 /// The packed bytes of the column that a text says.
-fn packed(alloc: Global, command: Pack, text: &[u8]) -> Result<Bytes, Fault>
-    ensures { IsOutcome (IsPackedColumn command.width) result (column_to_pack command text.now) }
+fn packed(alloc: Global, command: Pack, text: Vec<u8>) -> Result<Bytes, Fault>
+    ensures { IsOutcome (IsPackedColumn command.width) result (column_to_pack command text.items) }
 {
-    let array = text::parse(alloc, command.ptype, command.nullability, text)?;
+    let array = text::parse_owned(alloc, command.ptype, command.nullability, text)?;
     if usize::from(command.width) > command.ptype.bit_width() {
         return Err(Fault::Refused(FastLanesError::WidthTooLarge));
     }
@@ -54,7 +54,7 @@ pub fn pack<S: Source, K: Sink>(
     ensures write_fault { IsErrOf result Fault.WriteFault ↔ IsTrue (K.has_failed sink.new) }
 {
     let input = read_all(alloc, source)?;
-    let output = packed(alloc, command, &input)?;
+    let output = packed(alloc, command, input)?;
     write_all(sink, &output)?;
     Ok(())
 }
@@ -88,7 +88,7 @@ pub fn encode<S: Source, K: Sink>(
     ensures write_fault { IsErrOf result Fault.WriteFault ↔ IsTrue (K.has_failed sink.new) }
 {
     let input = read_all(alloc, source)?;
-    let container = encodes::encode(alloc, command, &input)?;
+    let container = encodes::encode(alloc, command, input)?;
     write_all(sink, &container)?;
     Ok(())
 }

@@ -1,6 +1,6 @@
 //! Answers to questions on the arrays of containers.
 
-ghost use Rattle.std.specs.Prelude.{◌≡◌, Ok};
+ghost use Rattle.std.specs.Prelude.{◌≡◌, [], Ok};
 ghost use Rattle.fl_types.specs.Refusals.{Answers};
 ghost use Rattle.fl_array.specs.ToBlocked.{to_blocked_tree};
 ghost use Rattle.fl_serde.specs.Writing.{id_of};
@@ -16,7 +16,6 @@ use bytes::Bytes;
 use fl_array::ArrayRef;
 use fl_column::FastLanesError;
 use fl_ops::apply_all;
-use fl_serde::laws::prove_read_back;
 use fl_serde::writing::node_kind;
 use fl_serde::{deserialize, serialize};
 use flcol_container::{read_container, write_container};
@@ -42,7 +41,6 @@ fn read_array(alloc: Global, bytes: Vec<u8>) -> Result<ArrayRef, Fault>
 pub fn store(alloc: Global, array: &ArrayRef) -> Result<Vec<u8>, Fault>
     ensures { Meets (λ bytes. bytes.items) (IsStored array.now) result }
 {
-    prove_read_back(array);
     let node = serialize(alloc, array)?;
     Ok(write_container(alloc, &node)?)
 }
@@ -65,17 +63,28 @@ fn id_line(alloc: Global, array: &ArrayRef) -> Result<Vec<u8>, FastLanesError>
     print_line(alloc, node_kind(array).id())
 }
 
-/// The answer to the question on what the operations make of an array.
+/// The answer to a question on an array.
+fn answer_to(alloc: Global, array: &ArrayRef, question: Question) -> Result<Vec<u8>, Fault>
+    ensures { Meets (λ text. text.items) (IsAnswer question [] array.now) result }
+{
+    match question {
+        Question::Column(question) => Ok(reply(alloc, array, question)?),
+        Question::Id => Ok(id_line(alloc, array)?),
+        Question::Store => store(alloc, array),
+        Question::Migrate => migrate(alloc, array),
+    }
+}
+
+/// The answer to the question on what the operations make of an array. Without an operation nothing is copied.
+#[tactic(auto, using(crate::proofs::RunLemmas::after_operations))]
 fn answer(alloc: Global, array: &ArrayRef, run: &Run) -> Result<Vec<u8>, Fault>
     ensures { Meets (λ text. text.items) (IsAnswer (parts_of_run run.now).question (parts_of_run run.now).operations array.now) result }
 {
-    let last = apply_all(alloc, array, &run.ops)?;
-    match run.question {
-        Question::Column(question) => Ok(reply(alloc, &last, question)?),
-        Question::Id => Ok(id_line(alloc, &last)?),
-        Question::Store => store(alloc, &last),
-        Question::Migrate => migrate(alloc, &last),
+    if run.ops.len() == 0 {
+        return answer_to(alloc, array, run.question);
     }
+    let last = apply_all(alloc, array, &run.ops)?;
+    answer_to(alloc, &last, run.question)
 }
 
 /// The answer to the question on what the operations make of a container's array.

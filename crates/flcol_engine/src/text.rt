@@ -212,6 +212,18 @@ pub fn parse(
     match_each_integer_ptype!(ptype, parse_typed(alloc, nullability, text))
 }
 
+/// The plain array of the column that a text says, as `parse` makes it; the text is freed.
+pub fn parse_owned(
+    alloc: Global,
+    ptype: PType,
+    nullability: Nullability,
+    text: Vec<u8>,
+) -> Result<PrimitiveArray, Fault>
+    ensures { IsOutcome (λ c array. array ≡ primitive_of_column c) result (ok_or (column_in_text ptype nullability text.items) Fault.BadColumn) }
+{
+    parse(alloc, ptype, nullability, &text)
+}
+
 /// A line feed ends a line, and so does the end.
 pub fn line_ends()
     ensures inner { (line rest : List ℕ) → AllByRecursion (λ b. b ≢ 10) line → lines_of (line ++ 10 ∷ rest) ≡ line ∷ lines_of rest }

@@ -1,8 +1,22 @@
 //! Ends that fail under `encode` and `run`: each read, each write and the flush in turn.
 
-use crate::containers::container;
 use crate::runs::{READ_FAULT, WRITE_FAULT, run};
 use std::alloc::Global;
+
+/// What the container of 1, 2, 3 as `u32`, bit-packed at width 2, begins with: all but the last 257
+/// bytes, of which only three are not 0.
+const BEGINNING: &[u8] =
+    b"FLC1\x13fastlanes.bitpacked\x02\x03\0\0\0\0\0\0\0\x02\0\0\0\x08\x02\x01\0\x01\0\0\0\0\0\0";
+
+/// The container of 1, 2, 3 as `u32`, bit-packed at width 2: 305 bytes, where there is memory for them.
+pub(crate) fn container(alloc: Global) -> Option<Vec<u8>> {
+    let mut bytes = Vec::from_slice(alloc, BEGINNING).ok()?;
+    bytes.extend_from_slice(b"\x01\0\0\0\x02\0\0\0\x03").ok()?;
+    for _ in 0..248 {
+        bytes.push(0).ok()?;
+    }
+    Some(bytes)
+}
 
 /// The words of a run, its input, and what it writes.
 #[derive(Clone, Copy)]

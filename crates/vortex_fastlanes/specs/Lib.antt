@@ -100,6 +100,7 @@ pub use Rattle.fl_array.specs.UnpackedBlocks as UnpackedArrays
 pub use Rattle.fl_array.specs.Views
 pub use Rattle.fl_array.specs.WellFormed
 pub use Rattle.fl_encode.specs.Encodings as Schemes
+pub use Rattle.fl_encode.specs.Grammar as SchemeGrammar
 pub use Rattle.fl_encode.specs.Packings
 pub use Rattle.fl_encode.specs.Shapes
 pub use Rattle.fl_encode.specs.Texts
@@ -111,9 +112,11 @@ pub use Rattle.fl_ops.specs.Results
 pub use Rattle.fl_ops.specs.Selections as ArraySelections
 pub use Rattle.fl_ops.specs.Sums
 pub use Rattle.fl_ops.specs.Takes
+pub use Rattle.fl_ops.specs.Unpacked
 pub use Rattle.fl_serialized.specs.Codes as NodeCodes
 pub use Rattle.fl_serialized.specs.Nodes
 pub use Rattle.fl_serialized.specs.Sizes
+pub use Rattle.fl_serde.specs.ByteCounts
 pub use Rattle.fl_serde.specs.Checks
 pub use Rattle.fl_serde.specs.Children
 pub use Rattle.fl_serde.specs.EarlyRefusals
@@ -128,3 +131,5 @@ pub use Rattle.fl_serde.specs.Reading
 pub use Rattle.fl_serde.specs.RoundTrip
 pub use Rattle.fl_serde.specs.TypeAndLength
 pub use Rattle.fl_serde.specs.Writing
+pub use Rattle.fl_compress.specs.Candidates
+pub use Rattle.fl_compress.specs.Smallest

@@ -1,4 +1,4 @@
-//! Widths of least cost, what they leave out, and packing whole columns.
+//! Widths of least cost, their exceptions, and packing whole columns.
 
 pub use fl_array::bitpacking::bitpack_compress::{
     bitpack_blocked_to_best_bit_widths, bitpack_encode, bitpack_encode_blocked,

@@ -1,4 +1,4 @@
-//! Reading bit-packed arrays and packed items, and counting those that a width leaves out.
+//! Reading bit-packed arrays and packed items, and counting exceptions.
 
 pub use fl_array::bitpacking::bitpack_decompress::{
     unpack_array, unpack_array_blocked, unpack_primitive_array, unpack_single,

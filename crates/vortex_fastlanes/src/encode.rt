@@ -1,4 +1,4 @@
-//! Encoding by a scheme: the encoding of an array, and the schemes of its children. And the text of schemes.
+//! Encoding by a scheme, which names an encoding and the schemes of the children; and the text of schemes.
 
 pub use fl_encode::text::{SchemeError, parse, print};
 pub use fl_encode::{Packing, Scheme, encode};

@@ -1,11 +1,12 @@
 //! Columns of nullable integers in light encodings over blocks of 1024 items: the crate that users
-//! list and import. It passes on what the crates below have, under the names that users know.
+//! list and import. It re-exports what the crates below have, under the names of the Rust crate.
 #![tactic(auto)]
 
 pub mod array;
 pub mod bitpack_compress;
 pub mod bitpack_decompress;
 pub mod bitpacking;
+pub mod compress;
 pub mod delta;
 pub mod encode;
 pub mod for_;

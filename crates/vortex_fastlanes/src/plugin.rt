@@ -1,5 +1,5 @@
-//! Serialized arrays: what a columnar file keeps of an array, the messages in it, and the reader that any
-//! tree can be handed to.
+//! Serialized arrays: what a columnar file stores of an array, the messages in it, and a reader of any tree
+//! of nodes.
 
 pub use fl_metadata::{BitPackedMetadata, DeltaMetadata, RLEMetadata};
 pub use fl_serde::laws::round_trip;

@@ -10,3 +10,4 @@ mod encoded;
 mod packing;
 pub mod proved;
 pub mod readme;
+pub mod tutorial;

@@ -1,4 +1,4 @@
-//! What callers prove of the library by its clauses: each function's own clause follows from those of its calls.
+//! What callers can prove from the library's contracts: each function's clause follows from those of its calls.
 
 ghost use Rattle.std.specs.Prelude.{◌≡◌, ◌≤◌, Ok, IfOk, IsTrue, length};
 ghost use Rattle.vortex_fastlanes.specs.ArrayQuestions.{compare_scalar, is_comparable};
@@ -14,11 +14,11 @@ use vortex_fastlanes::encode::*;
 use vortex_fastlanes::plugin::*;
 use vortex_fastlanes::*;
 
-/// The items of a range, of a column that is kept as differences to its least item: what is encoded, sliced and
+/// The items of a range, of a column that is encoded as differences from its minimum: what is encoded, sliced and
 /// decoded is the column's slice.
 ///
 /// # Errors
-/// `NoMinimum` where no item is valid, and `OutOfMemory`.
+/// `NoMinimum` if no item is valid, and `OutOfMemory`.
 pub fn sliced_and_decoded(
     alloc: Global,
     array: &PrimitiveArray,
@@ -34,11 +34,11 @@ pub fn sliced_and_decoded(
     part.to_primitive(alloc)
 }
 
-/// How each item compares with a constant, asked of the packed column: the answers are the column's.
+/// How each item compares with a constant, by the packed column: the answers are the column's.
 ///
 /// # Errors
-/// `NegativeValue` where an item is negative that is not null, `WidthTooLarge` where the items need all bits of
-/// their type, and `OutOfMemory`.
+/// `NegativeValue` if a valid item is negative, `WidthTooLarge` if the items need all bits of their type, and
+/// `OutOfMemory`.
 pub fn compared_while_packed(
     alloc: Global,
     array: &PrimitiveArray,
@@ -52,10 +52,10 @@ pub fn compared_while_packed(
     packed.compare(alloc, operator, constant)
 }
 
-/// The array that is read where an array is written: it has the same column.
+/// Writes an array and reads it again: the result has the same column.
 ///
 /// # Errors
-/// None but `OutOfMemory`.
+/// Only `OutOfMemory`.
 pub fn written_and_read(alloc: Global, array: &ArrayRef) -> Result<ArrayRef, FastLanesError>
     ensures { IfOk result (λ a. column a ≡ column array.now) }
 {
@@ -67,7 +67,7 @@ pub fn written_and_read(alloc: Global, array: &ArrayRef) -> Result<ArrayRef, Fas
 /// The array with its deltas bit-packed.
 ///
 /// # Errors
-/// `NegativeValue` where a delta is negative, `WidthTooLarge` where the deltas need all bits of their type, and
+/// `NegativeValue` if a delta is negative, `WidthTooLarge` if the deltas need all bits of their type, and
 /// `OutOfMemory`.
 pub fn deltas_packed(alloc: Global, plain: &PrimitiveArray) -> Result<ArrayRef, FastLanesError>
     ensures { IfOk result (λ a. column a ≡ column_of_primitive plain.now) }

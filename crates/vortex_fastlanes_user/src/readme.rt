@@ -11,8 +11,8 @@ use vortex_fastlanes::array::*;
 use vortex_fastlanes::encode::*;
 use vortex_fastlanes::*;
 
-/// The integers from `start` to below `end`, and how each compares with a constant, of integers that
-/// are kept as bit-packed differences to the least one.
+/// The items of `start..end`, and how each compares with a constant, of an array that is encoded as
+/// bit-packed differences from its minimum.
 pub fn part_and_comparison(
     alloc: Global,
     plain: &PrimitiveArray,
@@ -38,7 +38,7 @@ pub fn part_and_comparison(
     Ok((part.to_primitive(alloc)?, comparison))
 }
 
-/// Two blocks and a half of times, one a second.
+/// Two and a half blocks of times, one a second.
 fn times(alloc: Global) -> Result<PrimitiveArray, FastLanesError> {
     let mut times = Vec::with_capacity(alloc, 2500)?;
     for i in 0..2500u32 {
@@ -47,7 +47,7 @@ fn times(alloc: Global) -> Result<PrimitiveArray, FastLanesError> {
     PrimitiveArray::new(times, Validity::NonNullable)
 }
 
-/// Whether of four times those before the second block, and no others, are before its first one.
+/// Whether of four times around the start of the second block exactly those before it are below its first time.
 fn is_found(times: &PrimitiveArray, alloc: Global) -> Option<bool> {
     let DType::Primitive(PType::U32, _) = times.dtype() else {
         return None;

@@ -9,7 +9,8 @@ use Rattle.fl_types.specs.Integers.{pattern_of}
 use Rattle.fl_column.specs.Columns.{Column}
 use Rattle.fl_codec.specs.Deltas.{delta_bases, delta_deltas, delta_of}
 use Rattle.fl_codec.specs.ForwardFill.{Carry, Reset, fill_forward}
-use Rattle.fl_codec.specs.FoRColumns.{chunk_references, chunked_for, global_for, least_valid, minus_reference}
+use Rattle.fl_codec.specs.FoRColumns.{chunk_references, chunked_for, global_for, least_by, least_valid, minus_reference, reading}
+use Rattle.fl_codec.specs.declared.for_.ItemOrder.TheVariants.{Signed}
 use Rattle.fl_codec.specs.RunColumns.{are_run_offsets, chunk_start, run_item}
 use Rattle.fl_codec.specs.Runs.{chunk_values, offsets_to, values_to}
 
@@ -27,6 +28,17 @@ least_byte = refl
 child_of_bytes : map (λ item. pattern_of I8 (minus_reference I8 (negsuc 127) item)) signed_bytes ≡ tabulate (λ n. n) 256
 child_of_bytes = refl
 
+-- of 255, 0 and 2 the least byte, and the least one that is read as signed
+bytes_about_zero_least : least_valid (Some (pos 255) ∷ Some (pos 0) ∷ Some (pos 2) ∷ []) ≡ Some (pos 0)
+bytes_about_zero_least = refl
+
+bytes_about_zero_wrapped : least_by (reading Signed U8) (Some (pos 255) ∷ Some (pos 0) ∷ None ∷ Some (pos 2) ∷ []) ≡ Some (pos 255)
+bytes_about_zero_wrapped = refl
+
+-- less 255 they are 0, 1 and 3
+bytes_about_zero : map (minus_reference U8 (pos 255)) (Some (pos 255) ∷ Some (pos 0) ∷ Some (pos 2) ∷ []) ≡ pos 0 ∷ pos 1 ∷ pos 3 ∷ []
+bytes_about_zero = refl
+
 -- 0, 100, 200 plus 100
 wrapped_sums : (global_for (pos 100) (column_of_bytes (Some (pos 0) ∷ Some (pos 100) ∷ Some (pos 200) ∷ []))).items ≡ Some (pos 100) ∷ Some (pos 200) ∷ Some (pos 44) ∷ []
 wrapped_sums = refl
@@ -36,14 +48,14 @@ signed_sums : (global_for (negsuc 99) (record { dtype = Primitive I8 NonNullable
 signed_sums = refl
 
 -- a chunk of 5 and a chunk of -7
-two_references : chunk_references (replicate 1024 (Some (pos 5)) ++ replicate 1024 (Some (negsuc 6))) ≡ pos 5 ∷ negsuc 6 ∷ []
+two_references : chunk_references (λ z. z) (replicate 1024 (Some (pos 5)) ++ replicate 1024 (Some (negsuc 6))) ≡ pos 5 ∷ negsuc 6 ∷ []
 two_references = refl
 
 -- leading nulls take the reference behind them, later ones that before
-leading_nulls : chunk_references (replicate 1024 None ++ replicate 1024 (Some (pos 9))) ≡ pos 9 ∷ pos 9 ∷ []
+leading_nulls : chunk_references (λ z. z) (replicate 1024 None ++ replicate 1024 (Some (pos 9))) ≡ pos 9 ∷ pos 9 ∷ []
 leading_nulls = refl
 
-nulls_between : chunk_references (replicate 1024 (Some (pos 9)) ++ replicate 1024 None ++ Some (pos 3) ∷ []) ≡ pos 9 ∷ pos 9 ∷ pos 3 ∷ []
+nulls_between : chunk_references (λ z. z) (replicate 1024 (Some (pos 9)) ++ replicate 1024 None ++ Some (pos 3) ∷ []) ≡ pos 9 ∷ pos 9 ∷ pos 3 ∷ []
 nulls_between = refl
 
 -- thirty items from position 1000 on

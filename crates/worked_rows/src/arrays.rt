@@ -10,109 +10,61 @@ mod encoders;
 pub(crate) mod making;
 pub(crate) mod operations;
 pub(crate) mod parts;
+pub(crate) mod queries;
 pub(crate) mod questions;
-mod taking;
 
-use crate::columns::count;
+use crate::asked::Asked;
+use crate::names::split;
 use crate::text::Text;
 use fl_types::FastLanesError;
 use std::alloc::Global;
-use vortex_fastlanes::PrimitiveArray;
 use vortex_fastlanes::array::{ArrayRef, Op, apply_all};
 
 /// What makes an array.
 type Built = Result<ArrayRef, FastLanesError>;
 
-/// Answers a question of what was made. The columns are those of the row.
-fn answer_made(
-    alloc: Global,
-    question: &[&str],
-    made: &Built,
-    columns: &[PrimitiveArray],
-    answer: &mut Text,
-) {
+/// Answers a question of what was made.
+fn answer_made(asked: Asked, made: &Built, answer: &mut Text) {
     match made {
-        Ok(array) => questions::answer(alloc, array, question, columns, answer),
+        Ok(array) => questions::answer(asked, array, answer),
         Err(refusal) => answer.refusal(*refusal),
     }
 }
 
 /// Answers a question behind operations, if there are any, that are called one by one and, where that answers something
 /// else, as a list.
-fn answer_behind(
-    alloc: Global,
-    array: &ArrayRef,
-    ops: &[Op],
-    question: &[&str],
-    columns: &[PrimitiveArray],
-    answer: &mut Text,
-) {
-    let called = operations::call_all(alloc, array, ops);
-    answer_made(alloc, question, &called, columns, answer);
+fn answer_behind(asked: Asked, array: &ArrayRef, ops: &[Op], answer: &mut Text) {
+    let alloc = asked.alloc;
+    answer_made(asked, &operations::call_all(alloc, array, ops), answer);
     if ops.len() > 0 {
         let mut listed = Text::new(alloc);
-        let applied = apply_all(alloc, array, ops);
-        answer_made(alloc, question, &applied, columns, &mut listed);
+        answer_made(asked, &apply_all(alloc, array, ops), &mut listed);
         answer.unless_same(&mut listed);
     }
 }
 
 /// Answers words about an array: a question, behind operations and `then` where there are any. The operations take
 /// the row's columns from `first` on.
-fn answer_words(
-    alloc: Global,
-    array: &ArrayRef,
-    words: &[&str],
-    columns: &[PrimitiveArray],
-    first: usize,
-    answer: &mut Text,
-) {
-    let (ops, question) = operations::split(words);
-    let others = columns.get(first..).unwrap_or(&[]);
-    match operations::read_all(alloc, ops, others) {
-        Ok(ops) => answer_behind(alloc, array, &ops, question, columns, answer),
+fn answer_words(asked: Asked, array: &ArrayRef, first: usize, answer: &mut Text) {
+    let (ops, question) = split(asked.words, "then");
+    match operations::read_all(asked.alloc, ops, asked.columns_from(first)) {
+        Ok(ops) => answer_behind(asked.with_words(question), array, &ops, answer),
         Err(refusal) => answer.refusal(refusal),
     }
 }
 
-/// Answers words about what was built of the first columns.
-fn answer_built(
-    alloc: Global,
-    built: &Built,
-    words: &[&str],
-    columns: &[PrimitiveArray],
-    first: usize,
-    answer: &mut Text,
-) {
+/// Answers words about what was built of the columns before `first`.
+pub(crate) fn answer_built(asked: Asked, built: &Built, first: usize, answer: &mut Text) {
     match built {
-        Ok(array) => answer_words(alloc, array, words, columns, first, answer),
+        Ok(array) => answer_words(asked, array, first, answer),
         Err(refusal) => answer.refusal(*refusal),
     }
 }
 
-/// Answers words about an array that was read; operations take the columns.
-pub(crate) fn answer_read(
-    alloc: Global,
-    read: &Built,
-    words: &[&str],
-    columns: &[PrimitiveArray],
-    answer: &mut Text,
-) {
-    answer_built(alloc, read, words, columns, 0, answer);
-}
-
 /// Answers words about an array of a kind, made of the first column.
-fn ask_kind(
-    alloc: Global,
-    kind: &str,
-    words: &[&str],
-    columns: &[PrimitiveArray],
-    answer: &mut Text,
-) {
-    if let [column, ..] = columns {
-        let built = building::array(alloc, kind, column);
-        answer_built(alloc, &built, words, columns, 1, answer);
-    }
+fn ask_kind(asked: Asked, kind: &str, answer: &mut Text) {
+    let built = building::array(asked.alloc, kind, asked.column(0));
+    answer_built(asked, &built, 1, answer);
 }
 
 /// The kinds that `each` stands for, beside the plain one. A column without a valid item has none that subtracts a
@@ -135,17 +87,10 @@ const KINDS: &[&str] = &[
 ];
 
 /// Adds what words answer about an array of a kind, where it is not what was answered before.
-fn ask_again(
-    alloc: Global,
-    kind: &str,
-    words: &[&str],
-    columns: &[PrimitiveArray],
-    before: &str,
-    answer: &mut Text,
-) {
-    let mut asked = Text::new(alloc);
-    ask_kind(alloc, kind, words, columns, &mut asked);
-    let after = asked.as_str();
+fn ask_again(asked: Asked, kind: &str, before: &str, answer: &mut Text) {
+    let mut again = Text::new(asked.alloc);
+    ask_kind(asked, kind, &mut again);
+    let after = again.as_str();
     if after != before && after != "error 21 NoMinimum" {
         answer.word("but");
         answer.word(kind);
@@ -154,29 +99,24 @@ fn ask_again(
 }
 
 /// Answers words about an array of each kind: once, and again where a kind answers something else.
-fn ask_each(alloc: Global, words: &[&str], columns: &[PrimitiveArray], answer: &mut Text) {
-    let mut first = Text::new(alloc);
-    ask_kind(alloc, "plain", words, columns, &mut first);
+fn ask_each(asked: Asked, answer: &mut Text) {
+    let mut first = Text::new(asked.alloc);
+    ask_kind(asked, "plain", &mut first);
     let before = first.as_str();
     answer.word(before);
     for kind in KINDS {
-        ask_again(alloc, kind, words, columns, before, answer);
+        ask_again(asked, kind, before, answer);
     }
 }
 
 /// Answers words about an array of a kind, made of the first column, or about one of parts; operations take the
 /// other columns.
-pub(crate) fn ask(
-    alloc: Global,
-    question: &[&str],
-    columns: &[PrimitiveArray],
-    answer: &mut Text,
-) -> bool {
-    match question {
-        ["array", "each", words @ ..] => ask_each(alloc, words, columns, answer),
-        ["array", kind, words @ ..] => ask_kind(alloc, kind, words, columns, answer),
-        ["rle_data", offset] => data::of_runs(count(offset), answer),
-        _ => return constructors::ask(alloc, question, columns, answer),
+pub(crate) fn ask(asked: Asked, answer: &mut Text) -> bool {
+    match (asked.word(0), asked.word(1)) {
+        ("array", "each") => ask_each(asked.from(2), answer),
+        ("array", kind) => ask_kind(asked.from(2), kind, answer),
+        ("rle_data", _) => data::of_runs(asked.count(1), answer),
+        _ => return constructors::ask(asked, answer),
     }
     true
 }

@@ -1,6 +1,7 @@
 //! Lists of bits: how they are made, cut, copied and compared.
 
-use crate::columns::count;
+use crate::asked::Asked;
+use crate::names::named;
 use crate::text::Text;
 use crate::{shown, types};
 use fl_column::PrimitiveArray;
@@ -44,67 +45,60 @@ pub(crate) fn ones(alloc: Global, column: &PrimitiveArray) -> Listed {
 }
 
 /// Answers a question of a list, and of the positions of another one.
-fn ask_list(
-    alloc: Global,
-    question: &[&str],
-    bits: &BitList,
-    others: &[PrimitiveArray],
-    answer: &mut Text,
-) {
-    match (question, others) {
-        ([], []) => shown::bits(answer, bits),
-        (["count"], []) => {
+fn ask_list(asked: Asked, bits: &BitList, answer: &mut Text) {
+    let alloc = asked.alloc;
+    match asked.word(0) {
+        "" => shown::bits(answer, bits),
+        "count" => {
             answer.count(bits.len());
             answer.count(bits.count_true());
         }
-        (["copy"], []) => {
-            types::compare_made("equal", bits, bits.try_clone(alloc), answer);
-        }
-        ([relation, len], [positions]) => {
-            let other = set_at(alloc, count(len), positions);
+        "copy" => types::compare_made("equal", bits, bits.try_clone(alloc), answer),
+        relation => {
+            let other = set_at(alloc, asked.count(1), asked.column(1));
             types::compare_made(relation, bits, other, answer);
         }
-        _ => answer.word("no such question"),
     }
 }
 
-/// Answers a question of a list, or of what is cut from it.
-fn ask_part(
-    alloc: Global,
-    question: &[&str],
-    bits: &BitList,
-    others: &[PrimitiveArray],
-    answer: &mut Text,
-) {
-    let ["slice", start, end, rest @ ..] = question else {
-        return ask_list(alloc, question, bits, others, answer);
-    };
-    let (start, end) = (count(start), count(end));
+/// Answers a question of a part of a list.
+fn ask_part(asked: Asked, bits: &BitList, answer: &mut Text) {
+    let (start, end) = (asked.count(1), asked.count(2));
     if start <= end && end <= bits.len() {
-        match bits.slice(alloc, start, end) {
-            Ok(part) => ask_list(alloc, rest, &part, others, answer),
+        match bits.slice(asked.alloc, start, end) {
+            Ok(part) => ask_list(asked.from(3), &part, answer),
             Err(refusal) => answer.refusal(refusal),
         }
     }
 }
 
-pub(crate) fn ask(
-    alloc: Global,
-    question: &[&str],
-    columns: &[PrimitiveArray],
-    answer: &mut Text,
-) -> bool {
-    let ([how, len, rest @ ..], [positions, others @ ..]) = (question, columns) else {
+/// Answers a question of a list that was made, or of what is cut from it.
+fn ask_made(asked: Asked, made: &Listed, answer: &mut Text) {
+    match made {
+        Ok(bits) if asked.word(0) == "slice" => ask_part(asked, bits, answer),
+        Ok(bits) => ask_list(asked, bits, answer),
+        Err(refusal) => answer.refusal(*refusal),
+    }
+}
+
+/// How a list is made.
+#[derive(Clone, Copy)]
+enum Making {
+    SetAt,
+    PushedAt,
+}
+
+const MAKINGS: &[(&str, Making)] = &[("bits", Making::SetAt), ("pushed", Making::PushedAt)];
+
+pub(crate) fn ask(asked: Asked, answer: &mut Text) -> bool {
+    let Some(making) = named(MAKINGS, asked.word(0)) else {
         return false;
     };
-    let made = match *how {
-        "bits" => set_at(alloc, count(len), positions),
-        "pushed" => pushed_at(alloc, count(len), positions),
-        _ => return false,
+    let (len, positions) = (asked.count(1), asked.column(0));
+    let made = match making {
+        Making::SetAt => set_at(asked.alloc, len, positions),
+        Making::PushedAt => pushed_at(asked.alloc, len, positions),
     };
-    match made {
-        Ok(bits) => ask_part(alloc, rest, &bits, others, answer),
-        Err(refusal) => answer.refusal(refusal),
-    }
+    ask_made(asked.from(2), &made, answer);
     true
 }

@@ -6,7 +6,9 @@ ghost use Rattle.fl_column.specs.Chunks.{chunk_count};
 ghost use Rattle.fl_column.specs.Numbers.{numbers};
 ghost use Rattle.fl_bitpacking.specs.Blocks.{are_blocks};
 
-use crate::packing::{show, width_of};
+use crate::asked::Asked;
+use crate::names::named;
+use crate::packing::width_of;
 use crate::shown;
 use crate::text::Text;
 use fastlanes::Work;
@@ -58,7 +60,7 @@ fn blocks<'a>(
     requires count { length boundaries.now.slots ≡ chunk_count (length array.now.slots) + 1 }
     requires blocks { IsTrue (are_blocks (bits_of_type array.now.ptype) (length bytes.now) (numbers boundaries.now)) }
 {
-    show(answer, bytes);
+    shown::bytes(answer, bytes);
     answer.word("|");
     shown::column(answer, boundaries);
     answer.word("|");
@@ -114,24 +116,32 @@ fn patch(alloc: Global, array: &PrimitiveArray, answer: &mut Text) {
 }
 
 /// Packs a column at none, one or two widths, of which the first is 2.
-fn pack(alloc: Global, widths: &[&str], array: &PrimitiveArray, answer: &mut Text) {
-    match widths {
-        [] => pack_none(alloc, array, answer),
-        [width] => pack_one(alloc, array, width_of(width), answer),
-        [_, second, ..] => pack_two(alloc, array, width_of(second), None, answer),
+fn pack(asked: Asked, array: &PrimitiveArray, answer: &mut Text) {
+    match asked.words.len() {
+        1 => pack_none(asked.alloc, array, answer),
+        2 => pack_one(asked.alloc, array, width_of(asked.word(1)), answer),
+        _ => pack_two(asked.alloc, array, width_of(asked.word(2)), None, answer),
     }
 }
 
-pub(crate) fn ask(
-    alloc: Global,
-    question: &[&str],
-    columns: &[PrimitiveArray],
-    answer: &mut Text,
-) -> bool {
-    match (question, columns) {
-        (["pack_blocked", widths @ ..], [array]) => pack(alloc, widths, array, answer),
-        (["patch_blocked"], [array]) => patch(alloc, array, answer),
-        _ => return false,
+#[derive(Clone, Copy)]
+enum Question {
+    Pack,
+    Patch,
+}
+
+const QUESTIONS: &[(&str, Question)] = &[
+    ("pack_blocked", Question::Pack),
+    ("patch_blocked", Question::Patch),
+];
+
+pub(crate) fn ask(asked: Asked, answer: &mut Text) -> bool {
+    let Some(question) = named(QUESTIONS, asked.word(0)) else {
+        return false;
+    };
+    match question {
+        Question::Pack => pack(asked, asked.column(0), answer),
+        Question::Patch => patch(asked.alloc, asked.column(0), answer),
     }
     true
 }

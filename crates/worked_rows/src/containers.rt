@@ -1,6 +1,8 @@
 //! Containers: what bytes hold, and how it is written.
 
+use crate::asked::Asked;
 use crate::columns::count;
+use crate::names::named;
 use crate::text::Text;
 use bytes::Bytes;
 use fl_serialized::SerializedArray;
@@ -69,7 +71,7 @@ fn push_bytes(bytes: &mut Vec<u8>, byte: &str, times: usize) -> Result<(), Conta
 }
 
 /// The bytes that words name: two hexadecimal digits, also so many times, or ASCII behind a `'`.
-fn bytes_of(alloc: Global, words: &[&str]) -> Result<Vec<u8>, ContainerError> {
+pub(crate) fn bytes_of(alloc: Global, words: &[&str]) -> Result<Vec<u8>, ContainerError> {
     let mut bytes = Vec::new(alloc);
     for word in words {
         if let Some(text) = word.strip_prefix('\'') {
@@ -96,7 +98,11 @@ fn framed(alloc: Global, node: &[u8]) -> Result<Vec<u8>, ContainerError> {
 }
 
 /// A container of the node that words name, with so many FoR nodes round it.
-fn frames_of(alloc: Global, frames: usize, words: &[&str]) -> Result<Bytes, ContainerError> {
+pub(crate) fn frames_of(
+    alloc: Global,
+    frames: usize,
+    words: &[&str],
+) -> Result<Bytes, ContainerError> {
     let mut node = bytes_of(alloc, words)?;
     for _ in 0..frames {
         node = framed(alloc, &node)?;
@@ -145,25 +151,56 @@ fn written(alloc: Global, array: &SerializedArray, answer: &mut Text) {
     }
 }
 
-/// Answers what a container's bytes hold, or how many bytes an array's container has.
-pub(crate) fn ask(alloc: Global, question: &[&str], answer: &mut Text) -> bool {
+/// Answers what the container of a node in frames holds.
+fn ask_framed(asked: Asked, answer: &mut Text) {
+    match frames_of(asked.alloc, asked.count(1), asked.words_from(2)) {
+        Ok(bytes) => read(asked.alloc, &bytes, answer),
+        Err(refusal) => refused(refusal, answer),
+    }
+}
+
+/// The bytes that words name, as a container's.
+fn container_bytes(alloc: Global, words: &[&str]) -> Result<Bytes, ContainerError> {
+    Ok(Bytes::from_vec(bytes_of(alloc, words)?)?)
+}
+
+/// Answers what bytes hold.
+fn ask_bytes(asked: Asked, answer: &mut Text) {
+    match container_bytes(asked.alloc, asked.words_from(1)) {
+        Ok(bytes) => read(asked.alloc, &bytes, answer),
+        Err(refusal) => refused(refusal, answer),
+    }
+}
+
+/// Answers how many bytes an array's container has.
+fn ask_written(asked: Asked, answer: &mut Text) {
+    match array_of(asked.alloc, asked.word(1), asked.count(2)) {
+        Ok(array) => written(asked.alloc, &array, answer),
+        Err(refusal) => refused(refusal, answer),
+    }
+}
+
+#[derive(Clone, Copy)]
+enum Question {
+    Framed,
+    Bytes,
+    Written,
+}
+
+const QUESTIONS: &[(&str, Question)] = &[
+    ("container", Question::Framed),
+    ("bytes", Question::Bytes),
+    ("container_of", Question::Written),
+];
+
+pub(crate) fn ask(asked: Asked, answer: &mut Text) -> bool {
+    let Some(question) = named(QUESTIONS, asked.word(0)) else {
+        return false;
+    };
     match question {
-        ["container", frames, words @ ..] => match frames_of(alloc, count(frames), words) {
-            Ok(bytes) => read(alloc, &bytes, answer),
-            Err(refusal) => refused(refusal, answer),
-        },
-        ["bytes", words @ ..] => {
-            if let Ok(bytes) = bytes_of(alloc, words) {
-                if let Ok(bytes) = Bytes::from_vec(bytes) {
-                    read(alloc, &bytes, answer);
-                }
-            }
-        }
-        ["container_of", part, many] => match array_of(alloc, part, count(many)) {
-            Ok(array) => written(alloc, &array, answer),
-            Err(refusal) => refused(refusal, answer),
-        },
-        _ => return false,
+        Question::Framed => ask_framed(asked, answer),
+        Question::Bytes => ask_bytes(asked, answer),
+        Question::Written => ask_written(asked, answer),
     }
     true
 }

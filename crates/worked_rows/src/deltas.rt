@@ -1,6 +1,8 @@
 //! Deltas: columns as a base for each lane of a block, and the differences along the lanes.
 
-use crate::columns::{Made, count};
+use crate::asked::Asked;
+use crate::columns::Made;
+use crate::names::named;
 use crate::parts::{back, part};
 use crate::shown;
 use crate::text::Text;
@@ -45,41 +47,51 @@ fn show(alloc: Global, parts: &Parts, array: &PrimitiveArray, answer: &mut Text)
     deltas_back(alloc, parts, array, answer);
 }
 
-/// Answers a question about the bases and deltas of a column. A part of it is made without a null.
-fn ask_parts(
+/// This many items from the offset on, which bases and deltas make without a null.
+fn part_of(
     alloc: Global,
-    question: &[&str],
     parts: &Parts,
     array: &PrimitiveArray,
-    answer: &mut Text,
-) -> bool {
-    match question {
-        ["delta"] => show(alloc, parts, array, answer),
-        ["delta_back"] => deltas_back(alloc, parts, array, answer),
-        ["delta_part", offset, len] => {
-            let validity = Validity::from(array.nullability());
-            let made = summed(alloc, parts, &validity, count(offset), count(len));
-            shown::made(answer, made);
-        }
-        _ => return false,
-    }
-    true
+    offset: usize,
+    len: usize,
+) -> Made {
+    let validity = Validity::from(array.nullability());
+    summed(alloc, parts, &validity, offset, len)
 }
 
-pub(crate) fn ask(
-    alloc: Global,
-    question: &[&str],
-    columns: &[PrimitiveArray],
-    answer: &mut Text,
-) -> bool {
-    match (question, columns) {
-        (["delta" | "delta_back" | "delta_part", ..], [array]) => {
-            match delta_compress(alloc, array) {
-                Ok(parts) => return ask_parts(alloc, question, &parts, array, answer),
-                Err(refusal) => answer.refusal(refusal),
-            }
+#[derive(Clone, Copy)]
+enum Question {
+    Parts,
+    Back,
+    Part,
+}
+
+const QUESTIONS: &[(&str, Question)] = &[
+    ("delta", Question::Parts),
+    ("delta_back", Question::Back),
+    ("delta_part", Question::Part),
+];
+
+/// Answers a question about the bases and deltas of a column.
+fn ask_parts(asked: Asked, question: Question, parts: &Parts, answer: &mut Text) {
+    let (alloc, array) = (asked.alloc, asked.column(0));
+    match question {
+        Question::Parts => show(alloc, parts, array, answer),
+        Question::Back => deltas_back(alloc, parts, array, answer),
+        Question::Part => {
+            let made = part_of(alloc, parts, array, asked.count(1), asked.count(2));
+            shown::made(answer, made);
         }
-        _ => return false,
+    }
+}
+
+pub(crate) fn ask(asked: Asked, answer: &mut Text) -> bool {
+    let Some(question) = named(QUESTIONS, asked.word(0)) else {
+        return false;
+    };
+    match delta_compress(asked.alloc, asked.column(0)) {
+        Ok(parts) => ask_parts(asked, question, &parts, answer),
+        Err(refusal) => answer.refusal(refusal),
     }
     true
 }

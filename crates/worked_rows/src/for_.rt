@@ -1,6 +1,8 @@
 //! Frames of reference: columns less one reference, or less one for each chunk.
 
-use crate::columns::{Made, count, type_of};
+use crate::asked::Asked;
+use crate::columns::{Made, type_of};
+use crate::names::named;
 use crate::parts::{back, part};
 use crate::shown;
 use crate::text::Text;
@@ -123,31 +125,37 @@ fn add(alloc: Global, references: &PrimitiveArray, child: &PrimitiveArray, answe
     }
 }
 
-/// Answers a question about the FoR of a column.
-fn ask_one(alloc: Global, question: &[&str], array: &PrimitiveArray, answer: &mut Text) -> bool {
-    match question {
-        ["for"] => encode_for(alloc, array, answer),
-        ["for_chunked"] => for_chunks(alloc, array, answer),
-        ["for_slots", name] => child_slots(alloc, array, type_of(name), answer),
-        _ => return false,
-    }
-    true
+#[derive(Clone, Copy)]
+enum Question {
+    Encode,
+    EncodeChunked,
+    Slots,
+    Add,
+    AddChunked,
 }
 
-pub(crate) fn ask(
-    alloc: Global,
-    question: &[&str],
-    columns: &[PrimitiveArray],
-    answer: &mut Text,
-) -> bool {
-    match (question, columns) {
-        (["add"], [references, child]) => add(alloc, references, child, answer),
-        (["add_chunked", offset], [references, child]) => {
-            let made = with_references(alloc, child, references, count(offset));
+const QUESTIONS: &[(&str, Question)] = &[
+    ("for", Question::Encode),
+    ("for_chunked", Question::EncodeChunked),
+    ("for_slots", Question::Slots),
+    ("add", Question::Add),
+    ("add_chunked", Question::AddChunked),
+];
+
+pub(crate) fn ask(asked: Asked, answer: &mut Text) -> bool {
+    let Some(question) = named(QUESTIONS, asked.word(0)) else {
+        return false;
+    };
+    let (alloc, array, child) = (asked.alloc, asked.column(0), asked.column(1));
+    match question {
+        Question::Encode => encode_for(alloc, array, answer),
+        Question::EncodeChunked => for_chunks(alloc, array, answer),
+        Question::Slots => child_slots(alloc, array, type_of(asked.word(1)), answer),
+        Question::Add => add(alloc, array, child, answer),
+        Question::AddChunked => {
+            let made = with_references(alloc, child, array, asked.count(1));
             shown::made(answer, made);
         }
-        (_, [array]) => return ask_one(alloc, question, array, answer),
-        _ => return false,
     }
     true
 }

@@ -1,6 +1,7 @@
 //! The patches of the items that a width leaves out.
 
-use crate::columns::count;
+use crate::asked::Asked;
+use crate::names::named;
 use crate::packing::width_of;
 use crate::parts::part;
 use crate::shown;
@@ -45,37 +46,43 @@ fn gathered(answer: &mut Text, patches: Result<Option<Patches>, FastLanesError>)
     }
 }
 
-/// The patches at a width for each block, where there are as many.
-fn gather_blocks(
-    alloc: Global,
-    array: &PrimitiveArray,
-    widths: &[u8],
-    hint: usize,
-    answer: &mut Text,
-) {
+/// Adds the patches at a width for each block, where there are as many.
+fn gather_blocks(asked: Asked, array: &PrimitiveArray, widths: &[u8], answer: &mut Text) {
     if array.len().div_ceil(1024) == widths.len() {
-        gathered(answer, gather_blocked_patches(alloc, array, widths, hint));
+        let hint = asked.count(1);
+        gathered(
+            answer,
+            gather_blocked_patches(asked.alloc, array, widths, hint),
+        );
     }
 }
 
-pub(crate) fn ask(
-    alloc: Global,
-    question: &[&str],
-    columns: &[PrimitiveArray],
-    answer: &mut Text,
-) -> bool {
-    match (question, columns) {
-        (["gather", width, hint], [array]) => {
-            let width = width_of(width);
-            gathered(answer, gather_patches(alloc, array, width, count(hint)));
+#[derive(Clone, Copy)]
+enum Question {
+    Gather,
+    GatherBlocked,
+}
+
+const QUESTIONS: &[(&str, Question)] = &[
+    ("gather", Question::Gather),
+    ("gather_blocked", Question::GatherBlocked),
+];
+
+pub(crate) fn ask(asked: Asked, answer: &mut Text) -> bool {
+    let Some(question) = named(QUESTIONS, asked.word(0)) else {
+        return false;
+    };
+    let (alloc, array, widths) = (asked.alloc, asked.column(0), asked.column(1));
+    match question {
+        Question::Gather => {
+            let width = width_of(asked.word(1));
+            gathered(answer, gather_patches(alloc, array, width, asked.count(2)));
         }
-        (["gather_blocked", hint], [array, widths]) => {
+        Question::GatherBlocked => {
             if widths.ptype() == PType::U8 {
-                let hint = count(hint);
-                gather_blocks(alloc, array, widths.as_slice::<u8>(), hint, answer);
+                gather_blocks(asked, array, widths.as_slice::<u8>(), answer);
             }
         }
-        _ => return false,
     }
     true
 }

@@ -5,9 +5,12 @@
 #![tactic(auto)]
 
 mod arrays;
+mod asked;
+mod axes;
 mod bits;
 mod blocks;
 mod columns;
+mod compress;
 mod containers;
 mod deltas;
 mod for_;
@@ -20,45 +23,72 @@ mod packing;
 mod parts;
 mod patches;
 mod plain;
+mod program;
 mod readers;
 mod runs;
+mod schemes;
 mod shown;
 mod text;
 mod types;
 mod widths;
 
+use crate::asked::Asked;
+use crate::axes::Axis;
 use crate::text::Text;
 use fl_column::PrimitiveArray;
 use std::alloc::Global;
 use std::{env, fs, io};
 
-/// Answers a question about columns.
-fn ask(alloc: Global, question: &[&str], columns: &[PrimitiveArray], answer: &mut Text) {
-    let known = arrays::ask(alloc, question, columns, answer)
-        || bits::ask(alloc, question, columns, answer)
-        || types::ask(alloc, question, columns, answer)
-        || for_::ask(alloc, question, columns, answer)
-        || deltas::ask(alloc, question, columns, answer)
-        || runs::ask(alloc, question, columns, answer)
-        || widths::ask(alloc, question, columns, answer)
-        || gathering::ask(alloc, question, columns, answer)
-        || patches::ask(alloc, question, columns, answer)
-        || blocks::ask(alloc, question, columns, answer)
-        || memory::ask(alloc, question, columns, answer)
-        || messages::ask(alloc, question, answer)
-        || containers::ask(alloc, question, answer)
-        || nodes::ask(alloc, question, columns, answer)
-        || packing::ask(alloc, question, columns, answer)
-        || plain::ask(alloc, question, columns, answer);
-    if !known {
+/// Answers a question of arrays, of calls, or of what is written.
+fn ask_arrays(asked: Asked, answer: &mut Text) -> bool {
+    arrays::ask(asked, answer)
+        || schemes::ask(asked, answer)
+        || compress::ask(asked, answer)
+        || memory::ask(asked, answer)
+        || program::ask(asked, answer)
+        || messages::ask(asked, answer)
+        || containers::ask(asked, answer)
+        || nodes::ask(asked, answer)
+}
+
+/// Answers a question of columns and their encodings.
+fn ask_columns(asked: Asked, answer: &mut Text) -> bool {
+    bits::ask(asked, answer)
+        || types::ask(asked, answer)
+        || for_::ask(asked, answer)
+        || deltas::ask(asked, answer)
+        || runs::ask(asked, answer)
+        || widths::ask(asked, answer)
+        || gathering::ask(asked, answer)
+        || patches::ask(asked, answer)
+        || blocks::ask(asked, answer)
+        || packing::ask(asked, answer)
+        || plain::ask(asked, answer)
+}
+
+/// Answers a question.
+fn ask(asked: Asked, answer: &mut Text) {
+    if !ask_arrays(asked, answer) && !ask_columns(asked, answer) {
         answer.word("no such question");
     }
 }
 
-/// Answers a question about columns that are still to be read.
-fn ask_of(alloc: Global, question: &[&str], columns: &[&str], answer: &mut Text) {
+/// Answers a question of columns.
+fn ask_of(alloc: Global, words: &[&str], columns: &[PrimitiveArray], answer: &mut Text) {
+    let none = PrimitiveArray::non_nullable(Vec::<u8>::new(alloc));
+    let asked = Asked {
+        alloc,
+        words,
+        columns,
+        none: &none,
+    };
+    ask(asked, answer);
+}
+
+/// Answers a question of columns that are still to be read.
+fn ask_unread(alloc: Global, words: &[&str], columns: &[&str], answer: &mut Text) {
     match columns::read_all(alloc, columns) {
-        Ok(columns) => ask(alloc, question, &columns, answer),
+        Ok(columns) => ask_of(alloc, words, &columns, answer),
         Err(refusal) => answer.refusal(refusal),
     }
 }
@@ -67,8 +97,9 @@ fn ask_of(alloc: Global, question: &[&str], columns: &[&str], answer: &mut Text)
 fn answer_parts(alloc: Global, parts: &[&str], answer: &mut Text) {
     if let [question, columns @ ..] = parts {
         if let Ok(words) = question.split_whitespace().collect::<Vec<&str>>(alloc) {
-            if !nodes::ask_faults(alloc, &words, columns, answer) {
-                ask_of(alloc, &words, columns, answer);
+            match words.as_slice() {
+                ["faults", node @ ..] => nodes::ask_faults(alloc, node, columns, answer),
+                words => ask_unread(alloc, words, columns, answer),
             }
         }
     }
@@ -95,15 +126,69 @@ fn holds(rt: &HostRuntime, row: &str) -> io::Result<bool> {
     Ok(true)
 }
 
-/// How many rows of a text hold.
-fn count_held(rt: &HostRuntime, text: &str) -> io::Result<u64> {
-    let mut held = 0u64;
-    for row in text.lines() {
-        if !row.is_empty() && !row.starts_with('#') && holds(rt, row)? {
-            held = held.saturating_add(1);
+/// How many rows were asked, and how many of them hold.
+#[derive(Clone, Copy)]
+struct Count {
+    asked: u64,
+    held: u64,
+}
+
+impl Count {
+    /// No rows.
+    const NONE: Count = Count { asked: 0, held: 0 };
+
+    /// With those of a line.
+    fn with(self, line: Count) -> Count {
+        Count {
+            asked: self.asked.saturating_add(line.asked),
+            held: self.held.saturating_add(line.held),
         }
     }
-    Ok(held)
+}
+
+/// Asks a row for each value of each axis that it has a name of.
+fn ask_each(rt: &HostRuntime, axes: &[Axis<'_>], line: &str) -> io::Result<Count> {
+    let mut rows = Vec::new(rt.alloc());
+    rows.push(String::from_str(rt.alloc(), line)?)?;
+    let mut count = Count::NONE;
+    for _ in 0..u64::MAX {
+        let Some(row) = rows.pop() else {
+            break;
+        };
+        match axes::axis_in(axes, row.as_str()) {
+            Some(axis) => axes::push_each(rt.alloc(), &mut rows, row.as_str(), axis)?,
+            None => {
+                let held = u64::from(holds(rt, row.as_str())?);
+                count = count.with(Count { asked: 1, held });
+            }
+        }
+    }
+    Ok(count)
+}
+
+/// Asks a line's rows, and says how many they are where the line has axes.
+fn ask_line(rt: &HostRuntime, axes: &[Axis<'_>], line: &str) -> io::Result<Count> {
+    let count = ask_each(rt, axes, line)?;
+    if count.asked != 1 {
+        let (name, _) = line.split_once(": ").unwrap_or(("", line));
+        let (asked, held) = (count.asked, count.held);
+        println!(rt; "{name}: {held} of {asked} rows hold")?;
+    }
+    Ok(count)
+}
+
+/// How many rows of a text hold.
+fn count_held(rt: &HostRuntime, text: &str) -> io::Result<u64> {
+    let mut axes = Vec::new(rt.alloc());
+    let mut count = Count::NONE;
+    for line in text.lines() {
+        if axes::is_axis(line) {
+            axes::read(rt.alloc(), &mut axes, line)?;
+        } else if !line.is_empty() && !line.starts_with('#') {
+            count = count.with(ask_line(rt, &axes, line)?);
+        }
+    }
+    Ok(count.held)
 }
 
 fn main(rt: HostRuntime) -> io::Result<()> {

@@ -8,15 +8,14 @@ mod encoder_calls;
 mod engine_calls;
 mod inputs;
 mod node_calls;
-mod outcome;
 mod owned_calls;
 mod packed_calls;
 mod reader_calls;
 
 use self::inputs::{Inputs, Owned};
-use self::outcome::Came;
+use crate::asked::Asked;
+use crate::shown::{Show, made};
 use crate::text::Text;
-use fl_column::PrimitiveArray;
 use std::alloc::Global;
 use vortex_fastlanes::FastLanesError;
 
@@ -29,12 +28,26 @@ fn mark(alloc: Global) {
     let _ = Vec::<u8>::with_capacity(alloc, MARK);
 }
 
-/// Makes a call by its name.
-fn call(alloc: Global, name: &str, words: &[&str], inputs: &Inputs, owned: Owned) -> Came {
-    if name.starts_with("new_") {
-        return owned_calls::call(alloc, name, words, owned);
+/// Ends a call, and adds what it gave.
+fn came<T: Show + Drop>(answer: &mut Text, given: Result<T, FastLanesError>) {
+    mark(answer.alloc());
+    made(answer, given);
+}
+
+/// Makes a call by its name, the first word.
+fn call(asked: Asked, inputs: &Inputs, owned: Owned, answer: &mut Text) {
+    if asked.word(0).starts_with("new_") {
+        return owned_calls::make(asked, owned, answer);
     }
-    array_calls::call(alloc, name, words, inputs)
+    let known = array_calls::make(asked, inputs, answer)
+        || packed_calls::make(asked, inputs, answer)
+        || column_calls::make(asked, inputs, answer)
+        || encoder_calls::make(asked, inputs, answer)
+        || bit_calls::make(asked, inputs, answer)
+        || node_calls::make(asked, inputs, answer);
+    if !known {
+        answer.word("no such call");
+    }
 }
 
 /// Whether both are there, and the same bytes.
@@ -46,20 +59,13 @@ fn are_same(old: &Result<Vec<u8>, FastLanesError>, new: &Result<Vec<u8>, FastLan
 }
 
 /// Answers what a call gives, and whether its inputs are what they were.
-fn answer_call(
-    alloc: Global,
-    words: (&str, &[&str]),
-    inputs: &Inputs,
-    owned: Owned,
-    answer: &mut Text,
-) {
+fn answer_call(asked: Asked, inputs: &Inputs, owned: Owned, answer: &mut Text) {
+    let alloc = asked.alloc;
     let (mut old, mut new) = (Text::new(alloc), Text::new(alloc));
     inputs.describe(&mut old);
     let old_bytes = inputs.stored(alloc);
     mark(alloc);
-    let came = call(alloc, words.0, words.1, inputs, owned);
-    mark(alloc);
-    outcome::show(alloc, &came, answer);
+    call(asked.with_columns(&inputs.columns), inputs, owned, answer);
     inputs.describe(&mut new);
     let new_bytes = inputs.stored(alloc);
     if old.as_str() != new.as_str() || !are_same(&old_bytes, &new_bytes) {
@@ -68,17 +74,9 @@ fn answer_call(
 }
 
 /// Answers what a call gives whose inputs are made of columns. Where these find no memory it isn't made.
-fn ask_call(
-    alloc: Global,
-    kind: &str,
-    words: (&str, &[&str]),
-    columns: &[PrimitiveArray],
-    answer: &mut Text,
-) {
-    let made = Inputs::make(alloc, kind, words, columns);
-    let owned = Owned::make(alloc, kind, words, columns);
-    match (made, owned) {
-        (Ok(inputs), Ok(owned)) => answer_call(alloc, words, &inputs, owned, answer),
+fn ask_call(asked: Asked, kind: &str, answer: &mut Text) {
+    match (Inputs::make(asked, kind), Owned::make(asked, kind)) {
+        (Ok(inputs), Ok(owned)) => answer_call(asked, &inputs, owned, answer),
         (Err(refusal), _) | (_, Err(refusal)) => {
             answer.word("set-up");
             answer.refusal(refusal);
@@ -87,17 +85,11 @@ fn ask_call(
 }
 
 /// Answers what a call gives on an array of a kind.
-fn ask_kind(
-    alloc: Global,
-    kind: &str,
-    words: (&str, &[&str]),
-    columns: &[PrimitiveArray],
-    answer: &mut Text,
-) {
-    match words.0 {
-        "flcol" => engine_calls::ask(alloc, kind, words.1, columns, answer),
-        "words" => engine_calls::ask_words(alloc, words.1, answer),
-        _ => ask_call(alloc, kind, words, columns, answer),
+fn ask_kind(asked: Asked, kind: &str, answer: &mut Text) {
+    match asked.word(0) {
+        "flcol" => engine_calls::ask(asked, kind, answer),
+        "words" => engine_calls::ask_words(asked.alloc, asked.words_from(1), answer),
+        _ => ask_call(asked, kind, answer),
     }
 }
 
@@ -125,17 +117,10 @@ fn without_kind(answer: &str) -> &str {
 }
 
 /// Adds what a call answers on an array of a kind, where it is not what was answered before.
-fn ask_again(
-    alloc: Global,
-    kind: &str,
-    words: (&str, &[&str]),
-    columns: &[PrimitiveArray],
-    before: &str,
-    answer: &mut Text,
-) {
-    let mut asked = Text::new(alloc);
-    ask_kind(alloc, kind, words, columns, &mut asked);
-    let after = without_kind(asked.as_str());
+fn ask_again(asked: Asked, kind: &str, before: &str, answer: &mut Text) {
+    let mut again = Text::new(asked.alloc);
+    ask_kind(asked, kind, &mut again);
+    let after = without_kind(again.as_str());
     if after != before {
         answer.word("but");
         answer.word(kind);
@@ -160,28 +145,21 @@ const KINDS: &[&str] = &[
 ];
 
 /// Answers what a call gives on an array of each kind: once, and again where a kind answers something else.
-fn ask_each(alloc: Global, words: (&str, &[&str]), columns: &[PrimitiveArray], answer: &mut Text) {
-    let mut first = Text::new(alloc);
-    ask_kind(alloc, "plain", words, columns, &mut first);
+fn ask_each(asked: Asked, answer: &mut Text) {
+    let mut first = Text::new(asked.alloc);
+    ask_kind(asked, "plain", &mut first);
     let before = without_kind(first.as_str());
     answer.word(before);
     for kind in KINDS {
-        ask_again(alloc, kind, words, columns, before, answer);
+        ask_again(asked, kind, before, answer);
     }
 }
 
-pub(crate) fn ask(
-    alloc: Global,
-    question: &[&str],
-    columns: &[PrimitiveArray],
-    answer: &mut Text,
-) -> bool {
-    let ["memory", kind, name, words @ ..] = question else {
-        return false;
-    };
-    match *kind {
-        "each" => ask_each(alloc, (*name, words), columns, answer),
-        _ => ask_kind(alloc, kind, (*name, words), columns, answer),
+pub(crate) fn ask(asked: Asked, answer: &mut Text) -> bool {
+    match (asked.word(0), asked.word(1)) {
+        ("memory", "each") => ask_each(asked.from(2), answer),
+        ("memory", kind) => ask_kind(asked.from(2), kind, answer),
+        _ => return false,
     }
     true
 }

@@ -1,6 +1,8 @@
 //! Metadata messages: what bytes say, and how it is written.
 
+use crate::asked::Asked;
 use crate::columns::type_of;
+use crate::names::named;
 use crate::text::Text;
 use fl_metadata::*;
 use fl_types::{FastLanesError, PType};
@@ -99,17 +101,48 @@ fn is_none(bytes: &[u8]) -> bool {
         && !is_message(bytes)
 }
 
+/// What bytes are asked.
+#[derive(Clone, Copy)]
+enum Question {
+    Any,
+    None,
+    BitPacked,
+    Blocked,
+    Patches,
+    ForChunked,
+    Delta,
+    Rle,
+}
+
+const QUESTIONS: &[(&str, Question)] = &[
+    ("any", Question::Any),
+    ("none", Question::None),
+    ("bit_packed", Question::BitPacked),
+    ("blocked", Question::Blocked),
+    ("patches", Question::Patches),
+    ("for_chunked", Question::ForChunked),
+    ("delta", Question::Delta),
+    ("rle", Question::Rle),
+];
+
+fn ask_message(alloc: Global, question: Question, bytes: &[u8], answer: &mut Text) {
+    match question {
+        Question::Any => answer.bool_answer(is_message(bytes)),
+        Question::None => answer.bool_answer(is_none(bytes)),
+        Question::BitPacked => bit_packed(alloc, bytes, answer),
+        Question::Blocked => blocked(alloc, bytes, answer),
+        Question::Patches => patches(alloc, bytes, answer),
+        Question::ForChunked => for_chunked(alloc, bytes, answer),
+        Question::Delta => delta(alloc, bytes, answer),
+        Question::Rle => rle(alloc, bytes, answer),
+    }
+}
+
+/// Answers what bytes say as a message of a kind, or as a scalar of a type.
 fn ask_of(alloc: Global, kind: &str, bytes: &[u8], answer: &mut Text) {
-    match kind {
-        "any" => answer.bool_answer(is_message(bytes)),
-        "none" => answer.bool_answer(is_none(bytes)),
-        "bit_packed" => bit_packed(alloc, bytes, answer),
-        "blocked" => blocked(alloc, bytes, answer),
-        "patches" => patches(alloc, bytes, answer),
-        "for_chunked" => for_chunked(alloc, bytes, answer),
-        "delta" => delta(alloc, bytes, answer),
-        "rle" => rle(alloc, bytes, answer),
-        _ => scalar(alloc, type_of(kind), bytes, answer),
+    match named(QUESTIONS, kind) {
+        Some(question) => ask_message(alloc, question, bytes, answer),
+        None => scalar(alloc, type_of(kind), bytes, answer),
     }
 }
 
@@ -123,14 +156,13 @@ fn bytes_of(alloc: Global, words: &[&str]) -> Result<Vec<u8>, FastLanesError> {
 }
 
 /// Answers what bytes say as a message of a kind.
-pub(crate) fn ask(alloc: Global, question: &[&str], answer: &mut Text) -> bool {
-    match question {
-        ["message", kind, bytes @ ..] => {
-            if let Ok(bytes) = bytes_of(alloc, bytes) {
-                ask_of(alloc, kind, &bytes, answer);
-            }
-            true
-        }
-        _ => false,
+pub(crate) fn ask(asked: Asked, answer: &mut Text) -> bool {
+    if asked.word(0) != "message" {
+        return false;
     }
+    match bytes_of(asked.alloc, asked.words_from(2)) {
+        Ok(bytes) => ask_of(asked.alloc, asked.word(1), &bytes, answer),
+        Err(refusal) => answer.refusal(refusal),
+    }
+    true
 }

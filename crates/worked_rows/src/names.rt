@@ -10,16 +10,13 @@ pub(crate) fn named<T: Copy>(table: &[(&str, T)], name: &str) -> Option<T> {
     None
 }
 
-/// What the first word of a question asks, if the table has it, and the words behind it.
-pub(crate) fn asked<'a, T: Copy>(
-    table: &[(&str, T)],
-    question: &'a [&'a str],
-) -> Option<(T, &'a [&'a str])> {
-    let [name, words @ ..] = question else {
-        return None;
-    };
-    match named(table, name) {
-        Some(asked) => Some((asked, words)),
-        None => None,
+/// The words before a separator and those behind it; where it doesn't stand there, none and all.
+pub(crate) fn split<'a>(words: &'a [&'a str], separator: &str) -> (&'a [&'a str], &'a [&'a str]) {
+    for i in 0..words.len() {
+        if words[i] == separator {
+            let (before, behind) = words.split_at(i);
+            return (before, behind.get(1..).unwrap_or(&[]));
+        }
     }
+    (&[], words)
 }

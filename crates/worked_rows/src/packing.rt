@@ -1,6 +1,8 @@
 //! Columns packed into bytes, and read back from them.
 
+use crate::asked::Asked;
 use crate::columns::{count, type_of};
+use crate::names::named;
 use crate::text::Text;
 use crate::{readers, shown};
 use fl_bitpacking::bitpack_decompress::{PackedColumn, unpack_block_item, unpack_global};
@@ -16,12 +18,6 @@ use vortex_fastlanes::{PhysicalPType, Work};
 /// A width of text.
 pub(crate) fn width_of(text: &str) -> u8 {
     u8::try_from(count(text)).unwrap_or(u8::MAX)
-}
-
-/// Adds bytes.
-pub(crate) fn show(answer: &mut Text, bytes: &[u8]) {
-    answer.word("u8");
-    shown::integers(answer, bytes);
 }
 
 /// The column of these parts at one width, which must fit each other.
@@ -46,28 +42,6 @@ fn unpack(
         }
     }
     unpack_global(alloc, column, width, &mut Work::new())
-}
-
-/// Adds the column of these parts, without patches.
-fn unpack_bytes<'a>(
-    alloc: Global,
-    bytes: &'a [u8],
-    validity: &'a Validity,
-    ptype: PType,
-    width: usize,
-    offset: usize,
-    len: usize,
-    answer: &mut Text,
-) {
-    let column = PackedColumn {
-        packed: bytes,
-        ptype,
-        validity,
-        patches: None,
-        offset,
-        len,
-    };
-    shown::made(answer, unpack(alloc, &column, width));
 }
 
 /// Adds an item of a packed column, read alone.
@@ -137,109 +111,115 @@ fn pack_into(array: &PrimitiveArray, width: u8, answer: &mut Text) {
     if size <= 1024 {
         let bytes = &mut room[..size];
         bitpack_into(array, width, bytes);
-        show(answer, bytes);
+        shown::bytes(answer, bytes);
     }
 }
 
-/// Adds what a question asks of packed bytes and their array.
-fn ask_packed(
-    alloc: Global,
-    question: &[&str],
-    array: &PrimitiveArray,
-    bytes: &[u8],
-    width: u8,
-    answer: &mut Text,
-) -> bool {
-    match question {
-        [] => show(answer, bytes),
-        ["patch"] => come_back(alloc, array, bytes, width, answer),
-        _ => return ask_bytes(alloc, question, bytes, answer),
-    }
-    true
-}
-
-/// Packs a column, and asks a question of its bytes.
-fn pack(
-    alloc: Global,
-    question: &[&str],
-    array: &PrimitiveArray,
-    width: u8,
-    answer: &mut Text,
-) -> bool {
-    if usize::from(width) > array.ptype().bit_width() {
-        return false;
-    }
-    match bitpack_unchecked(alloc, array, width) {
-        Ok(bytes) => ask_packed(alloc, question, array, bytes.as_slice(), width, answer),
-        Err(refusal) => {
-            answer.refusal(refusal);
-            true
+/// Adds what a question asks of packed bytes and of the first column, which they are made of.
+fn ask_packed(asked: Asked, bytes: &[u8], width: u8, answer: &mut Text) {
+    match asked.word(0) {
+        "" => shown::bytes(answer, bytes),
+        "patch" => come_back(asked.alloc, asked.column(0), bytes, width, answer),
+        _ => {
+            if !ask_bytes(asked, bytes, answer) {
+                answer.word("no such question");
+            }
         }
     }
 }
 
+/// Packs the first column, and asks a question of its bytes.
+fn pack(asked: Asked, width: u8, answer: &mut Text) {
+    let array = asked.column(0);
+    if usize::from(width) > array.ptype().bit_width() {
+        return;
+    }
+    match bitpack_unchecked(asked.alloc, array, width) {
+        Ok(bytes) => ask_packed(asked.from(2), bytes.as_slice(), width, answer),
+        Err(refusal) => answer.refusal(refusal),
+    }
+}
+
 /// Adds an item of bytes, by the name of its type.
-fn item_of(bytes: &[u8], name: &str, width: usize, index: usize, answer: &mut Text) {
+fn item_of(asked: Asked, bytes: &[u8], answer: &mut Text) {
+    let (name, width, index) = (asked.word(1), asked.count(2), asked.count(3));
     answer.word(name);
     match_each_integer_ptype!(type_of(name), item(bytes, width, index, answer));
 }
 
 /// Adds an item of a block's bytes, by the name of its type.
-fn block_item_of(bytes: &[u8], name: &str, width: usize, index: usize, answer: &mut Text) {
+fn block_item_of(asked: Asked, bytes: &[u8], answer: &mut Text) {
+    let (name, width, index) = (asked.word(1), asked.count(2), asked.count(3));
     answer.word(name);
     match_each_integer_ptype!(type_of(name), block_item(bytes, width, index, answer));
 }
 
-/// Adds the column of bytes, by the name of its type, without nulls.
-fn unpack_of(alloc: Global, bytes: &[u8], name: &str, numbers: [usize; 3], answer: &mut Text) {
-    let [width, offset, len] = numbers;
-    let (ptype, non_nullable) = (type_of(name), Validity::NonNullable);
-    unpack_bytes(
-        alloc,
-        bytes,
-        &non_nullable,
-        ptype,
-        width,
-        offset,
-        len,
-        answer,
-    );
+/// Adds the column of bytes, by the name of its type, under a validity.
+fn unpack_under<'a>(asked: Asked, bytes: &'a [u8], validity: &'a Validity, answer: &mut Text) {
+    let column = PackedColumn {
+        packed: bytes,
+        ptype: type_of(asked.word(1)),
+        validity,
+        patches: None,
+        offset: asked.count(3),
+        len: asked.count(4),
+    };
+    shown::made(answer, unpack(asked.alloc, &column, asked.count(2)));
 }
 
+/// Adds the column of bytes without nulls.
+fn unpack_of(asked: Asked, bytes: &[u8], answer: &mut Text) {
+    unpack_under(asked, bytes, &Validity::NonNullable, answer);
+}
+
+/// What may be asked of bytes.
+#[derive(Clone, Copy)]
+enum Question {
+    Item,
+    BlockItem,
+    Unpack,
+    Read,
+    Lend,
+    Counted,
+    Scratch,
+    Strategy,
+}
+
+const QUESTIONS: &[(&str, Question)] = &[
+    ("item", Question::Item),
+    ("block_item", Question::BlockItem),
+    ("unpack", Question::Unpack),
+    ("read", Question::Read),
+    ("lend", Question::Lend),
+    ("counted", Question::Counted),
+    ("scratch", Question::Scratch),
+    ("strategy", Question::Strategy),
+];
+
 /// Asks a question of bytes.
-fn ask_bytes(alloc: Global, question: &[&str], bytes: &[u8], answer: &mut Text) -> bool {
+fn ask_bytes(asked: Asked, bytes: &[u8], answer: &mut Text) -> bool {
+    let Some(question) = named(QUESTIONS, asked.word(0)) else {
+        return false;
+    };
     match question {
-        ["item", name, width, index] => item_of(bytes, name, count(width), count(index), answer),
-        ["block_item", name, width, index] => {
-            block_item_of(bytes, name, count(width), count(index), answer);
-        }
-        ["unpack", name, width, offset, len] => {
-            let numbers = [count(width), count(offset), count(len)];
-            unpack_of(alloc, bytes, name, numbers, answer);
-        }
-        _ => return readers::ask(alloc, question, bytes, answer),
+        Question::Item => item_of(asked, bytes, answer),
+        Question::BlockItem => block_item_of(asked, bytes, answer),
+        Question::Unpack => unpack_of(asked, bytes, answer),
+        Question::Read => readers::read_of(asked, bytes, answer),
+        Question::Lend => readers::lend_of(asked, bytes, answer),
+        Question::Counted => readers::counted(asked, bytes, answer),
+        Question::Scratch => readers::scratch(asked, bytes, answer),
+        Question::Strategy => readers::calls(asked, bytes, answer),
     }
     true
 }
 
-/// Asks a question of a column of bytes.
-fn ask_column(alloc: Global, question: &[&str], bytes: &PrimitiveArray, answer: &mut Text) -> bool {
-    bytes.ptype() == PType::U8 && ask_bytes(alloc, question, bytes.as_slice::<u8>(), answer)
-}
-
-pub(crate) fn ask(
-    alloc: Global,
-    question: &[&str],
-    columns: &[PrimitiveArray],
-    answer: &mut Text,
-) -> bool {
-    match (question, columns) {
-        (["pack", width, rest @ ..], [array]) => pack(alloc, rest, array, width_of(width), answer),
-        (["pack_into", width], [array]) => {
-            pack_into(array, width_of(width), answer);
-            true
-        }
-        (_, [bytes]) => ask_column(alloc, question, bytes, answer),
-        _ => false,
+pub(crate) fn ask(asked: Asked, answer: &mut Text) -> bool {
+    let array = asked.column(0);
+    match asked.word(0) {
+        "pack" => pack(asked, width_of(asked.word(1)), answer),
+        "pack_into" => pack_into(array, width_of(asked.word(1)), answer),
+        _ => return array.ptype() == PType::U8 && ask_bytes(asked, array.as_slice::<u8>(), answer),
     }
+    true
 }

@@ -1,7 +1,9 @@
 //! Patches: their parts, and the patches of selected items.
 
+use crate::asked::Asked;
 use crate::columns::{Made, count};
-use crate::shown;
+use crate::names::named;
+use crate::shown::{self, Show};
 use crate::text::Text;
 use fl_column::{PrimitiveArray, index_array};
 use fl_patches::Patches;
@@ -28,12 +30,12 @@ pub(crate) fn parts(answer: &mut Text, patches: &Patches) {
     }
 }
 
-/// Adds patches that were selected, or `none`, or why they were not.
-fn show(answer: &mut Text, selected: Selected) {
-    match selected {
-        Ok(Some(patches)) => parts(answer, &patches),
-        Ok(None) => answer.word("none"),
-        Err(refusal) => answer.refusal(refusal),
+impl Show for Option<Patches> {
+    fn show(&self, answer: &mut Text) {
+        match self {
+            Some(patches) => parts(answer, patches),
+            None => answer.word("none"),
+        }
     }
 }
 
@@ -136,7 +138,7 @@ pub(crate) fn ask_made(
     match made {
         Ok(Some(patches)) => {
             let left = select_all(alloc, patches, operations, indices, answer);
-            show(answer, left);
+            shown::made(answer, left);
         }
         Ok(None) => answer.word("none"),
         Err(refusal) => answer.refusal(refusal),
@@ -170,33 +172,20 @@ pub(crate) fn make_chunked(
 }
 
 /// Adds what operations select of patches of columns.
-fn ask_patches(
-    alloc: Global,
-    len: usize,
-    offset: usize,
-    operations: &[&str],
-    columns: &[PrimitiveArray],
-    answer: &mut Text,
-) {
-    if let [indices, values, taken @ ..] = columns {
-        let made = make(alloc, len, offset, indices, values, None);
-        ask_made(alloc, made.map(Some), operations, taken, answer);
-    }
+fn ask_patches(asked: Asked, answer: &mut Text) {
+    let (alloc, len, offset) = (asked.alloc, asked.count(1), asked.count(2));
+    let made = make(alloc, len, offset, asked.column(0), asked.column(1), None);
+    let taken = asked.columns_from(2);
+    ask_made(alloc, made.map(Some), asked.words_from(3), taken, answer);
 }
 
 /// The same with chunk offsets.
-fn ask_chunked(
-    alloc: Global,
-    len: usize,
-    offset: usize,
-    operations: &[&str],
-    columns: &[PrimitiveArray],
-    answer: &mut Text,
-) {
-    if let [indices, values, chunk_offsets, taken @ ..] = columns {
-        let made = make_chunked(alloc, len, offset, indices, values, chunk_offsets);
-        ask_made(alloc, made.map(Some), operations, taken, answer);
-    }
+fn ask_chunked(asked: Asked, answer: &mut Text) {
+    let (alloc, len, offset) = (asked.alloc, asked.count(1), asked.count(2));
+    let (indices, values) = (asked.column(0), asked.column(1));
+    let made = make_chunked(alloc, len, offset, indices, values, asked.column(2));
+    let taken = asked.columns_from(3);
+    ask_made(alloc, made.map(Some), asked.words_from(3), taken, answer);
 }
 
 /// The places 0 and 5 as indices, where this many are to be named.
@@ -208,23 +197,27 @@ fn two_places(alloc: Global, holds: usize) -> Made {
     index_array(alloc, places, holds)
 }
 
-pub(crate) fn ask(
-    alloc: Global,
-    question: &[&str],
-    columns: &[PrimitiveArray],
-    answer: &mut Text,
-) -> bool {
+#[derive(Clone, Copy)]
+enum Question {
+    Patches,
+    Chunked,
+    TwoPlaces,
+}
+
+const QUESTIONS: &[(&str, Question)] = &[
+    ("patches", Question::Patches),
+    ("chunked", Question::Chunked),
+    ("two_places", Question::TwoPlaces),
+];
+
+pub(crate) fn ask(asked: Asked, answer: &mut Text) -> bool {
+    let Some(question) = named(QUESTIONS, asked.word(0)) else {
+        return false;
+    };
     match question {
-        ["patches", len, offset, operations @ ..] => {
-            let (len, offset) = (count(len), count(offset));
-            ask_patches(alloc, len, offset, operations, columns, answer);
-        }
-        ["chunked", len, offset, operations @ ..] => {
-            let (len, offset) = (count(len), count(offset));
-            ask_chunked(alloc, len, offset, operations, columns, answer);
-        }
-        ["two_places", holds] => shown::made(answer, two_places(alloc, count(holds))),
-        _ => return false,
+        Question::Patches => ask_patches(asked, answer),
+        Question::Chunked => ask_chunked(asked, answer),
+        Question::TwoPlaces => shown::made(answer, two_places(asked.alloc, asked.count(1))),
     }
     true
 }

@@ -1,8 +1,11 @@
 //! Plain columns: how they are made and stored, and which positions they name.
 
-use crate::columns::{Made, count, type_of};
+use crate::asked::Asked;
+use crate::columns::{Made, type_of};
+use crate::names::named;
+use crate::shown::made;
 use crate::text::Text;
-use crate::{shown, types};
+use crate::types;
 use fl_column::PrimitiveArray;
 use fl_types::*;
 use std::alloc::Global;
@@ -40,35 +43,28 @@ fn reread(alloc: Global, array: &PrimitiveArray, ptype: PType) -> Made {
     copy.reinterpret_cast(alloc, ptype)
 }
 
-/// Answers with the positions that items name.
-fn positions(alloc: Global, array: &PrimitiveArray, len: usize, answer: &mut Text) {
-    match array.positions(alloc, len) {
-        Ok(positions) => show_positions(&positions, answer),
-        Err(refusal) => answer.refusal(refusal),
-    }
+#[derive(Clone, Copy)]
+enum Question {
+    Options,
+    Reread,
+    Positions,
 }
 
-fn show_positions(positions: &[Option<usize>], answer: &mut Text) {
-    for position in positions {
-        match position {
-            Some(position) => answer.item(Some(*position as i128)),
-            None => answer.item(None),
-        }
-    }
-}
+const QUESTIONS: &[(&str, Question)] = &[
+    ("options", Question::Options),
+    ("reread", Question::Reread),
+    ("positions", Question::Positions),
+];
 
-pub(crate) fn ask(
-    alloc: Global,
-    question: &[&str],
-    columns: &[PrimitiveArray],
-    answer: &mut Text,
-) -> bool {
-    match (question, columns) {
-        (["options"], [array]) => shown::made(answer, of_options(alloc, array)),
-        (["reread", name], [array]) => shown::made(answer, reread(alloc, array, type_of(name))),
-        (["positions", len], [array]) => positions(alloc, array, count(len), answer),
-        (["slots"], [array]) => shown::slots(answer, array),
-        _ => return false,
+pub(crate) fn ask(asked: Asked, answer: &mut Text) -> bool {
+    let Some(question) = named(QUESTIONS, asked.word(0)) else {
+        return false;
+    };
+    let (alloc, array) = (asked.alloc, asked.column(0));
+    match question {
+        Question::Options => made(answer, of_options(alloc, array)),
+        Question::Reread => made(answer, reread(alloc, array, type_of(asked.word(1)))),
+        Question::Positions => made(answer, array.positions(alloc, asked.count(1))),
     }
     true
 }

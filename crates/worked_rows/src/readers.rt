@@ -3,7 +3,8 @@
 ghost use Rattle.std.specs.Prelude.{◌≡◌, ◌≤◌, IfSome, IsTrue, Some, length};
 ghost use Rattle.fl_types.specs.Integers.{bits_of_type};
 
-use crate::columns::{count, type_of};
+use crate::asked::Asked;
+use crate::columns::type_of;
 use crate::shown;
 use crate::text::Text;
 use bytes::Bytes;
@@ -177,10 +178,10 @@ fn data_of(
 }
 
 /// Adds the parts that a reader of bytes lends, by the name of the items' type.
-fn lend_of(alloc: Global, bytes: &[u8], name: &str, numbers: [usize; 3], answer: &mut Text) {
-    let [width, offset, len] = numbers;
-    match data_of(alloc, bytes, width, offset) {
-        Ok(data) => match_each_integer_ptype!(type_of(name), lend(&data, len, answer)),
+pub(crate) fn lend_of(asked: Asked, bytes: &[u8], answer: &mut Text) {
+    let len = asked.count(4);
+    match data_of(asked.alloc, bytes, asked.count(2), asked.count(3)) {
+        Ok(data) => match_each_integer_ptype!(type_of(asked.word(1)), lend(&data, len, answer)),
         Err(refusal) => answer.refusal(refusal),
     }
 }
@@ -225,7 +226,8 @@ fn lend_parts(chunks: &mut BitUnpackedChunks<'_, u8>) -> u64 {
 }
 
 /// Adds how many blocks a reader has unpacked when it has lent its parts, and when it has lent them again.
-fn counted(bytes: &[u8], width: usize, first: usize, len: usize, answer: &mut Text) {
+pub(crate) fn counted(asked: Asked, bytes: &[u8], answer: &mut Text) {
+    let (width, first, len) = (asked.count(1), asked.count(2), asked.count(3));
     if width > 8 {
         return;
     }
@@ -247,7 +249,8 @@ fn counted(bytes: &[u8], width: usize, first: usize, len: usize, answer: &mut Te
 
 /// Adds what a reader answers whose scratch block is all sevens, and what its scratch block then has; for
 /// either reader.
-fn scratch(bytes: &[u8], width: usize, first: usize, len: usize, answer: &mut Text) {
+pub(crate) fn scratch(asked: Asked, bytes: &[u8], answer: &mut Text) {
+    let (width, first, len) = (asked.count(1), asked.count(2), asked.count(3));
     if width > 8 {
         return;
     }
@@ -304,64 +307,27 @@ fn lend_counted(chunks: &mut CountedChunks<'_, '_>, calls: &Cell<usize>, answer:
 
 /// Adds how often a reader has called its strategy when it has written all items, at most 1024, and
 /// when it lends them.
-fn calls(
-    bytes: &[u8],
-    width: usize,
-    offset: usize,
-    len: usize,
-    calls: &Cell<usize>,
-    answer: &mut Text,
-) {
+pub(crate) fn calls(asked: Asked, bytes: &[u8], answer: &mut Text) {
+    let (width, offset, len) = (asked.count(1), asked.count(2), asked.count(3));
     if width > 8 || len > 1024 {
         return;
     }
+    let calls = Cell::new(0);
     let (mut scratch, mut room) = ([0u8; FL_CHUNK_SIZE], [0u8; 1024]);
-    let strategy = CountingStrategy { calls };
+    let strategy = CountingStrategy { calls: &calls };
     match UnpackedChunks::try_new_with_strategy(strategy, bytes, width, offset, len, &mut scratch) {
         Ok(mut chunks) => {
             chunks.decode_into(&mut room[..len]);
-            lend_counted(&mut chunks, calls, answer);
+            lend_counted(&mut chunks, &calls, answer);
         }
         Err(refusal) => answer.refusal(refusal),
     }
 }
 
 /// Adds all items that are read from bytes, by the name of their type.
-fn read_of(bytes: &[u8], name: &str, numbers: [usize; 3], answer: &mut Text) {
-    let [width, offset, len] = numbers;
+pub(crate) fn read_of(asked: Asked, bytes: &[u8], answer: &mut Text) {
+    let (name, width, offset) = (asked.word(1), asked.count(2), asked.count(3));
+    let len = asked.count(4);
     answer.word(name);
     match_each_integer_ptype!(type_of(name), read(bytes, width, offset, len, answer));
-}
-
-/// Asks a question of a reader of bytes with this width, offset and length.
-fn ask_reader(asked: &str, bytes: &[u8], numbers: [usize; 3], answer: &mut Text) -> bool {
-    let [width, offset, len] = numbers;
-    match asked {
-        "counted" => counted(bytes, width, offset, len, answer),
-        "scratch" => scratch(bytes, width, offset, len, answer),
-        "strategy" => calls(bytes, width, offset, len, &Cell::new(0), answer),
-        _ => return false,
-    }
-    true
-}
-
-/// Asks a question of bytes.
-pub(crate) fn ask(alloc: Global, question: &[&str], bytes: &[u8], answer: &mut Text) -> bool {
-    match question {
-        ["read", name, width, offset, len] => {
-            let numbers = [count(width), count(offset), count(len)];
-            read_of(bytes, name, numbers, answer);
-            true
-        }
-        ["lend", name, width, offset, len] => {
-            let numbers = [count(width), count(offset), count(len)];
-            lend_of(alloc, bytes, name, numbers, answer);
-            true
-        }
-        [asked, width, offset, len] => {
-            let numbers = [count(width), count(offset), count(len)];
-            ask_reader(asked, bytes, numbers, answer)
-        }
-        _ => false,
-    }
 }

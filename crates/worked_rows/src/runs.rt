@@ -1,7 +1,9 @@
 //! Runs: columns as the items of each chunk that differ from the one before, and for each position
 //! the number of its run.
 
-use crate::columns::{Made, count};
+use crate::asked::Asked;
+use crate::columns::Made;
+use crate::names::named;
 use crate::parts::{back, part};
 use crate::shown;
 use crate::text::Text;
@@ -40,34 +42,6 @@ fn show(alloc: Global, runs: &Runs, array: &PrimitiveArray, answer: &mut Text) {
     back(answer, part_of(alloc, runs, 0, array.len()), array);
 }
 
-/// Answers a question about the runs of a column.
-fn ask_runs(
-    alloc: Global,
-    question: &[&str],
-    runs: &Runs,
-    array: &PrimitiveArray,
-    answer: &mut Text,
-) -> bool {
-    match question {
-        ["rle"] => show(alloc, runs, array, answer),
-        ["rle_slots"] => shown::slots(answer, &runs.indices),
-        ["rle_part", offset, len] => {
-            shown::made(answer, part_of(alloc, runs, count(offset), count(len)));
-        }
-        _ => return false,
-    }
-    true
-}
-
-/// Answers a question about one column, if it is about its runs.
-fn ask_one(alloc: Global, question: &[&str], array: &PrimitiveArray, answer: &mut Text) -> bool {
-    match rle::encode(alloc, array) {
-        Ok(runs) => return ask_runs(alloc, question, &runs, array, answer),
-        Err(refusal) => answer.refusal(refusal),
-    }
-    true
-}
-
 /// Adds the column that was made, or whether it is the one that was wanted.
 fn compare(answer: &mut Text, made: Made, wanted: &[PrimitiveArray]) {
     match wanted {
@@ -77,25 +51,55 @@ fn compare(answer: &mut Text, made: Made, wanted: &[PrimitiveArray]) {
 }
 
 /// Unrolls run values, indices and run offsets, which a wanted column may follow.
-fn unroll(alloc: Global, columns: &[PrimitiveArray], offset: usize, len: usize, answer: &mut Text) {
-    if let [values, indices, offsets, wanted @ ..] = columns {
-        let made = unrolled(alloc, values, indices, offsets, offset, len);
-        compare(answer, made, wanted);
+fn unroll(asked: Asked, answer: &mut Text) {
+    let (offset, len) = (asked.count(1), asked.count(2));
+    let (values, indices) = (asked.column(0), asked.column(1));
+    let made = unrolled(asked.alloc, values, indices, asked.column(2), offset, len);
+    compare(answer, made, asked.columns_from(3));
+}
+
+#[derive(Clone, Copy)]
+enum Question {
+    Parts,
+    Slots,
+    Part,
+    Unroll,
+}
+
+const QUESTIONS: &[(&str, Question)] = &[
+    ("rle", Question::Parts),
+    ("rle_slots", Question::Slots),
+    ("rle_part", Question::Part),
+    ("unroll", Question::Unroll),
+];
+
+/// Answers a question about the runs of a column.
+fn ask_runs(asked: Asked, question: Question, runs: &Runs, answer: &mut Text) {
+    match question {
+        Question::Slots => shown::slots(answer, &runs.indices),
+        Question::Part => {
+            let made = part_of(asked.alloc, runs, asked.count(1), asked.count(2));
+            shown::made(answer, made);
+        }
+        _ => show(asked.alloc, runs, asked.column(0), answer),
     }
 }
 
-pub(crate) fn ask(
-    alloc: Global,
-    question: &[&str],
-    columns: &[PrimitiveArray],
-    answer: &mut Text,
-) -> bool {
-    match (question, columns) {
-        (["rle" | "rle_slots" | "rle_part", ..], [array]) => {
-            return ask_one(alloc, question, array, answer);
-        }
-        (["unroll", offset, len], _) => unroll(alloc, columns, count(offset), count(len), answer),
-        _ => return false,
+/// Answers a question about the runs of the first column.
+fn ask_column(asked: Asked, question: Question, answer: &mut Text) {
+    match rle::encode(asked.alloc, asked.column(0)) {
+        Ok(runs) => ask_runs(asked, question, &runs, answer),
+        Err(refusal) => answer.refusal(refusal),
+    }
+}
+
+pub(crate) fn ask(asked: Asked, answer: &mut Text) -> bool {
+    let Some(question) = named(QUESTIONS, asked.word(0)) else {
+        return false;
+    };
+    match question {
+        Question::Unroll => unroll(asked, answer),
+        _ => ask_column(asked, question, answer),
     }
     true
 }

@@ -1,8 +1,23 @@
 //! Text of columns and values.
 
 use crate::text::Text;
+use bytes::Bytes;
 use fl_column::{BoolArray, PrimitiveArray};
 use fl_types::*;
+
+/// What an answer can show.
+pub(crate) trait Show {
+    /// Adds this to an answer.
+    fn show(&self, answer: &mut Text);
+}
+
+/// Adds what was made, or why nothing was.
+pub(crate) fn made<T: Show + Drop>(answer: &mut Text, made: Result<T, FastLanesError>) {
+    match made {
+        Ok(value) => value.show(answer),
+        Err(refusal) => answer.refusal(refusal),
+    }
+}
 
 /// The integer that a value is.
 pub(crate) fn integer(value: PValue) -> i128 {
@@ -60,14 +75,6 @@ pub(crate) fn column(answer: &mut Text, array: &PrimitiveArray) {
     }
 }
 
-/// Adds a column that was made, or why none was.
-pub(crate) fn made(answer: &mut Text, made: Result<PrimitiveArray, FastLanesError>) {
-    match made {
-        Ok(array) => column(answer, &array),
-        Err(refusal) => answer.refusal(refusal),
-    }
-}
-
 /// Adds integers.
 pub(crate) fn integers<T: NativePType>(answer: &mut Text, integers: &[T]) {
     for integer in integers {
@@ -97,17 +104,111 @@ pub(crate) fn bools(answer: &mut Text, array: &BoolArray) {
     }
 }
 
-/// Adds booleans that were made, or why none were.
-pub(crate) fn made_bools(answer: &mut Text, made: Result<BoolArray, FastLanesError>) {
-    match made {
-        Ok(array) => bools(answer, &array),
-        Err(refusal) => answer.refusal(refusal),
-    }
-}
-
 /// Adds bits, as 1 and 0.
 pub(crate) fn bits(answer: &mut Text, bits: &BitList) {
     for i in 0..bits.len() {
         answer.item(Some(i128::from(bits.get(i))));
+    }
+}
+
+/// Adds bytes, as a column of them.
+pub(crate) fn bytes(answer: &mut Text, bytes: &[u8]) {
+    answer.word("u8");
+    integers(answer, bytes);
+}
+
+impl Show for PrimitiveArray {
+    fn show(&self, answer: &mut Text) {
+        column(answer, self);
+    }
+}
+
+impl Show for (PrimitiveArray, PrimitiveArray) {
+    fn show(&self, answer: &mut Text) {
+        column(answer, &self.0);
+        answer.word("|");
+        column(answer, &self.1);
+    }
+}
+
+impl Show for BoolArray {
+    fn show(&self, answer: &mut Text) {
+        bools(answer, self);
+    }
+}
+
+impl Show for BitList {
+    fn show(&self, answer: &mut Text) {
+        bits(answer, self);
+    }
+}
+
+impl Show for Validity {
+    fn show(&self, answer: &mut Text) {
+        match self {
+            Validity::Array(valid) => bits(answer, valid),
+            validity => answer.debug(validity),
+        }
+    }
+}
+
+impl Show for Mask {
+    fn show(&self, answer: &mut Text) {
+        match self {
+            Mask::Values(kept) => bits(answer, kept),
+            mask => answer.debug(mask),
+        }
+    }
+}
+
+impl Show for Scalar {
+    fn show(&self, answer: &mut Text) {
+        scalar(answer, *self);
+    }
+}
+
+impl Show for bool {
+    fn show(&self, answer: &mut Text) {
+        answer.bool_answer(*self);
+    }
+}
+
+impl Show for u8 {
+    fn show(&self, answer: &mut Text) {
+        answer.count(usize::from(*self));
+    }
+}
+
+impl Show for usize {
+    fn show(&self, answer: &mut Text) {
+        answer.count(*self);
+    }
+}
+
+impl Show for Vec<usize> {
+    fn show(&self, answer: &mut Text) {
+        for number in self {
+            answer.item(Some(*number as i128));
+        }
+    }
+}
+
+impl Show for Vec<Option<usize>> {
+    fn show(&self, answer: &mut Text) {
+        for position in self {
+            answer.item(position.map(|position| position as i128));
+        }
+    }
+}
+
+impl Show for Vec<u8> {
+    fn show(&self, answer: &mut Text) {
+        bytes(answer, self);
+    }
+}
+
+impl Show for Bytes {
+    fn show(&self, answer: &mut Text) {
+        bytes(answer, self.as_slice());
     }
 }

@@ -47,6 +47,7 @@ impl Run {
 /// What a row answers, by its pieces. It lacks those that memory was refused for.
 #[derive(Drop)]
 pub(crate) struct Text {
+    alloc: Global,
     text: String,
     run: Option<Run>,
 }
@@ -54,9 +55,15 @@ pub(crate) struct Text {
 impl Text {
     pub(crate) fn new(alloc: Global) -> Text {
         Text {
+            alloc,
             text: String::new(alloc),
             run: None,
         }
+    }
+
+    /// The allocator that it grows by.
+    pub(crate) fn alloc(&self) -> Global {
+        self.alloc
     }
 
     /// The whole text.

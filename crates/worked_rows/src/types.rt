@@ -3,7 +3,9 @@
 ghost use Rattle.std.specs.Prelude.{◌≡◌};
 ghost use Rattle.fl_types.specs.Values.{ptype_of_value};
 
-use crate::columns::{count, dtype_of, number};
+use crate::asked::Asked;
+use crate::columns::{dtype_of, number};
+use crate::names::named;
 use crate::text::Text;
 use crate::{bits, shown};
 use fl_column::PrimitiveArray;
@@ -204,61 +206,68 @@ fn show_scalar(answer: &mut Text, scalar: Scalar) {
 }
 
 /// Answers a question of the validity of a column, or of those of two.
-fn ask_validity(
-    alloc: Global,
-    question: &[&str],
-    left: &PrimitiveArray,
-    right: &PrimitiveArray,
-    answer: &mut Text,
-) {
-    let validity = left.validity();
-    match question {
-        ["slice", start, end, len] => {
-            let part = cut(alloc, left, count(start), count(end));
-            made_validity(part, count(len), answer);
+fn ask_validity(asked: Asked, left: &PrimitiveArray, right: &PrimitiveArray, answer: &mut Text) {
+    let (alloc, validity) = (asked.alloc, left.validity());
+    match asked.word(1) {
+        "slice" => {
+            let part = cut(alloc, left, asked.count(2), asked.count(3));
+            made_validity(part, asked.count(4), answer);
         }
-        ["copy", len] => made_validity(validity.try_clone(alloc), count(len), answer),
-        [question] => compare(question, validity, right.validity(), answer),
-        _ => answer.word("no such question"),
+        "copy" => made_validity(validity.try_clone(alloc), asked.count(2), answer),
+        question => compare(question, validity, right.validity(), answer),
     }
 }
 
-/// Answers a question of the masks, the validities or the stored integers of two columns.
-fn ask_two(
-    alloc: Global,
-    question: &[&str],
-    left: &PrimitiveArray,
-    right: &PrimitiveArray,
-    answer: &mut Text,
-) -> bool {
-    match question {
-        ["mask", question] => match mask_of(alloc, left) {
-            Ok(mask) => ask_mask(alloc, question, &mask, right, answer),
-            Err(refusal) => answer.refusal(refusal),
-        },
-        ["slots", question] => match slots_of(alloc, left) {
-            Ok(slots) => compare_made(question, &slots, slots_of(alloc, right), answer),
-            Err(refusal) => answer.refusal(refusal),
-        },
-        ["validity", question @ ..] => ask_validity(alloc, question, left, right, answer),
-        _ => return false,
+/// Answers a question of the masks of two columns.
+fn ask_masks(asked: Asked, left: &PrimitiveArray, right: &PrimitiveArray, answer: &mut Text) {
+    match mask_of(asked.alloc, left) {
+        Ok(mask) => ask_mask(asked.alloc, asked.word(1), &mask, right, answer),
+        Err(refusal) => answer.refusal(refusal),
     }
-    true
 }
+
+/// Answers with the stored integers of a column, or a question of those of two.
+fn ask_slots(asked: Asked, left: &PrimitiveArray, right: &PrimitiveArray, answer: &mut Text) {
+    if asked.word(1).is_empty() {
+        return shown::slots(answer, left);
+    }
+    match slots_of(asked.alloc, left) {
+        Ok(slots) => {
+            compare_made(asked.word(1), &slots, slots_of(asked.alloc, right), answer);
+        }
+        Err(refusal) => answer.refusal(refusal),
+    }
+}
+
+#[derive(Clone, Copy)]
+enum Question {
+    Refusal,
+    Scalar,
+    Mask,
+    Slots,
+    Validity,
+}
+
+const QUESTIONS: &[(&str, Question)] = &[
+    ("refusal", Question::Refusal),
+    ("scalar", Question::Scalar),
+    ("mask", Question::Mask),
+    ("slots", Question::Slots),
+    ("validity", Question::Validity),
+];
 
 /// Answers a question of values. Where there is one column, it stands for both.
-pub(crate) fn ask(
-    alloc: Global,
-    question: &[&str],
-    columns: &[PrimitiveArray],
-    answer: &mut Text,
-) -> bool {
-    match (question, columns) {
-        (["refusal", number], []) => refusal(REFUSALS, count(number), answer),
-        (["scalar", name, item], []) => show_scalar(answer, scalar_of(name, item)),
-        (_, [only]) => return ask_two(alloc, question, only, only, answer),
-        (_, [left, right]) => return ask_two(alloc, question, left, right, answer),
-        _ => return false,
+pub(crate) fn ask(asked: Asked, answer: &mut Text) -> bool {
+    let Some(question) = named(QUESTIONS, asked.word(0)) else {
+        return false;
+    };
+    let (left, right) = (asked.column(0), asked.last_column());
+    match question {
+        Question::Refusal => refusal(REFUSALS, asked.count(1), answer),
+        Question::Scalar => show_scalar(answer, scalar_of(asked.word(1), asked.word(2))),
+        Question::Mask => ask_masks(asked, left, right, answer),
+        Question::Slots => ask_slots(asked, left, right, answer),
+        Question::Validity => ask_validity(asked, left, right, answer),
     }
     true
 }

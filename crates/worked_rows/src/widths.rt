@@ -3,9 +3,11 @@
 ghost use Rattle.std.specs.Prelude.{◌≡◌, IfSome};
 ghost use Rattle.fl_patches.specs.Costs.{count_above};
 
+use crate::asked::Asked;
 use crate::columns::type_of;
+use crate::names::named;
 use crate::packing::width_of;
-use crate::shown;
+use crate::shown::{self, Show, made};
 use crate::text::Text;
 use fl_column::PrimitiveArray;
 use fl_types::*;
@@ -48,80 +50,54 @@ fn exceptions(width: u8, histogram: &[usize], answer: &mut Text) {
     }
 }
 
-fn best_width(ptype: PType, histogram: &[usize], answer: &mut Text) {
-    match find_best_bit_width(ptype, histogram) {
-        Ok(width) => answer.item(Some(i128::from(width))),
+/// Answers with the exceptions above a width, of a histogram whose entries are a column.
+fn exceptions_of(asked: Asked, width: u8, answer: &mut Text) {
+    match entries(asked.alloc, asked.column(0)) {
+        Ok(histogram) => exceptions(width, &histogram, answer),
         Err(refusal) => answer.refusal(refusal),
     }
 }
 
-/// Answers a question about a histogram.
-fn ask_entries(question: &[&str], histogram: &[usize], answer: &mut Text) -> bool {
+/// The width of least cost, by a histogram whose entries are a column.
+fn best_width(asked: Asked, ptype: PType) -> Result<u8, FastLanesError> {
+    let histogram = entries(asked.alloc, asked.column(0))?;
+    find_best_bit_width(ptype, &histogram)
+}
+
+/// The widths of blocks, and how many exceptions they leave.
+impl Show for (Vec<u8>, usize) {
+    fn show(&self, answer: &mut Text) {
+        shown::integers(answer, self.0.as_slice());
+        answer.word("|");
+        answer.count(self.1);
+    }
+}
+
+#[derive(Clone, Copy)]
+enum Question {
+    Histogram,
+    BestWidths,
+    BestWidth,
+    Exceptions,
+}
+
+const QUESTIONS: &[(&str, Question)] = &[
+    ("histogram", Question::Histogram),
+    ("best_widths", Question::BestWidths),
+    ("best_width", Question::BestWidth),
+    ("exceptions", Question::Exceptions),
+];
+
+pub(crate) fn ask(asked: Asked, answer: &mut Text) -> bool {
+    let Some(question) = named(QUESTIONS, asked.word(0)) else {
+        return false;
+    };
+    let (alloc, array) = (asked.alloc, asked.column(0));
     match question {
-        ["best_width", name] => best_width(type_of(name), histogram, answer),
-        ["exceptions", width] => {
-            exceptions(width_of(width), histogram, answer);
-        }
-        _ => return false,
-    }
-    true
-}
-
-/// Answers a question about a histogram, whose entries are a column.
-fn ask_histogram(
-    alloc: Global,
-    question: &[&str],
-    numbers: &PrimitiveArray,
-    answer: &mut Text,
-) -> bool {
-    match entries(alloc, numbers) {
-        Ok(histogram) => return ask_entries(question, &histogram, answer),
-        Err(refusal) => answer.refusal(refusal),
-    }
-    true
-}
-
-/// Adds the entries of a histogram.
-fn show_entries(answer: &mut Text, histogram: &[usize]) {
-    for i in 0..histogram.len() {
-        answer.item(Some(histogram[i] as i128));
-    }
-}
-
-fn histogram(alloc: Global, array: &PrimitiveArray, answer: &mut Text) {
-    match bit_width_histogram(alloc, array) {
-        Ok(histogram) => show_entries(answer, &histogram),
-        Err(refusal) => answer.refusal(refusal),
-    }
-}
-
-/// Adds the widths of blocks, and how many exceptions they leave.
-fn show_widths(answer: &mut Text, widths: &[u8], exceptions: usize) {
-    shown::integers(answer, widths);
-    answer.word("|");
-    answer.count(exceptions);
-}
-
-fn best_widths(alloc: Global, array: &PrimitiveArray, answer: &mut Text) {
-    match find_best_bit_widths(alloc, array) {
-        Ok((widths, exceptions)) => show_widths(answer, &widths, exceptions),
-        Err(refusal) => answer.refusal(refusal),
-    }
-}
-
-pub(crate) fn ask(
-    alloc: Global,
-    question: &[&str],
-    columns: &[PrimitiveArray],
-    answer: &mut Text,
-) -> bool {
-    match (question, columns) {
-        (["histogram"], [array]) => histogram(alloc, array, answer),
-        (["best_widths"], [array]) => best_widths(alloc, array, answer),
-        (["best_width" | "exceptions", _], [numbers]) => {
-            return ask_histogram(alloc, question, numbers, answer);
-        }
-        _ => return false,
+        Question::Histogram => made(answer, bit_width_histogram(alloc, array)),
+        Question::BestWidths => made(answer, find_best_bit_widths(alloc, array)),
+        Question::BestWidth => made(answer, best_width(asked, type_of(asked.word(1)))),
+        Question::Exceptions => exceptions_of(asked, width_of(asked.word(1)), answer),
     }
     true
 }

@@ -1,4 +1,4 @@
-//! What the kernels on delta blocks and on runs rest on: each law is the contract of a small function.
+//! Laws of delta blocks and of runs: each is the contract of a small function.
 #![tactic(auto)]
 
 ghost use Rattle.std.specs.Prelude.{◌≡◌, ℕ, ◌+◌, ◌^◌, ◌<◌, ◌≤◌};
@@ -14,7 +14,7 @@ pub fn one_transposition<W: FastLanes>()
     ensures stored { (item stored other : ℕ → ℕ) → Transposed W.T W.LANES item stored → Transposed W.T W.LANES item other → (i : ℕ) → i < 1024 → stored i ≡ other i }
 {}
 
-/// The deltas of items sum to the items, and the items that deltas sum to have these deltas, whatever the bases.
+/// The deltas of items add up to the items, and the sums of deltas have these deltas, for any bases.
 pub fn sums_and_differences<W: FastLanes>()
     ensures sums { (base item delta : ℕ → ℕ) → ((m : ℕ) → m < W.LANES → base m < 2 ^ W.T)
         → ((s m : ℕ) → s < W.T → m < W.LANES → item (place s m) < 2 ^ W.T)
@@ -26,7 +26,7 @@ pub fn sums_and_differences<W: FastLanes>()
         → (r l : ℕ) → r < W.T → l < W.LANES → item_delta W.T base item r l ≡ delta (place r l) }
 {}
 
-/// Positions of one run hold one item. The first run is run 0, and the next position's run is the same or the next.
+/// All positions of a run hold one item. The first run is run 0, and a position's run is that of the position before it or the next one.
 pub fn runs_hold_one_item()
     ensures same { (item : ℕ → ℕ) (q p : ℕ) → q ≤ p → changes item q ≡ changes item p → item q ≡ item p }
     ensures first { (item : ℕ → ℕ) → changes item 0 ≡ 0 }
@@ -34,7 +34,7 @@ pub fn runs_hold_one_item()
     ensures grows { (item : ℕ → ℕ) (q p : ℕ) → q ≤ p → changes item q ≤ changes item p }
 {}
 
-/// Where each value is the item of its run and each index names its position's run, the values that
+/// If each value is the item of its run and each index names its position's run, the values that
 /// the indices name are the items.
 pub fn runs_give_items()
     ensures { (item value index decoded : ℕ → ℕ) → ((q : ℕ) → q < 1024 → value (changes item q) ≡ item q)

@@ -1,4 +1,4 @@
-//! Encoding and then decoding returns the input. The laws behind this, over the definitions alone, stand in `laws::kernels`.
+//! Encoding and then decoding returns the input. `laws::kernels` has the underlying laws, about the definitions alone.
 #![tactic(auto)]
 
 ghost use Rattle.std.specs.Prelude.{◌≡◌, ℕ, ◌<◌, length, slice_index};
@@ -39,7 +39,7 @@ pub fn untranspose_and_back<W: FastLanes>(
     transpose(items, back);
 }
 
-/// `undelta` undoes `delta`, whatever the bases.
+/// `undelta` undoes `delta`, for any bases.
 pub fn delta_and_back<W: FastLanes>(
     items: &[W; FL_CHUNK_SIZE],
     bases: &[W],
@@ -56,7 +56,7 @@ pub fn delta_and_back<W: FastLanes>(
     undelta(deltas, bases, back);
 }
 
-/// `delta` undoes `undelta`, whatever the bases.
+/// `delta` undoes `undelta`, for any bases.
 pub fn undelta_and_back<W: FastLanes>(
     deltas: &[W; FL_CHUNK_SIZE],
     bases: &[W],

@@ -14,12 +14,11 @@ use fl_column::{FastLanesError, Scalar};
 use std::alloc::Global;
 
 impl ArrayRef {
-    /// The item at an index, as `scalar_at` reads it, and what was read of the packed bytes for it where the
-    /// array is bit-packed: no block is unpacked, and at most two words are read. Of other kinds the count says
-    /// nothing.
+    /// The item at an index, as by `scalar_at`, and what was read of the packed bytes for it if the array is
+    /// bit-packed: no block is unpacked, and at most two words are read. For other kinds the count says nothing.
     ///
     /// # Errors
-    /// None but `OutOfMemory`, and only where the array is or holds a delta array.
+    /// Only `OutOfMemory`, and only if the array is or holds a delta array.
     pub fn scalar_at_counted(
         &self,
         alloc: Global,

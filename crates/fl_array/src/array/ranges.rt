@@ -1,4 +1,4 @@
-//! Every item of an array lies in the range of the column's type.
+//! Every item of an array is in the range of the column's type.
 
 ghost use Rattle.std.specs.Prelude.{◌≡◌, IfSome, IsTrue};
 ghost use Rattle.std.specs.List.{list_all};
@@ -83,7 +83,7 @@ fn prove_patches_in_range(patches: Option<&Patches>)
 }
 
 impl BitPackedArray {
-    /// Every item lies in the range of the column's type.
+    /// Every item is in the range of the column's type.
     #[tactic(auto, using(crate::proofs::RangeLaws::bitpacked_fits))]
     pub fn prove_in_range(&self)
         ensures { IsTrue (items_fit (column (tree_of_bitpacked self.now))) }
@@ -95,7 +95,7 @@ impl BitPackedArray {
 }
 
 impl FoRArray {
-    /// Every item lies in the range of the column's type.
+    /// Every item is in the range of the column's type.
     #[tactic(auto, using(crate::proofs::RangeLaws::for_fits))]
     pub fn prove_in_range(&self)
         ensures { IsTrue (items_fit (column (tree_of_for self.now))) }
@@ -105,7 +105,7 @@ impl FoRArray {
 }
 
 impl DeltaArray {
-    /// Every item lies in the range of the column's type.
+    /// Every item is in the range of the column's type.
     #[tactic(auto, using(crate::proofs::RangeLaws::delta_array_fits))]
     pub fn prove_in_range(&self)
         ensures { IsTrue (items_fit (column (tree_of_delta self.now))) }
@@ -126,7 +126,7 @@ impl RLEArray {
 }
 
 impl ArrayRef {
-    /// Every item lies in the range of the column's type.
+    /// Every item is in the range of the column's type.
     pub fn prove_in_range(&self)
         ensures { IsTrue (items_fit (column self.now)) }
     {

@@ -1,4 +1,4 @@
-//! What bit-packed arrays show of themselves.
+//! Accessors of bit-packed arrays.
 
 ghost use Rattle.std.specs.Prelude.{◌≡◌, Ok, length, map, option_and_then, option_map};
 ghost use Rattle.std.specs.Option.{option_copied};
@@ -20,34 +20,34 @@ use fl_column::{BitList, DType, FastLanesError, PhysicalPType, PrimitiveArray, V
 use fl_patches::Patches;
 use std::alloc::Global;
 
-/// The arrays inside a bit-packed array, each where it has one.
+/// The children of a bit-packed array, if it has them.
 #[derive(Clone, Copy)]
 pub struct BitPackedSlots<'a> {
-    /// The positions of the patches, counted from the patches' offset.
+    /// The indices of the patches, which include the patches' offset.
     pub patch_indices: Option<&'a PrimitiveArray>,
     /// The values of the patches.
     pub patch_values: Option<&'a PrimitiveArray>,
-    /// For each chunk of 1024 items how many patches stand before it.
+    /// For each chunk of 1024 items the number of patches before it.
     pub patch_chunk_offsets: Option<&'a PrimitiveArray>,
-    /// The bits of the validity, where it has one for each item.
+    /// The bits of the validity, if it has one for each item.
     pub validity_child: Option<&'a BitList>,
-    /// The boundaries of the blocks, where each has a width of its own.
+    /// The boundaries of the blocks, if each has a width of its own.
     pub block_offsets: Option<&'a ArrayRef>,
 }
 
-/// What bit-packed arrays show of themselves.
+/// Accessors of bit-packed arrays.
 pub trait BitPackedArrayExt {
     /// The parts of the array.
     ghost parts: { Self → BitPackedArrayParts };
 
-    /// What the array keeps beside the arrays inside. The packed bytes are shared, which alone takes memory.
+    /// What the array keeps beside the arrays inside. The packed bytes are shared, which alone allocates.
     ///
     /// # Errors
-    /// None but `OutOfMemory`.
+    /// Only `OutOfMemory`.
     fn data(&self) -> Result<BitPackedData, FastLanesError>
         ensures { Answers (λ d. d) result (Ok (fields_of (parts self.now))) };
 
-    /// How many items there are.
+    /// The number of items.
     fn len(&self) -> usize
         ensures { result ≡ length (column (tree_of_bitpacked (parts self.now))).items };
 
@@ -59,11 +59,11 @@ pub trait BitPackedArrayExt {
     fn packed(&self) -> &Bytes
         ensures { result.now ≡ (parts self.now).parts.packed };
 
-    /// The bytes of the blocks as words of a type, the low byte of each first. Bytes behind the last whole word
+    /// The bytes of the blocks as words of a type, the low byte of each first. Bytes after the last whole word
     /// are dropped.
     ///
     /// # Errors
-    /// None but `OutOfMemory`.
+    /// Only `OutOfMemory`.
     fn packed_slice<T: PhysicalPType>(&self, alloc: Global) -> Result<Vec<T>, FastLanesError>
         ensures { Answers (λ v. map T.value v.items) result (Ok (words_as T.PTYPE (parts self.now).parts.packed)) };
 
@@ -75,7 +75,7 @@ pub trait BitPackedArrayExt {
     fn offset(&self) -> u16
         ensures { result ≡ (parts self.now).parts.offset };
 
-    /// The values that stand in place of packed bits, where there are some.
+    /// The values that replace packed bits, if there are some.
     fn patches(&self) -> Option<&Patches>
         ensures { option_copied result ≡ (parts self.now).parts.patches };
 
@@ -94,7 +94,7 @@ pub trait BitPackedArrayExt {
     /// A reader of the items as they are stored, whose type is `T`; the scratch block is scratch space.
     ///
     /// # Errors
-    /// `NotGlobal` where each block has a width of its own.
+    /// `NotGlobal` if each block has a width of its own.
     fn unpacked_chunks<'a, T: BitPacked>(
         &'a self,
         scratch: &'a mut [T; FL_CHUNK_SIZE],

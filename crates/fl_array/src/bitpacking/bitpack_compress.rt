@@ -35,15 +35,15 @@ fn expected_exceptions(array: &PrimitiveArray, width: u8, histogram: Option<&[us
     }
 }
 
-/// The array packed at a width: the low bits of all items, also of those under a null, and patches for the
-/// valid items that have more bits, with a chunk offset for each chunk of 1024.
+/// The array packed at a width: the low bits of all stored values, also of those under a null, and patches
+/// for the valid items that have more bits, with a chunk offset for each chunk of 1024.
 ///
-/// `bit_width_freq` is the array's histogram, as `bit_width_histogram` makes it, if it is there; it changes
-/// no answer.
+/// `bit_width_freq` is the array's histogram, as by `bit_width_histogram`, if it is known; it does not
+/// change the result.
 ///
 /// # Errors
-/// `NegativeValue` where an item is negative that is no null, else `WidthTooLarge` where the width is not
-/// below the type's bits.
+/// `NegativeValue` if a valid item is negative, else `WidthTooLarge` if the width is not below the type's
+/// bits.
 pub fn bitpack_encode(
     alloc: Global,
     array: &PrimitiveArray,
@@ -60,9 +60,9 @@ pub fn bitpack_encode(
     Ok(BitPackedArray::from_global(packed, bit_width))
 }
 
-/// The array packed at a width, where no valid item has more bits by its histogram: the low bits of all items,
-/// also of those under a null. It has no patches. The width is at most the type's bits; it may be that of the
-/// type, and items may be negative.
+/// The array packed at a width, if no valid item has more bits by its histogram: the low bits of all stored
+/// values, also of those under a null. It has no patches. The width is at most the type's bits; it may be
+/// that of the type, and items may be negative.
 pub fn bitpack_encode_unchecked(
     alloc: Global,
     array: PrimitiveArray,
@@ -78,11 +78,11 @@ pub fn bitpack_encode_unchecked(
     Ok(BitPackedArray::from_global(packed, bit_width))
 }
 
-/// The array packed at its width of least cost, as `bitpack_encode` packs it.
+/// The array packed at its width of least cost, as by `bitpack_encode`.
 ///
 /// # Errors
-/// `NegativeValue` where an item is negative that is no null, else `WidthTooLarge` where the width is that
-/// of the type's bits.
+/// `NegativeValue` if a valid item is negative, else `WidthTooLarge` if the width is that of the type's
+/// bits.
 pub fn bitpack_to_best_bit_width(
     alloc: Global,
     array: &PrimitiveArray,
@@ -95,15 +95,15 @@ pub fn bitpack_to_best_bit_width(
     Ok(BitPackedArray::from_global(packed, bit_width))
 }
 
-/// The array whose blocks of 1024 are packed each at a width of its own: the low bits of all items, also of
-/// those under a null, and patches for the valid items that have more bits than the width of their block.
-/// The boundaries are a primitive array of the smallest type that holds the last one. `num_exceptions` is
-/// about how many patches there are, if it is known; it changes no answer.
+/// The array packed at a width for each block of 1024: the low bits of all stored values, also of those
+/// under a null, and patches for the valid items that have more bits than the width of their block. The
+/// boundaries are a primitive array of the smallest unsigned type that holds the last one.
+/// `num_exceptions` is about how many patches there are, if it is known; it does not change the result.
 ///
 /// # Errors
-/// The first of `NegativeValue` where an item is negative that is no null, `BlockCount` where there is not
-/// one width for each block, `WidthTooLarge` where a width is above the type's bits, and `AllBlocksNative`
-/// where there are blocks and all of their widths are the type's bits.
+/// The first of these that applies: `NegativeValue` if a valid item is negative, `BlockCount` if there is
+/// not one width for each block, `WidthTooLarge` if a width is above the type's bits, and `AllBlocksNative`
+/// if there are blocks and all of their widths are the type's bits.
 pub fn bitpack_encode_blocked(
     alloc: Global,
     array: &PrimitiveArray,
@@ -120,12 +120,11 @@ pub fn bitpack_encode_blocked(
     Ok(encoded)
 }
 
-/// The array whose blocks of 1024 are packed each at its width of least cost, as `bitpack_encode_blocked`
-/// packs them.
+/// The array packed at each block's width of least cost, as by `bitpack_encode_blocked`.
 ///
 /// # Errors
-/// `NegativeValue` where an item is negative that is no null, else `AllBlocksNative` where there are blocks
-/// and all of their widths are the type's bits.
+/// `NegativeValue` if a valid item is negative, else `AllBlocksNative` if there are blocks and all of their
+/// widths are the type's bits.
 pub fn bitpack_blocked_to_best_bit_widths(
     alloc: Global,
     array: &PrimitiveArray,

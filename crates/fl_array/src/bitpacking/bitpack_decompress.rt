@@ -1,4 +1,4 @@
-//! Decoding of bit-packed arrays, and single items as they are stored.
+//! Decoding of bit-packed arrays, and single items by their packed bits.
 
 mod constant_boundaries;
 mod unfor;
@@ -17,10 +17,10 @@ use fastlanes::Work;
 use fl_column::{FastLanesError, NativePType, PrimitiveArray, Scalar};
 use std::alloc::Global;
 
-/// The column in a primitive array, where all blocks have one width.
+/// The column in a primitive array, if all blocks have one width.
 ///
 /// # Errors
-/// `NotGlobal` where each block has a width of its own.
+/// `NotGlobal` if each block has a width of its own.
 pub fn unpack_array(alloc: Global, array: &BitPackedArray) -> Result<PrimitiveArray, FastLanesError>
     ensures { Answers column_of_primitive result (if_global array.now.widths (column (tree_of_bitpacked array.now))) }
 {
@@ -33,10 +33,10 @@ pub fn unpack_array(alloc: Global, array: &BitPackedArray) -> Result<PrimitiveAr
     }
 }
 
-/// The column in a primitive array, where all blocks have one width and the items have this type.
+/// The column in a primitive array, if all blocks have one width and the items have this type.
 ///
 /// # Errors
-/// `NotGlobal` where each block has a width of its own.
+/// `NotGlobal` if each block has a width of its own.
 pub fn unpack_primitive_array<T: NativePType>(
     alloc: Global,
     array: &BitPackedArray,
@@ -47,11 +47,11 @@ pub fn unpack_primitive_array<T: NativePType>(
     unpack_array(alloc, array)
 }
 
-/// Item `i` as its bits are stored, where all blocks have one width: without its patch, and also under a null.
-/// It reads at most two words of the block, and takes no memory.
+/// Item `i` by its packed bits, if all blocks have one width: without its patch, and also under a null. It
+/// reads at most two words of the block, and allocates nothing.
 ///
 /// # Errors
-/// `NotGlobal` where each block has a width of its own.
+/// `NotGlobal` if each block has a width of its own.
 pub fn unpack_single(array: &BitPackedArray, i: usize) -> Result<Scalar, FastLanesError>
     requires { i < array.now.parts.len }
     ensures item { Answers scalar_parts result (if_global array.now.widths (stored_scalar array.now.parts (blocks_of_widths array.now.widths) i)) }
@@ -63,7 +63,7 @@ pub fn unpack_single(array: &BitPackedArray, i: usize) -> Result<Scalar, FastLan
     }
 }
 
-/// The column in a primitive array, where each block has a width of its own.
+/// The column in a primitive array, if each block has a width of its own.
 pub fn unpack_array_blocked(
     alloc: Global,
     array: &BitPackedArray,
@@ -86,8 +86,8 @@ pub fn unpack_array_blocked(
     }
 }
 
-/// Item `i` as its bits are stored, where each block has a width of its own: without its patch, and also under
-/// a null. It reads three boundaries and at most two words of the block.
+/// Item `i` by its packed bits, if each block has a width of its own: without its patch, and also under a
+/// null. It reads three boundaries and at most two words of the block.
 pub fn unpack_single_blocked(
     alloc: Global,
     array: &BitPackedArray,

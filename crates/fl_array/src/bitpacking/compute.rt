@@ -1,4 +1,4 @@
-//! Operations and questions on bit-packed arrays that need not decode them first.
+//! Operations and queries of bit-packed arrays that do not decode them first.
 
 mod cast;
 mod compare;

@@ -1,4 +1,4 @@
-//! What a bit-packed array keeps beside its children.
+//! The data of a bit-packed array besides its children.
 
 ghost use Rattle.std.specs.Prelude.{◌≡◌, ◌≤◌, ◌<◌, IfOk, IfSome, None, Ok, Some, map, option_map};
 ghost use Rattle.std.specs.Option.{option_copied};
@@ -25,8 +25,8 @@ use std::alloc::Global;
 use std::fmt;
 use std::marker::Model;
 
-/// What a bit-packed array keeps beside its children: the packed bytes, the position of its first item in the
-/// first block, the width of all blocks if they have one, and the offset of its patches if it has some.
+/// The data of a bit-packed array besides its children: the packed bytes, the position of its first item in
+/// the first block, the width of all blocks if they have one, and the offset of its patches if it has some.
 #[derive(Debug, PartialEq, Eq, Hash, Drop)]
 pub struct BitPackedData {
     packed: Bytes,
@@ -46,10 +46,10 @@ impl Model for BitPackedData {
 }
 
 impl BitPackedData {
-    /// The data of these packed bytes, whose blocks all have one width, beside these patches.
+    /// The data of these packed bytes, whose blocks have one width, with these patches.
     ///
     /// # Errors
-    /// `WidthTooLarge` where the width is above 64, else `OffsetTooLarge` where the offset is 1024 or more.
+    /// `WidthTooLarge` if the width is above 64, else `OffsetTooLarge` if the offset is 1024 or more.
     pub fn try_new(
         packed: Bytes,
         patches: Option<&Patches>,
@@ -89,11 +89,11 @@ impl BitPackedData {
         }
     }
 
-    /// The array packed at a width, as `bitpack_encode` packs a primitive one.
+    /// The array packed at a width, as by `bitpack_encode` for a primitive one.
     ///
     /// # Errors
-    /// The first of `NotInteger` where the array is not primitive, `NegativeValue` where an item is negative
-    /// that is no null, and `WidthTooLarge` where the width is not below the type's bits.
+    /// The first of these that applies: `NotInteger` if the array is not primitive, `NegativeValue` if a valid item is negative,
+    /// and `WidthTooLarge` if the width is not below the type's bits.
     pub fn encode(
         alloc: Global,
         array: &ArrayRef,
@@ -109,13 +109,12 @@ impl BitPackedData {
         }
     }
 
-    /// The array packed at a width for each block, as `bitpack_encode_blocked` packs a primitive one.
+    /// The array packed at a width for each block, as by `bitpack_encode_blocked` for a primitive one.
     ///
     /// # Errors
-    /// The first of `NotInteger` where the array is not primitive, `NegativeValue` where an item is negative
-    /// that is no null, `BlockCount` where there is not one width for each block, `WidthTooLarge` where a width
-    /// is above the type's bits, and `AllBlocksNative` where there are blocks and all of their widths are the
-    /// type's bits.
+    /// The first of these that applies: `NotInteger` if the array is not primitive, `NegativeValue` if a valid item is negative,
+    /// `BlockCount` if there is not one width for each block, `WidthTooLarge` if a width is above the type's
+    /// bits, and `AllBlocksNative` if there are blocks and all of their widths are the type's bits.
     pub fn encode_blocked(
         alloc: Global,
         array: &ArrayRef,
@@ -134,7 +133,7 @@ impl BitPackedData {
     /// The integer type of a column of this type.
     ///
     /// # Errors
-    /// `NotInteger` where it is of booleans.
+    /// `NotInteger` if it is of booleans.
     pub fn ptype(&self, dtype: &DType) -> Result<PType, FastLanesError>
         ensures { result ≡ ptype_in dtype.now }
     {
@@ -151,7 +150,7 @@ impl BitPackedData {
         &self.packed
     }
 
-    /// The bytes of the blocks as whole words of a type, the low byte of each first. Bytes behind the last
+    /// The bytes of the blocks as whole words of a type, the low byte of each first. Bytes after the last
     /// whole word are dropped.
     pub fn packed_slice<T: PhysicalPType>(&self, alloc: Global) -> Result<Vec<T>, FastLanesError>
         ensures { Answers (λ v. map T.value v.items) result (Ok (words_as T.PTYPE self.now.packed)) }
@@ -166,7 +165,7 @@ impl BitPackedData {
         self.offset
     }
 
-    /// The width of all blocks, or `None` where each has its own.
+    /// The width of all blocks, or `None` if each has its own.
     pub fn bit_width(&self) -> Option<u8>
         ensures { result ≡ self.now.bit_width }
     {
@@ -180,11 +179,11 @@ impl BitPackedData {
         self.patches_offset
     }
 
-    /// A reader of this many items of a column of this type. Where it is an integer type, that is `T`, and the
-    /// width of the blocks is at most its bits.
+    /// A reader of this many items of a column of this type. If it is an integer type, it is `T`, and the width
+    /// of the blocks is at most its bits.
     ///
     /// # Errors
-    /// `NotInteger` where the column is of booleans, else as `BitUnpackedChunks::try_new`.
+    /// `NotInteger` if the column is of booleans, else as `BitUnpackedChunks::try_new`.
     pub fn unpacked_chunks<'a, T: BitPacked>(
         &'a self,
         dtype: &DType,
@@ -247,7 +246,7 @@ impl fmt::Display for WidthText {
     }
 }
 
-/// The width of all blocks, where they have one, and the offset: `bit_width: 3, offset: 0`.
+/// The width of all blocks, if they have one, and the offset: `bit_width: 3, offset: 0`.
 impl fmt::Display for BitPackedData {
     ghost output = { λ d. Some (fields_text d) };
 

@@ -1,4 +1,4 @@
-//! Casts of delta arrays in place: the bases and the deltas stay where the integer type does.
+//! Casts of delta arrays in place: the bases and the deltas stay if the integer type does.
 
 ghost use Rattle.std.specs.Prelude.{◌≡◌, ◌||◌, IfOk, IsTrue, Ok, not};
 ghost use Rattle.fl_types.specs.declared.dtype.DType.TheVariants.{Primitive};
@@ -16,11 +16,11 @@ use fl_column::{FastLanesError, Nullability};
 use std::alloc::Global;
 
 impl DeltaArray {
-    /// The same integers over copies of the bases and the deltas, in a column in which nulls may
-    /// stand or, where they can't now, not.
+    /// The same integers over copies of the bases and the deltas, in a nullable column, or in a
+    /// non-nullable one if this one is non-nullable.
     ///
     /// # Errors
-    /// None but `OutOfMemory`.
+    /// Only `OutOfMemory`.
     pub fn cast_in_place(
         &self,
         alloc: Global,

@@ -13,7 +13,7 @@ use std::alloc::Global;
 /// The column of a delta array in a primitive array.
 ///
 /// # Errors
-/// None but `OutOfMemory`.
+/// Only `OutOfMemory`.
 pub fn delta_decompress(alloc: Global, array: &DeltaArray) -> Result<PrimitiveArray, FastLanesError>
     ensures { Answers column_of_primitive result (Ok (column (tree_of_delta array.now))) }
 {

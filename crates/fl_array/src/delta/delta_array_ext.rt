@@ -1,4 +1,4 @@
-//! What delta arrays show of themselves.
+//! Accessors of delta arrays.
 
 ghost use Rattle.std.specs.Prelude.{◌≡◌, length};
 ghost use Rattle.std.specs.Option.{option_copied};
@@ -12,18 +12,18 @@ use crate::delta::DeltaArray;
 use crate::delta::delta_data::DeltaData;
 use fl_column::{BitList, DType};
 
-/// The arrays inside a delta array, and the bits of its validity.
+/// The children of a delta array, and the bits of its validity.
 #[derive(Clone, Copy)]
 pub struct DeltaSlots<'a> {
     /// The bases: one for each lane of each block.
     pub bases: &'a ArrayRef,
     /// The deltas, at the positions at which blocks store items.
     pub deltas: &'a ArrayRef,
-    /// The bits of the validity, where it has one for each item.
+    /// The bits of the validity, if it has one for each item.
     pub validity_child: Option<&'a BitList>,
 }
 
-/// What delta arrays show of themselves.
+/// Accessors of delta arrays.
 pub trait DeltaArrayExt {
     /// The parts of the array.
     ghost parts: { Self → DeltaArrayParts };
@@ -42,7 +42,7 @@ pub trait DeltaArrayExt {
     fn data(&self) -> DeltaData
         ensures { result ≡ (parts self.now).parts.offset };
 
-    /// How many items there are.
+    /// The number of items.
     fn len(&self) -> usize
         ensures { result ≡ length (column (tree_of_delta (parts self.now))).items };
 

@@ -1,4 +1,4 @@
-//! What a delta array keeps beside its children.
+//! The data of a delta array besides its children.
 
 ghost use Rattle.std.specs.Prelude.{◌≡◌, ◌<◌, Some};
 ghost use Rattle.fl_array.specs.OffsetData.{new_offset, offset_text};
@@ -8,7 +8,7 @@ use fl_column::FastLanesError;
 use std::fmt;
 use std::marker::Model;
 
-/// What a delta array keeps beside its children: the position of its first item in its first block, below
+/// The data of a delta array besides its children: the position of its first item in its first block, below
 /// 1024.
 #[derive(Clone, Copy, Debug, PartialEq, Eq, Hash)]
 pub struct DeltaData {
@@ -31,7 +31,7 @@ impl DeltaData {
     /// The data of this offset.
     ///
     /// # Errors
-    /// `OffsetTooLarge` where it is 1024 or more.
+    /// `OffsetTooLarge` if it is 1024 or more.
     pub fn try_new(offset: usize) -> Result<DeltaData, FastLanesError>
         ensures { result ≡ new_offset offset }
     {

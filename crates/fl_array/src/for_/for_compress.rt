@@ -3,14 +3,14 @@
 ghost use Rattle.std.specs.Prelude.{◌≡◌, ◌<◌, ◌^◌, IfOk, Ok, length};
 ghost use Rattle.fl_types.specs.Refusals.{Answers};
 ghost use Rattle.fl_column.specs.Columns.{column_of_primitive};
-ghost use Rattle.fl_array.specs.EncodedFoR.{encoded_for, encoded_for_chunked};
+ghost use Rattle.fl_array.specs.EncodedFoR.{encoded_for_by, encoded_for_chunked_by};
 ghost use Rattle.fl_array.specs.FoRArrays.{tree_of_for};
 ghost use Rattle.fl_array.specs.Trees.{column};
 
 use crate::array::IntoArray;
 use crate::for_::FoRArray;
-use fl_codec::for_::{EncodedFoR, GlobalFoR, encode, encode_chunked};
-use fl_codec::laws::{chunked_for_and_back, global_for_and_back};
+use fl_codec::for_::{EncodedFoR, GlobalFoR, ItemOrder, encode_by, encode_chunked_by};
+use fl_codec::laws::{chunked_for_by_and_back, global_for_by_and_back};
 use fl_column::{FastLanesError, PType, PrimitiveArray};
 use std::alloc::Global;
 
@@ -30,36 +30,41 @@ fn prove_few(array: &PrimitiveArray)
     };
 }
 
-/// The FoR array of a primitive one, with its least valid item as the one reference: the differences, modulo
-/// 2 to the type's bits and 0 under a null, are a primitive array of the same validity.
+/// The FoR array of a primitive one, with its least valid item by an order as the one reference: the differences,
+/// modulo 2 to the type's bits and 0 under a null, are a primitive array of the same validity.
 ///
 /// # Errors
 /// `NoMinimum` where no item is valid.
-pub(crate) fn for_encode(alloc: Global, array: &PrimitiveArray) -> Result<FoRArray, FastLanesError>
-    ensures parts { Answers (λ a. a) result (encoded_for array.now) }
+pub(crate) fn for_encode(
+    alloc: Global,
+    array: &PrimitiveArray,
+    order: ItemOrder,
+) -> Result<FoRArray, FastLanesError>
+    ensures parts { Answers (λ a. a) result (encoded_for_by order array.now) }
     ensures column { IfOk result (λ a. column (tree_of_for a) ≡ column_of_primitive array.now) }
 {
-    global_for_and_back(array);
-    let GlobalFoR { child, reference } = encode(alloc, array)?;
+    global_for_by_and_back(array, order);
+    let GlobalFoR { child, reference } = encode_by(alloc, array, order)?;
     FoRArray::from_global(alloc, child.into_array(), reference)
 }
 
-/// The FoR array of a primitive one, with the least valid item of each chunk of 1024 as its reference. A chunk
-/// of nulls repeats the reference before it, and the leading ones take that of the first chunk that has an
-/// item. Where all chunks have one reference, as in a column of one chunk, it is the one reference; it is 0
+/// The FoR array of a primitive one, with the least valid item of each chunk of 1024, by an order, as its
+/// reference. A chunk of nulls repeats the reference before it, and the leading ones take that of the first chunk
+/// that has an item. Where all chunks have one reference, as in a column of one chunk, it is the one reference; it is 0
 /// in an empty column. A column that has items, all of them null, becomes a constant array of a null with the
 /// reference 0.
 pub(crate) fn for_encode_chunked(
     alloc: Global,
     array: &PrimitiveArray,
+    order: ItemOrder,
 ) -> Result<FoRArray, FastLanesError>
-    ensures parts { Answers (λ a. a) result (Ok (encoded_for_chunked array.now)) }
+    ensures parts { Answers (λ a. a) result (Ok (encoded_for_chunked_by order array.now)) }
     ensures column { IfOk result (λ a. column (tree_of_for a) ≡ column_of_primitive array.now) }
 {
-    chunked_for_and_back(array);
+    chunked_for_by_and_back(array, order);
     prove_few(array);
     let (_len, _validity) = (array.len(), array.validity());
-    match encode_chunked(alloc, array)? {
+    match encode_chunked_by(alloc, array, order)? {
         EncodedFoR::Global(GlobalFoR { child, reference }) => {
             FoRArray::from_global(alloc, child.into_array(), reference)
         }

@@ -10,6 +10,7 @@ ghost use Rattle.fl_array.specs.FoRDataParts.{FoRDataParts, for_data_text, ptype
 
 use crate::for_::FoRArray;
 use crate::for_::for_compress::{for_encode, for_encode_chunked};
+use fl_codec::for_::ItemOrder;
 use fl_column::{FastLanesError, PType, PrimitiveArray, Scalar};
 use std::alloc::Global;
 use std::fmt;
@@ -52,7 +53,7 @@ impl FoRData {
         ensures parts { Answers (λ a. a) result (encoded_for array.now) }
         ensures column { IfOk result (λ a. column (tree_of_for a) ≡ column_of_primitive array.now) }
     {
-        for_encode(alloc, array)
+        for_encode(alloc, array, ItemOrder::Natural)
     }
 
     /// The FoR array of a primitive one with a reference for each chunk of 1024, as `FoR::encode_chunked` makes
@@ -61,7 +62,7 @@ impl FoRData {
         ensures parts { Answers (λ a. a) result (Ok (encoded_for_chunked array.now)) }
         ensures column { IfOk result (λ a. column (tree_of_for a) ≡ column_of_primitive array.now) }
     {
-        for_encode_chunked(alloc, array)
+        for_encode_chunked(alloc, array, ItemOrder::Natural)
     }
 
     /// The position of the first item in its chunk, 0 where there is one reference.

@@ -11,11 +11,11 @@ use fl_column::FastLanesError;
 use std::alloc::Global;
 
 impl RLEArray {
-    /// Copies of the run offsets over the same run values in another type, and the same run indices
-    /// where nulls may stand or not.
+    /// Copies of the run offsets over the same run values in another type, and the same run indices with another
+    /// nullability.
     ///
     /// # Errors
-    /// None but `OutOfMemory`.
+    /// Only `OutOfMemory`.
     pub fn over(
         &self,
         alloc: Global,

@@ -13,7 +13,7 @@ use std::alloc::Global;
 /// The column of a run-length encoded array in a primitive array.
 ///
 /// # Errors
-/// None but `OutOfMemory`.
+/// Only `OutOfMemory`.
 pub fn rle_decompress(alloc: Global, array: &RLEArray) -> Result<PrimitiveArray, FastLanesError>
     ensures { Answers column_of_primitive result (Ok (column (tree_of_rle array.now))) }
 {

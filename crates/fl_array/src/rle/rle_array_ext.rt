@@ -1,4 +1,4 @@
-//! What run-length encoded arrays show of themselves.
+//! Accessors of run-length encoded arrays.
 
 ghost use Rattle.std.specs.Prelude.{◌≡◌, ◌<◌, IfErr, IsTrue, Ok, length};
 ghost use Rattle.fl_types.specs.Refusals.{Answers};
@@ -14,23 +14,23 @@ use crate::rle::rle_data::RLEData;
 use fl_column::{DType, FastLanesError};
 use std::alloc::Global;
 
-/// The arrays inside a run-length encoded array.
+/// The children of a run-length encoded array.
 #[derive(Clone, Copy)]
 pub struct RLESlots<'a> {
     /// The run values.
     pub values: &'a ArrayRef,
-    /// The run indices: which run value of its chunk each position has.
+    /// The run indices: for each position the index of its run value in its chunk.
     pub indices: &'a ArrayRef,
     /// The run offsets: where the run values of each chunk start.
     pub values_idx_offsets: &'a ArrayRef,
 }
 
-/// What run-length encoded arrays show of themselves.
+/// Accessors of run-length encoded arrays.
 pub trait RLEArrayExt {
     /// The parts of the array.
     ghost parts: { Self → RLEArrayParts };
 
-    /// Where the run values of a chunk start: its run offset, counted from the first one. It takes no memory where
+    /// Where the run values of a chunk start: its run offset, counted from the first one. It allocates nothing where
     /// the array holds no delta array.
     fn values_idx_offset(&self, alloc: Global, chunk: usize) -> Result<usize, FastLanesError>
         requires { chunk < length (column (parts self.now).offsets).items }
@@ -51,7 +51,7 @@ pub trait RLEArrayExt {
     fn data(&self) -> RLEData
         ensures { result ≡ (parts self.now).window.offset };
 
-    /// How many items there are.
+    /// The number of items.
     fn len(&self) -> usize
         ensures { result ≡ length (column (tree_of_rle (parts self.now))).items };
 

@@ -1,4 +1,4 @@
-//! What a run-length encoded array keeps beside its children.
+//! The data of a run-length encoded array besides its children.
 
 ghost use Rattle.std.specs.Prelude.{◌≡◌, ◌<◌, IfOk, Ok, Some};
 ghost use Rattle.fl_types.specs.Refusals.{Answers};
@@ -14,7 +14,7 @@ use std::alloc::Global;
 use std::fmt;
 use std::marker::Model;
 
-/// What a run-length encoded array keeps beside its children: the position of its first item in its first chunk, below
+/// The data of a run-length encoded array besides its children: the position of its first item in its first chunk, below
 /// 1024.
 #[derive(Clone, Copy, Debug, PartialEq, Eq, Hash)]
 pub struct RLEData {
@@ -37,7 +37,7 @@ impl RLEData {
     /// The data of this offset.
     ///
     /// # Errors
-    /// `OffsetTooLarge` where it is 1024 or more.
+    /// `OffsetTooLarge` if it is 1024 or more.
     pub fn try_new(offset: usize) -> Result<RLEData, FastLanesError>
         ensures { result ≡ new_offset offset }
     {
@@ -56,7 +56,7 @@ impl RLEData {
         RLEData { offset }
     }
 
-    /// The run-length encoded array of a primitive one, as `RLE::encode` makes it.
+    /// The run-length encoded array of a primitive one, as by `RLE::encode`.
     pub fn encode(alloc: Global, array: &PrimitiveArray) -> Result<RLEArray, FastLanesError>
         ensures parts { Answers (λ a. a) result (Ok (encoded_rle array.now)) }
         ensures column { IfOk result (λ a. column (tree_of_rle a) ≡ column_of_primitive array.now) }

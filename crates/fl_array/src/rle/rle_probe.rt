@@ -1,4 +1,4 @@
-//! Reads of single items of a run-length encoded array, one after the other.
+//! Reads of single items of a run-length encoded array, one after another.
 
 ghost use Rattle.std.specs.Prelude.{◌≡◌, ◌<◌, ◌/◌, IfErr, IsTrue, Ok, length};
 ghost use Rattle.fl_types.specs.Refusals.{Answers};
@@ -16,8 +16,8 @@ use fl_column::{FastLanesError, Scalar};
 use std::alloc::Global;
 use std::marker::Model;
 
-/// Reads of single items of a run-length encoded array, one after the other. It keeps the last chunk, so that
-/// further reads in it read no run offset.
+/// Reads single items of a run-length encoded array, one after another. It keeps the bounds of the last chunk,
+/// so that further reads in that chunk read no run offset.
 #[derive(Drop)]
 pub struct RleProbeState<'a> {
     array: &'a RLEArray,
@@ -48,17 +48,17 @@ impl<'a> Model for RleProbeState<'a> {
 }
 
 impl<'a> RleProbeState<'a> {
-    /// No item has been read.
+    /// A state without a chunk.
     pub fn new(array: &'a RLEArray) -> RleProbeState<'a>
         ensures { result ≡ array.now }
     {
         RleProbeState { array, last: None }
     }
 
-    /// The item at an index, with the column's type: what the array itself answers.
+    /// The item at an index, with the column's type, as by the array's own `scalar_at`.
     ///
     /// # Errors
-    /// None but `OutOfMemory`, and that only where the array holds a delta array.
+    /// Only `OutOfMemory`, and only if the array holds a delta array.
     pub fn scalar_at(&mut self, alloc: Global, i: usize) -> Result<Scalar, FastLanesError>
         requires { i < length (column (tree_of_rle self.old)).items }
         ensures item { Answers scalar_parts result (Ok (scalar_in (column (tree_of_rle self.old)) i)) }

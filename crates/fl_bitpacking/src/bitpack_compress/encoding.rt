@@ -1,4 +1,4 @@
-//! Packing whole arrays, with patches for the items that have more bits than their width.
+//! Packing whole arrays, with patches for the exceptions.
 
 ghost use Rattle.std.specs.Prelude.{◌≡◌, ◌≤◌, ◌<◌, ℕ, IfErr, IfOk, None, length, slice_index};
 ghost use Rattle.fl_types.specs.declared.error.FastLanesError.TheVariants.{OutOfMemory};
@@ -27,9 +27,9 @@ use fl_patches::{
 use fl_types::FastLanesError;
 use std::alloc::Global;
 
-/// The parts of an array that is packed at a width, which is at most the type's bits: the low bits of all
-/// items, also of those under a null, and patches for the valid items that have more bits. `hint` is about
-/// how many these are, and changes no answer.
+/// The parts of an array packed at a width, which is at most the type's bits: the low bits of all stored
+/// values, also of those under a null, and patches for the valid items that have more bits. `hint` is about
+/// how many these are, and does not change the result.
 pub fn pack_global(
     alloc: Global,
     array: &PrimitiveArray,
@@ -55,8 +55,8 @@ pub fn pack_global(
     Ok(data)
 }
 
-/// The parts of an array that is packed at a width, which is at most the type's bits, where no valid item has
-/// more bits. It has no patches.
+/// The parts of an array packed at a width, which is at most the type's bits, if no valid item has more bits.
+/// It has no patches.
 pub fn pack_unpatched(
     alloc: Global,
     array: &PrimitiveArray,
@@ -82,10 +82,10 @@ pub fn pack_unpatched(
     Ok(data)
 }
 
-/// The parts of an array whose blocks are packed each at a width of its own, which is at most the type's
-/// bits, and the boundaries between the blocks: the low bits of all items, also of those under a null, and
-/// patches for the valid items that have more bits than the width of their block. `hint` is about how many
-/// these are, and changes no answer.
+/// The parts of an array packed at a width for each block, at most the type's bits, and the boundaries
+/// between the blocks: the low bits of all stored values, also of those under a null, and patches for the
+/// valid items that have more bits than the width of their block. `hint` is about how many these are, and
+/// does not change the result.
 pub fn pack_blocked(
     alloc: Global,
     array: &PrimitiveArray,
@@ -113,11 +113,11 @@ pub fn pack_blocked(
     Ok((data, boundaries))
 }
 
-/// The parts of an array that is packed at a width, as `pack_global` has them.
+/// The parts of an array packed at a width, as by `pack_global`.
 ///
 /// # Errors
-/// `NegativeValue` where an item is negative that is no null, else `WidthTooLarge` where the width is not
-/// below the type's bits.
+/// `NegativeValue` if a valid item is negative, else `WidthTooLarge` if the width is not below the type's
+/// bits.
 pub fn encode_global(
     alloc: Global,
     array: &PrimitiveArray,
@@ -149,12 +149,11 @@ fn best_width(alloc: Global, array: &PrimitiveArray) -> Result<(u8, usize), Fast
     Ok((width, exceptions))
 }
 
-/// The parts of an array that is packed at its width of least cost, as `pack_global` has them, and the
-/// width.
+/// The parts of an array packed at its width of least cost, as by `pack_global`, and the width.
 ///
 /// # Errors
-/// `NegativeValue` where an item is negative that is no null, else `WidthTooLarge` where the width is that
-/// of the type's bits.
+/// `NegativeValue` if a valid item is negative, else `WidthTooLarge` if the width is that of the type's
+/// bits.
 pub fn encode_at_best_width(
     alloc: Global,
     array: &PrimitiveArray,
@@ -170,13 +169,13 @@ pub fn encode_at_best_width(
     Ok((data, width))
 }
 
-/// The parts of an array whose blocks are packed each at a width of its own, as `pack_blocked` has them, and
-/// the boundaries between the blocks.
+/// The parts of an array packed at a width for each block, as by `pack_blocked`, and the boundaries between
+/// the blocks.
 ///
 /// # Errors
-/// The first of `NegativeValue` where an item is negative that is no null, `BlockCount` where there is not
-/// one width for each block, `WidthTooLarge` where a width is above the type's bits, and `AllBlocksNative`
-/// where there are blocks and all of their widths are the type's bits.
+/// The first of these that applies: `NegativeValue` if a valid item is negative, `BlockCount` if there is
+/// not one width for each block, `WidthTooLarge` if a width is above the type's bits, and `AllBlocksNative`
+/// if there are blocks and all of their widths are the type's bits.
 pub fn encode_blocked(
     alloc: Global,
     array: &PrimitiveArray,
@@ -196,12 +195,12 @@ pub fn encode_blocked(
     Ok(packed)
 }
 
-/// The parts of an array whose blocks are packed each at its width of least cost, as `pack_blocked` has them,
-/// and the boundaries between the blocks.
+/// The parts of an array packed at each block's width of least cost, as by `pack_blocked`, and the boundaries
+/// between the blocks.
 ///
 /// # Errors
-/// `NegativeValue` where an item is negative that is no null, else `AllBlocksNative` where there are blocks
-/// and all of their widths are the type's bits.
+/// `NegativeValue` if a valid item is negative, else `AllBlocksNative` if there are blocks and all of their
+/// widths are the type's bits.
 pub fn encode_at_best_widths(
     alloc: Global,
     array: &PrimitiveArray,

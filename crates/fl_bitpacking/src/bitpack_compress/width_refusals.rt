@@ -1,4 +1,4 @@
-//! Why an array is not packed at a width, or at widths of its blocks.
+//! The errors of packing an array at a width, or at widths of its blocks.
 
 ghost use Rattle.std.specs.Prelude.{◌≡◌, ◌==◌, nat_lt};
 ghost use Rattle.std.specs.List.{list_all, list_any};
@@ -49,8 +49,8 @@ fn are_native(widths: &[u8], bits: usize) -> bool
     true
 }
 
-/// Why an array is not packed at a width, if it is not: the first of `NegativeValue` where an item is
-/// negative that is no null, and `WidthTooLarge` where the width is not below the type's bits.
+/// The error of packing an array at a width, if there is one: the first of `NegativeValue` if a valid item is
+/// negative, and `WidthTooLarge` if the width is not below the type's bits.
 pub fn width_refusal(array: &PrimitiveArray, width: u8) -> Option<FastLanesError>
     ensures { result ≡ width_refusal array.now width }
 {
@@ -63,9 +63,9 @@ pub fn width_refusal(array: &PrimitiveArray, width: u8) -> Option<FastLanesError
     None
 }
 
-/// Why an array's blocks are not packed at these widths, if they are not: the first of `NegativeValue`
-/// where an item is negative that is no null, `BlockCount` where there is not one width for each block,
-/// `WidthTooLarge` where a width is above the type's bits, and `AllBlocksNative` where there are blocks,
+/// The error of packing an array's blocks at these widths, if there is one: the first of `NegativeValue` if
+/// a valid item is negative, `BlockCount` if there is not one width for each block,
+/// `WidthTooLarge` if a width is above the type's bits, and `AllBlocksNative` if there are blocks,
 /// and all of their widths are the type's bits.
 pub fn widths_refusal(array: &PrimitiveArray, widths: &[u8]) -> Option<FastLanesError>
     ensures { result ≡ widths_refusal array.now widths.now }

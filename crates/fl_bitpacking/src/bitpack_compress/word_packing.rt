@@ -63,11 +63,11 @@ fn pack_words<T: PhysicalPType>(
     Ok(packed)
 }
 
-/// The packed low `width` bits of integers, with 0 behind the last of them, as words of their own
-/// type. The width is at most the type's bits.
+/// The packed low `width` bits of integers, padded with 0, as words of their own type. The width is at
+/// most the type's bits.
 ///
-/// Each block of 1024 integers, also a short last one, has `width` words for each of its lanes, of
-/// which there are 1024 divided by the type's bits. So no integers make no words, nor does width 0.
+/// Each block of 1024 integers, a short last one included, has `width` words for each of its lanes, of
+/// which there are 1024 divided by the type's bits. Without integers, or at width 0, there are no words.
 pub fn bitpack_primitive<T: PhysicalPType>(
     alloc: Global,
     items: &[T],

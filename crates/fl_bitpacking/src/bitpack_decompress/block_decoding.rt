@@ -1,5 +1,5 @@
-//! How the items of a block are made of the integers that are stored in it: they are the items, or a reference
-//! is added to each.
+//! How the items of a block are made of its stored integers: they are the items, or a reference is added to
+//! each.
 
 ghost use Rattle.std.specs.Prelude.{◌≡◌, ◌+◌, ◌*◌, ◌<◌, ◌≤◌, ◌+ℤ◌, ℕ, ℤ, length, map, min, option_map};
 ghost use Rattle.fl_types.specs.Integers.{bits_of_type, wrap};
@@ -14,7 +14,7 @@ use num_traits::WrappingAdd;
 
 /// A way to make the items of a block of the integers that are stored in it.
 pub(crate) trait BlockDecoder<T: NativePType> {
-    /// The item that an integer of block `j` stands for.
+    /// The item of an integer of block `j`.
     ghost item: { Self → ℕ → ℤ → ℤ };
 
     /// Writes the items of block `j`, whose `128 * width` bytes these are.

@@ -1,4 +1,4 @@
-//! Packed columns to whose items references are added as their blocks are unpacked.
+//! Packed columns with references that are added while their blocks are unpacked.
 
 ghost use Rattle.std.specs.Prelude.{◌≡◌, ◌+◌, ◌*◌, ◌≤◌, IsTrue, Ok, OnOk, length, map, min};
 ghost use Rattle.fl_types.specs.Integers.{bits_of_type};
@@ -21,12 +21,12 @@ use fl_types::{FastLanesError, PValue, match_each_integer_ptype};
 use num_traits::WrappingAdd;
 use std::alloc::Global;
 
-/// What is added to the items of a column, modulo 2 to its type's bits.
+/// The references that are added to the items of a column, modulo 2 to the number of bits.
 #[derive(Clone, Copy)]
 pub enum References<'a> {
-    /// One reference, to all items.
+    /// One reference for all items.
     Global(PValue),
-    /// Its own to the items of each block.
+    /// A reference for each block.
     PerBlock(&'a PrimitiveArray),
 }
 
@@ -110,10 +110,10 @@ fn unfor_column<'a>(
     )
 }
 
-/// The column of these parts plus the references, where all blocks have one width: an item is null where the
-/// validity has none, else its patch or what its bits say, plus its reference. Each block is unpacked once.
+/// The column of these parts plus the references, if all blocks have one width: an item is null if the
+/// validity says so, else its patch or its bits, plus its reference. Each block is unpacked once.
 ///
-/// The references have the column's type; the width is at most the type's bits, and the blocks lie in the bytes.
+/// The references have the column's type, the width is at most the type's bits, and the bytes hold the blocks.
 pub fn unfor_global(
     alloc: Global,
     column: &PackedColumn,
@@ -133,11 +133,11 @@ pub fn unfor_global(
     unfor_column(alloc, column, Widths::Global(width), references, work)
 }
 
-/// The column of these parts plus the references, where block `j` lies between the boundaries `j` and `j + 1`,
-/// in bytes counted from the first boundary. Each block is unpacked once.
+/// The column of these parts plus the references, where block `j` is between the boundaries `j` and `j + 1`,
+/// in bytes from the first boundary on. Each block is unpacked once.
 ///
-/// The references have the column's type. There is one boundary more than there are blocks, and each two
-/// neighbours are those of a block in the bytes, of at most the type's bits.
+/// The references have the column's type. There is one boundary more than blocks, and each two neighbours
+/// enclose a block within the bytes, of at most the type's bits.
 pub fn unfor_blocked<'a>(
     alloc: Global,
     column: &PackedColumn<'a>,

@@ -1,6 +1,7 @@
 //! Tests of a range on packed blocks: a block is compared in the order of its lanes, and not unpacked where its width decides.
 
 mod packed_data;
+pub mod primitive;
 
 ghost use Rattle.std.specs.Prelude.{◌≡◌, ◌==◌, ◌+◌, ◌*◌, ◌/◌, ◌<◌, ◌≤◌, ◌^◌, ℕ, IfOk, IfSome, IsTrue, OnOk, Ok, false, length, map, min, not, option_map, pos, slice_index_or, slice_set, unwrap_or, if◌then◌else◌};
 ghost use Rattle.std.specs.Option.{option_copied};
@@ -19,7 +20,7 @@ ghost use Rattle.fl_bitpacking.specs.Compared.{IsPackedTest};
 ghost use Rattle.fl_bitpacking.specs.Decided.{is_decided, undecided_below, undecided_blocks};
 ghost use Rattle.fl_bitpacking.specs.Parts.{AreReadable, Fit, blocks_in, blocks_to_read, parts_of};
 ghost use Rattle.fl_bitpacking.specs.Placed.{ArePlaced, value_beside};
-ghost use Rattle.fl_bitpacking.specs.RangeTests.{answer_of, in_range, passes};
+ghost use Rattle.fl_bitpacking.specs.RangeTests.{IsTestOf, answer_of, in_range, passes};
 
 use crate::bitpack_decompress::PackedColumn;
 use crate::blocks::{PackedBlocks, block_at, prove_count_fits};
@@ -27,7 +28,7 @@ use crate::compute::ordered_word::OrderedWord;
 use crate::compute::range_test::{PatternTest, RangeTest};
 use crate::patching::place_of;
 use fastlanes::{Work, transpose_bits, unpack_cmp_bytes};
-use fl_column::{BoolArray, PrimitiveArray};
+use fl_column::{BoolArray, PhysicalPType, PrimitiveArray};
 use fl_patches::{Patches, Widths};
 use fl_types::{BitList, FastLanesError, NativePType, PType, match_each_integer_ptype};
 use std::alloc::{AllocError, Global};
@@ -46,6 +47,7 @@ struct PackedTest {
 impl PackedTest {
     /// The test of packed items of a type.
     fn new(range: RangeTest, ptype: PType) -> PackedTest
+        requires { IsTestOf ptype range }
         ensures range { result.range ≡ range }
         ensures typed { result.ptype ≡ ptype }
         ensures same { IsPackedTest result }
@@ -55,6 +57,38 @@ impl PackedTest {
             ptype,
             patterns: range.on_patterns(ptype),
         }
+    }
+
+    /// Whether a width decides the test: all items of a block of this width that are no patches have one answer. The type's own
+    /// width decides nothing.
+    fn is_decided(self, width: usize) -> bool
+        requires test { IsPackedTest self }
+        requires width { width ≤ bits_of_type self.ptype }
+        ensures { result ≡ is_decided self.ptype width (passes self.range) }
+    {
+        if width >= self.ptype.bit_width() {
+            return false;
+        }
+        let count: u64 = 1 << width;
+        self.patterns.has_one_answer(count - 1)
+    }
+
+    /// Whether an item passes that is stored as 0.
+    fn is_passed_by_zero(self) -> bool
+        requires { IsPackedTest self }
+        ensures { result ≡ passes self.range (pos 0) }
+    {
+        self.patterns.is_passed_by(0)
+    }
+
+    /// Whether an item of the type passes.
+    fn is_passed_by<T: PhysicalPType>(self, item: T) -> bool
+        requires test { IsPackedTest self }
+        requires typed { self.ptype ≡ T.PTYPE }
+        ensures { result ≡ passes self.range (T.value item) }
+    {
+        item.prove_in_range();
+        self.patterns.is_passed_by(item.pattern())
     }
 }
 
@@ -174,8 +208,8 @@ fn test_block<W: OrderedWord>(
     ensures words { work.new.words ≡ work.old.words }
 {
     prove_count_fits(work);
-    if test.range.is_decided(test.ptype, width) {
-        fill(bits, test.range.is_passed_by(0));
+    if test.is_decided(width) {
+        fill(bits, test.is_passed_by_zero());
     } else {
         compare_patterns::<W>(test.patterns, width, block, bits, work);
     }
@@ -286,25 +320,29 @@ fn test_items(
 }
 
 /// The answer of a test for a value.
-fn passes_at<T: NativePType>(test: RangeTest, values: &[T], k: usize) -> bool
-    requires { k < length values.now }
-    ensures { result ≡ passes test (slice_index_or (map T.value values.now) k (pos 0)) }
+fn passes_at<T: PhysicalPType>(test: PackedTest, values: &[T], k: usize) -> bool
+    requires test { IsPackedTest test }
+    requires typed { test.ptype ≡ T.PTYPE }
+    requires inside { k < length values.now }
+    ensures { result ≡ passes test.range (slice_index_or (map T.value values.now) k (pos 0)) }
 {
     let value = values[k];
-    test.is_passed_by(value.as_i128())
+    test.is_passed_by(value)
 }
 
 /// Puts the answers for values in the places of their indices.
-fn write_answers<T: NativePType, I: NativePType>(
-    test: RangeTest,
+fn write_answers<T: PhysicalPType, I: NativePType>(
+    test: PackedTest,
     indices: &[I],
     values: &[T],
     offset: usize,
     bits: &mut BitList,
 )
-    requires { ArePlaced (numbers_by I.value indices.now) (length values.now) offset (length bits.old) }
+    requires test { IsPackedTest test }
+    requires typed { test.ptype ≡ T.PTYPE }
+    requires placed { ArePlaced (numbers_by I.value indices.now) (length values.now) offset (length bits.old) }
     ensures long { length bits.new ≡ length bits.old }
-    ensures bits { (i : ℕ) → i < length bits.old → slice_index_or bits.new i false ≡ unwrap_or (option_map (passes test) (value_beside (numbers_by I.value indices.now) (map T.value values.now) (offset + i))) (slice_index_or bits.old i false) }
+    ensures bits { (i : ℕ) → i < length bits.old → slice_index_or bits.new i false ≡ unwrap_or (option_map (passes test.range) (value_beside (numbers_by I.value indices.now) (map T.value values.now) (offset + i))) (slice_index_or bits.old i false) }
 {
     for k in 0..indices.len() {
         let answer = passes_at(test, values, k);
@@ -312,32 +350,36 @@ fn write_answers<T: NativePType, I: NativePType>(
     }
 }
 
-fn write_typed<T: NativePType, I: NativePType>(
-    test: RangeTest,
+fn write_typed<T: PhysicalPType, I: NativePType>(
+    test: PackedTest,
     indices: &PrimitiveArray,
     values: &[T],
     offset: usize,
     bits: &mut BitList,
 )
-    requires typed { indices.now.ptype ≡ I.PTYPE }
+    requires test { IsPackedTest test }
+    requires typed { test.ptype ≡ T.PTYPE }
+    requires indices { indices.now.ptype ≡ I.PTYPE }
     requires placed { ArePlaced (numbers indices.now) (length values.now) offset (length bits.old) }
     ensures long { length bits.new ≡ length bits.old }
-    ensures bits { (i : ℕ) → i < length bits.old → slice_index_or bits.new i false ≡ unwrap_or (option_map (passes test) (value_beside (numbers indices.now) (map T.value values.now) (offset + i))) (slice_index_or bits.old i false) }
+    ensures bits { (i : ℕ) → i < length bits.old → slice_index_or bits.new i false ≡ unwrap_or (option_map (passes test.range) (value_beside (numbers indices.now) (map T.value values.now) (offset + i))) (slice_index_or bits.old i false) }
 {
     write_answers(test, indices.as_slice::<I>(), values, offset, bits);
 }
 
 /// Puts the answers for values in the places of their indices.
-fn write_in<T: NativePType>(
-    test: RangeTest,
+fn write_in<T: PhysicalPType>(
+    test: PackedTest,
     indices: &PrimitiveArray,
     values: &[T],
     offset: usize,
     bits: &mut BitList,
 )
-    requires { ArePlaced (numbers indices.now) (length values.now) offset (length bits.old) }
+    requires test { IsPackedTest test }
+    requires typed { test.ptype ≡ T.PTYPE }
+    requires placed { ArePlaced (numbers indices.now) (length values.now) offset (length bits.old) }
     ensures long { length bits.new ≡ length bits.old }
-    ensures bits { (i : ℕ) → i < length bits.old → slice_index_or bits.new i false ≡ unwrap_or (option_map (passes test) (value_beside (numbers indices.now) (map T.value values.now) (offset + i))) (slice_index_or bits.old i false) }
+    ensures bits { (i : ℕ) → i < length bits.old → slice_index_or bits.new i false ≡ unwrap_or (option_map (passes test.range) (value_beside (numbers indices.now) (map T.value values.now) (offset + i))) (slice_index_or bits.old i false) }
 {
     match_each_integer_ptype!(
         indices.ptype(),
@@ -345,11 +387,13 @@ fn write_in<T: NativePType>(
     )
 }
 
-fn test_patches_typed<T: NativePType>(test: RangeTest, patches: &Patches, bits: &mut BitList)
+fn test_patches_typed<T: PhysicalPType>(test: PackedTest, patches: &Patches, bits: &mut BitList)
+    requires test { IsPackedTest test }
+    requires typed { test.ptype ≡ T.PTYPE }
     requires values { patches.now.values.ptype ≡ T.PTYPE }
     requires long { length bits.old ≡ patches.now.array_len }
     ensures long { length bits.new ≡ length bits.old }
-    ensures bits { (i : ℕ) → i < length bits.old → slice_index_or bits.new i false ≡ unwrap_or (option_map (passes test) (patched patches.now i)) (slice_index_or bits.old i false) }
+    ensures bits { (i : ℕ) → i < length bits.old → slice_index_or bits.new i false ≡ unwrap_or (option_map (passes test.range) (patched patches.now i)) (slice_index_or bits.old i false) }
 {
     patches.prove_well_formed();
     let offset = patches.offset();
@@ -359,10 +403,12 @@ fn test_patches_typed<T: NativePType>(test: RangeTest, patches: &Patches, bits: 
 }
 
 /// Puts the answers for the patches' values in their places.
-fn test_patches(test: RangeTest, patches: &Patches, bits: &mut BitList)
+fn test_patches(test: PackedTest, patches: &Patches, bits: &mut BitList)
+    requires test { IsPackedTest test }
+    requires typed { patches.now.values.ptype ≡ test.ptype }
     requires long { length bits.old ≡ patches.now.array_len }
     ensures long { length bits.new ≡ length bits.old }
-    ensures bits { (i : ℕ) → i < length bits.old → slice_index_or bits.new i false ≡ unwrap_or (option_map (passes test) (patched patches.now i)) (slice_index_or bits.old i false) }
+    ensures bits { (i : ℕ) → i < length bits.old → slice_index_or bits.new i false ≡ unwrap_or (option_map (passes test.range) (patched patches.now i)) (slice_index_or bits.old i false) }
 {
     match_each_integer_ptype!(
         patches.values().ptype(),
@@ -371,10 +417,11 @@ fn test_patches(test: RangeTest, patches: &Patches, bits: &mut BitList)
 }
 
 /// These answers, with those for the patches in their places, if there are patches.
-fn with_patches(test: RangeTest, mut bits: BitList, patches: Option<&Patches>) -> BitList
-    requires { IfSome (option_copied patches) (λ p. p.array_len ≡ length bits) }
+fn with_patches(test: PackedTest, mut bits: BitList, patches: Option<&Patches>) -> BitList
+    requires test { IsPackedTest test }
+    requires patches { IfSome (option_copied patches) (λ p. (p.array_len ≡ length bits) × (p.values.ptype ≡ test.ptype)) }
     ensures long { length result ≡ length bits }
-    ensures bits { (i : ℕ) → i < length bits → slice_index_or result i false ≡ unwrap_or (option_map (passes test) (patched_in (option_copied patches.entry) i)) (slice_index_or bits i false) }
+    ensures bits { (i : ℕ) → i < length bits → slice_index_or result i false ≡ unwrap_or (option_map (passes test.range) (patched_in (option_copied patches.entry) i)) (slice_index_or bits i false) }
 {
     if let Some(patches) = patches {
         test_patches(test, patches, &mut bits);
@@ -390,6 +437,7 @@ pub(crate) fn test_column(
     range: RangeTest,
     work: &mut Work,
 ) -> Result<BoolArray, FastLanesError>
+    requires test { IsTestOf column.now.ptype range }
     requires fit { Fit (parts_of column.now) }
     requires readable { AreReadable (bits_of_type column.now.ptype) (blocks_to_read column.now widths) }
     ensures column { Answers column_of_bools result (Ok (tested (passes range) (column_of_packed (parts_of column.now) (blocks_of widths.entry)))) }
@@ -405,7 +453,7 @@ pub(crate) fn test_column(
     };
     let test = PackedTest::new(range, column.ptype);
     let stored = test_items(alloc, blocks, test, work)?;
-    let bits = with_patches(range, stored, column.patches);
+    let bits = with_patches(test, stored, column.patches);
     let validity = column.validity.try_clone(alloc)?;
     BoolArray::new(bits, validity)
 }
@@ -418,6 +466,7 @@ pub(crate) fn test_global(
     range: RangeTest,
     work: &mut Work,
 ) -> Result<BoolArray, FastLanesError>
+    requires test { IsTestOf column.now.ptype range }
     requires fit { Fit (parts_of column.now) }
     requires width { width ≤ bits_of_type column.now.ptype }
     requires room { 128 * width * block_count (parts_of column.now) ≤ length column.now.packed.now }
@@ -440,6 +489,7 @@ pub(crate) fn test_blocked(
     range: RangeTest,
     work: &mut Work,
 ) -> Result<BoolArray, FastLanesError>
+    requires test { IsTestOf column.now.ptype range }
     requires fit { Fit (parts_of column.now) }
     requires count { length boundaries.now.slots ≡ block_count (parts_of column.now) + 1 }
     requires blocks { IsTrue (are_blocks (bits_of_type column.now.ptype) (length column.now.packed.now) (numbers boundaries.now)) }

@@ -1,16 +1,21 @@
-//! Comparisons with constants and between bounds, as tests of one range of integers.
+//! Comparisons with constants and between bounds, as tests of one range of integers, or of their sums with a reference.
 
-ghost use Rattle.std.specs.Prelude.{◌≡◌, ◌&&◌, ◌||◌, ◌-◌, ◌^◌, ◌<◌, ◌≤◌, ◌⊎◌, ◌+◌, ◌≤ℤ◌, ◌<ℤ◌, ◌+ℤ◌, ◌-ℤ◌, ℕ, ℤ, IfNone, IfSome, pos, negsuc, int_le, nat_eq, nat_le, nat_lt};
-ghost use Rattle.fl_types.specs.Integers.{bits_of_type};
-ghost use Rattle.fl_types.specs.Values.{integer_of};
+ghost use Rattle.std.specs.Prelude.{◌≡◌, ◌&&◌, ◌||◌, ◌-◌, ◌%◌, ◌^◌, ◌<◌, ◌≤◌, ◌⊎◌, ◌+◌, ◌≤ℤ◌, ◌<ℤ◌, ◌+ℤ◌, ◌-ℤ◌, ℕ, ℤ, IfNone, IfSome, pos, negsuc, int_le, nat_eq, nat_le, if◌then◌else◌};
+ghost use Rattle.fl_types.specs.Integers.{bits_of_type, pattern_of, wrap};
+ghost use Rattle.fl_types.specs.Values.{integer_of, ptype_of_value};
 ghost use Rattle.fl_column.specs.Questions.{holds, is_before, is_between};
-ghost use Rattle.fl_bitpacking.specs.Decided.{is_decided};
-ghost use Rattle.fl_bitpacking.specs.RangeTests.{TestsPatterns, TestsRange, answer_of, is_from, is_up_to, passes};
+ghost use Rattle.fl_bitpacking.specs.RangeTests.{IsTestOf, TestsPatterns, TestsRange, answer_of, is_from, is_up_to, passes};
 ghost use Rattle.fl_bitpacking.specs.LeastIntegers.{least_of};
 
-use fl_types::{BetweenOptions, CompareOperator, PType, PValue, StrictComparison};
+use fl_column::PhysicalPType;
+use fl_types::{
+    BetweenOptions, CompareOperator, NativePType, PType, PValue, StrictComparison,
+    match_each_integer_ptype,
+};
+use num_traits::WrappingAdd;
 
-/// Whether an integer lies in a range, which may be open at an end; or, negated, whether it does not.
+/// Whether an integer lies in a range, which may be open at an end; or, negated, whether it does not. Where there is a
+/// reference, the sum of the integer and the reference is looked at, modulo 2 to the reference's bits.
 #[derive(Clone, Copy)]
 pub struct RangeTest {
     /// The least integer of the range, where there is one.
@@ -19,6 +24,8 @@ pub struct RangeTest {
     pub upper: Option<i128>,
     /// Whether the integers out of the range pass in place of those in it.
     pub negated: bool,
+    /// What is added to each integer, where there is a reference.
+    pub reference: Option<PValue>,
 }
 
 /// The test of a type's integers by their patterns: whether the pattern less `low`, modulo 2 to the type's bits, is at most
@@ -31,6 +38,8 @@ pub(crate) struct PatternTest {
     pub(crate) span: u64,
     /// Whether the patterns out of the range pass in place of those in it.
     pub(crate) negated: bool,
+    /// The greatest pattern of the type.
+    pub(crate) greatest: u64,
 }
 
 /// The integer of a value. One more and one less are an `i128` as well.
@@ -134,50 +143,51 @@ fn greatest_within(upper: Option<i128>, greatest: i128) -> i128
     }
 }
 
-/// Whether an integer is at or above a bound, if there is one.
-fn is_from(lower: Option<i128>, z: i128) -> bool
-    ensures { result ≡ is_from lower z }
+fn sum_typed<T: NativePType + WrappingAdd>(x: PValue, y: PValue) -> PValue
+    requires x { ptype_of_value x ≡ T.PTYPE }
+    requires y { ptype_of_value y ≡ T.PTYPE }
+    ensures sum { integer_of result ≡ wrap T.PTYPE (integer_of x +ℤ integer_of y) }
+    ensures typed { ptype_of_value result ≡ T.PTYPE }
 {
-    match lower {
-        Some(lower) => lower <= z,
-        None => true,
-    }
+    let x = T::from_pvalue(x).unwrap();
+    let y = T::from_pvalue(y).unwrap();
+    x.wrapping_add(&y).into_pvalue()
 }
 
-/// Whether an integer is at or below a bound, if there is one.
-fn is_up_to(upper: Option<i128>, z: i128) -> bool
-    ensures { result ≡ is_up_to upper z }
+/// The sum of two values of one type, modulo 2 to the type's bits.
+fn sum(x: PValue, y: PValue) -> PValue
+    requires { ptype_of_value x ≡ ptype_of_value y }
+    ensures sum { integer_of result ≡ wrap (ptype_of_value x) (integer_of x +ℤ integer_of y) }
+    ensures typed { ptype_of_value result ≡ ptype_of_value x }
 {
-    match upper {
-        Some(upper) => z <= upper,
-        None => true,
-    }
+    match_each_integer_ptype!(x.ptype(), sum_typed(x, y))
 }
 
-/// Whether either all numbers below `count` are from `first` on and below `end`, or none is.
-fn have_one_answer(count: u128, first: u128, end: u128) -> bool
-    ensures { result ≡ (nat_le end first || (nat_le count first || (nat_eq first 0 && nat_le count end))) }
+fn pattern_typed<T: PhysicalPType>(value: PValue) -> u64
+    requires { ptype_of_value value ≡ T.PTYPE }
+    ensures { result ≡ pattern_of T.PTYPE (integer_of value) }
 {
-    (end <= first) | (count <= first) | ((first == 0) & (count <= end))
+    let value = T::from_pvalue(value).unwrap();
+    value.pattern()
 }
 
-/// The first natural number at or above a bound, if there is one.
-fn first_number(lower: Option<i128>) -> u128
-    ensures { (x : ℕ) → is_from lower (pos x) ≡ nat_le result x }
+/// The pattern of a value.
+fn pattern(value: PValue) -> u64
+    ensures { result ≡ pattern_of (ptype_of_value value) (integer_of value) }
 {
-    match lower {
-        Some(lower) => numbers_below(lower),
-        None => 0,
-    }
+    match_each_integer_ptype!(value.ptype(), pattern_typed(value))
 }
 
-/// The first natural number above a bound, if there is one, or 2 to the 64.
-fn end_number(upper: Option<i128>) -> u128
-    ensures { (x : ℕ) → x < 2 ^ 64 → is_up_to upper (pos x) ≡ nat_lt x result }
+/// How far a pattern is above another one, modulo 2 to a type's bits, of which `greatest` is the greatest pattern.
+fn distance_above(pattern: u64, low: u64, greatest: u64) -> u64
+    requires pattern { pattern ≤ greatest }
+    requires low { low ≤ greatest }
+    ensures { result ≡ (pattern + (greatest + 1 - low)) % (greatest + 1) }
 {
-    match upper {
-        Some(upper) => numbers_up_to(upper),
-        None => 1 << 64,
+    if low <= pattern {
+        pattern - low
+    } else {
+        pattern + (greatest - low) + 1
     }
 }
 
@@ -185,18 +195,21 @@ impl RangeTest {
     /// The test of the integers from `lower` to `upper`, as far as there are such bounds, or of all others.
     #[tactic(auto, unfolding(crate::specs::RangeTests::passes))]
     fn new(lower: Option<i128>, upper: Option<i128>, negated: bool) -> RangeTest
-        ensures { (z : ℤ) → passes result z ≡ answer_of negated (is_from lower z && is_up_to upper z) }
+        ensures test { (z : ℤ) → passes result z ≡ answer_of negated (is_from lower z && is_up_to upper z) }
+        ensures plain { result.reference ≡ None }
     {
         RangeTest {
             lower,
             upper,
             negated,
+            reference: None,
         }
     }
 
     /// The test of an item by a comparison with a constant.
     pub fn comparing(operator: CompareOperator, constant: PValue) -> RangeTest
-        ensures { (z : ℤ) → passes result z ≡ holds operator (integer_of constant) z }
+        ensures test { (z : ℤ) → passes result z ≡ holds operator (integer_of constant) z }
+        ensures plain { result.reference ≡ None }
     {
         let (from, up_to) = (
             lower_end(constant, StrictComparison::NonStrict),
@@ -220,20 +233,29 @@ impl RangeTest {
 
     /// The test of an item by two bounds.
     pub fn between(lower: PValue, upper: PValue, options: BetweenOptions) -> RangeTest
-        ensures { (z : ℤ) → passes result z ≡ is_between options (integer_of lower) (integer_of upper) z }
+        ensures test { (z : ℤ) → passes result z ≡ is_between options (integer_of lower) (integer_of upper) z }
+        ensures plain { result.reference ≡ None }
     {
         let from = lower_end(lower, options.lower_strict);
         let up_to = upper_end(upper, options.upper_strict);
         RangeTest::new(Some(from), Some(up_to), false)
     }
 
-    /// Whether an integer passes.
-    #[tactic(auto, unfolding(crate::specs::RangeTests::passes))]
-    pub fn is_passed_by(self, z: i128) -> bool
-        ensures { result ≡ passes self z }
+    /// The same test of the sums of the integers and a reference, modulo 2 to the reference's bits. Where the test has a
+    /// reference already, both are added, so the two are of one type.
+    pub fn of_sums(self, reference: PValue) -> RangeTest
+        requires { IsTestOf (ptype_of_value reference) self }
+        ensures test { (z : ℤ) → passes result z ≡ passes self (wrap (ptype_of_value reference) (z +ℤ integer_of reference)) }
+        ensures typed { IsTestOf (ptype_of_value reference) result }
     {
-        let inside = is_from(self.lower, z) && is_up_to(self.upper, z);
-        if self.negated { !inside } else { inside }
+        let reference = match self.reference {
+            Some(other) => sum(reference, other),
+            None => reference,
+        };
+        RangeTest {
+            reference: Some(reference),
+            ..self
+        }
     }
 
     /// The ends of the range among the integers from `least` to `greatest`. Where none of these is in the range, the first end
@@ -249,27 +271,6 @@ impl RangeTest {
         )
     }
 
-    /// The first natural number of the range, and the first one behind the range, as far as they are below 2 to the 64.
-    fn numbers(self) -> (u128, u128)
-        ensures { (x : ℕ) → x < 2 ^ 64 → (is_from self.lower (pos x) && is_up_to self.upper (pos x)) ≡ (nat_le result.0 x && nat_lt x result.1) }
-    {
-        (first_number(self.lower), end_number(self.upper))
-    }
-
-    /// Whether a width decides the test: all items of a block of this width that are no patches have one answer. The type's own
-    /// width decides nothing.
-    pub(crate) fn is_decided(self, ptype: PType, width: usize) -> bool
-        requires { width ≤ bits_of_type ptype }
-        ensures { result ≡ is_decided ptype width (passes self) }
-    {
-        if width >= ptype.bit_width() {
-            return false;
-        }
-        let count = 1u128 << width;
-        let (first, end) = self.numbers();
-        have_one_answer(count, first, end)
-    }
-
     /// The ends of the range among the integers of a type, as `ends` gives them.
     fn ends_of_type(self, ptype: PType) -> (i128, i128)
         ensures inside { (z : ℤ) → least_of ptype ≤ℤ z → z <ℤ (least_of ptype +ℤ pos (2 ^ bits_of_type ptype)) → (is_from self.lower z && is_up_to self.upper z) ≡ (int_le result.0 z && int_le z result.1) }
@@ -281,10 +282,53 @@ impl RangeTest {
 
     /// The test of a type's integers by their patterns.
     pub(crate) fn on_patterns(self, ptype: PType) -> PatternTest
+        requires { IsTestOf ptype self }
         ensures { TestsPatterns ptype self result }
     {
         let (lower, upper) = self.ends_of_type(ptype);
-        pattern_test(ptype, lower, upper, self.negated)
+        let patterns = pattern_test(ptype, lower, upper, self.negated);
+        match self.reference {
+            Some(reference) => patterns.of_sums(pattern(reference)),
+            None => patterns,
+        }
+    }
+}
+
+impl PatternTest {
+    /// The same test of the sums of the patterns and another one: the range begins lower by as much.
+    fn of_sums(self, reference: u64) -> PatternTest
+        requires low { self.low ≤ self.greatest }
+        requires reference { reference ≤ self.greatest }
+        ensures { result ≡ record self { low = (self.low + (self.greatest + 1 - reference)) % (self.greatest + 1) } }
+    {
+        PatternTest {
+            low: distance_above(self.low, reference, self.greatest),
+            ..self
+        }
+    }
+
+    /// Whether a pattern passes.
+    pub(crate) fn is_passed_by(self, pattern: u64) -> bool
+        requires low { self.low ≤ self.greatest }
+        requires pattern { pattern ≤ self.greatest }
+        ensures { result ≡ answer_of self.negated (nat_le ((pattern + (self.greatest + 1 - self.low)) % (self.greatest + 1)) self.span) }
+    {
+        let inside = distance_above(pattern, self.low, self.greatest) <= self.span;
+        if self.negated { !inside } else { inside }
+    }
+
+    /// Whether either all patterns up to `last` pass, or none does: they are `last + 1` neighbours, of which 0 is so far above
+    /// `low`, and the range may begin anew behind the greatest pattern.
+    pub(crate) fn has_one_answer(self, last: u64) -> bool
+        requires { self.low ≤ self.greatest }
+        ensures { let first = (self.greatest + 1 - self.low) % (self.greatest + 1) in result ≡ (if nat_le first self.span then nat_eq self.span self.greatest || nat_le last (self.span - first) else nat_le last (self.greatest - first)) }
+    {
+        let first = distance_above(0, self.low, self.greatest);
+        if first <= self.span {
+            self.span == self.greatest || last <= self.span - first
+        } else {
+            last <= self.greatest - first
+        }
     }
 }
 
@@ -300,12 +344,14 @@ fn pattern_test(ptype: PType, lower: i128, upper: i128, negated: bool) -> Patter
             low: pattern_of_integer(lower, greatest),
             span,
             negated,
+            greatest,
         },
         // Each pattern is in the whole range, and none is out of it.
         None => PatternTest {
             low: 0,
             span: greatest,
             negated: !negated,
+            greatest,
         },
     }
 }
@@ -320,20 +366,6 @@ fn distance(lower: i128, upper: i128) -> Option<u64>
         return None;
     }
     Some((upper - lower) as u64)
-}
-
-/// How many natural numbers are below an integer.
-fn numbers_below(z: i128) -> u128
-    ensures { (x : ℕ) → int_le z (pos x) ≡ nat_le result x }
-{
-    if z < 0 { 0 } else { z as u128 }
-}
-
-/// How many natural numbers an integer is at or above.
-fn numbers_up_to(z: i128) -> u128
-    ensures { (x : ℕ) → int_le (pos x) z ≡ nat_lt x result }
-{
-    if z < 0 { 0 } else { z as u128 + 1 }
 }
 
 /// The pattern of an integer of a type, by the type's greatest pattern.

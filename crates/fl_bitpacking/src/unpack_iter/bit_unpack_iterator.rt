@@ -1,4 +1,4 @@
-//! The whole blocks of a packed column, one after the other.
+//! The whole blocks of a packed column, one after another.
 
 ghost use Rattle.std.specs.Prelude.{◌≡◌, ◌*◌, ◌/◌, ◌<◌, ◌≤◌, length, map, option_map, if◌then◌else◌, nat_lt};
 ghost use Rattle.std.specs.Borrow.{sem};
@@ -8,8 +8,8 @@ use crate::bit_packed::{BitCount, BitPacked};
 use crate::unpack_iter::unpacked_block::UnpackedBlock;
 use fastlanes::{FL_CHUNK_SIZE, Work};
 
-/// Whole blocks of a packed column of one width, which are unpacked and lent one after the other. They
-/// are counted where the reader counts that they were asked of.
+/// Iterates over whole blocks of a packed column of one width: unpacks and lends them one after another,
+/// and counts them in the `Work` of its reader.
 #[derive(Drop)]
 pub struct BitUnpackIterator<'a, T: BitCount> {
     pub(crate) packed: &'a [u8],
@@ -26,11 +26,11 @@ impl<'a, T: BitPacked> BitUnpackIterator<'a, T> {
     ghost use Rattle.fl_bitpacking.specs.WholeBlocks.{block_items_at, next_items};
     ghost use Rattle.fl_bitpacking.specs.BlockLends.{blocks_left, lends_block, lends_next};
 
-    /// The blocks from the first one on, or from the second one where the first one is sliced, up to
+    /// The blocks from the first one on, or from the second one if the first one is sliced, up to
     /// `num_chunks`. They are unpacked into the buffer, and counted in this `Work`.
     ///
     /// The width is at most the type's bits, `elems_per_chunk` words of the type are the `128 *
-    /// bit_width` bytes of a block, and the blocks lie in the bytes.
+    /// bit_width` bytes of a block, and the bytes hold the blocks.
     pub fn new(
         packed: &'a [u8],
         buffer: [T; FL_CHUNK_SIZE],
@@ -55,14 +55,14 @@ impl<'a, T: BitPacked> BitUnpackIterator<'a, T> {
         }
     }
 
-    /// The blocks that were unpacked so far, with those that were counted before.
+    /// The number of blocks unpacked so far, including those counted before.
     pub fn work(&self) -> &Work
         ensures { result.now ≡ (blocks_left self.now).work }
     {
         self.work
     }
 
-    /// Unpacks the next block, and lends its items, or `None` behind the last block.
+    /// Unpacks the next block and lends its items, or `None` after the last block.
     pub fn next(&mut self) -> Option<&mut [T; FL_CHUNK_SIZE]>
         ensures* after { sem 𝓛 (lends_next T.row T.BitCount self.entry result) }
         ensures items { option_map (λ b. map T.value b.now) result ≡ next_items T.PTYPE (blocks_left self.old) }

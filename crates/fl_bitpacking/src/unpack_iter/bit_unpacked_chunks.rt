@@ -1,4 +1,4 @@
-//! Reading packed columns by the kernels of the layout.
+//! Reading packed columns with the kernels of the layout.
 
 ghost use Rattle.std.specs.Prelude.{◌≡◌, ◌≤◌};
 ghost use Rattle.fl_types.specs.Integers.{bits_of_type};
@@ -18,9 +18,9 @@ use fl_patches::Widths;
 use fl_types::FastLanesError;
 use std::marker::Model;
 
-/// A packed column that is read block by block by the kernels of the layout: the items of a first block
-/// that is cut, or alone, the whole blocks, the items of a last block that is cut, and all items at once.
-/// It keeps no state but its `Work`.
+/// Reads a packed column block by block with the kernels of the layout: the items of a first block that is
+/// cut or the only one, the whole blocks, the items of a last block that is cut, and all items at once. Its
+/// only state is its `Work`.
 #[derive(Drop)]
 pub struct BitUnpackedChunks<'a, T: BitCount> {
     packed: &'a [u8],
@@ -53,13 +53,13 @@ impl<'a, T: BitPacked> BitUnpackedChunks<'a, T> {
     ghost use Rattle.fl_bitpacking.specs.Lent.{integers_lent};
     ghost use Rattle.fl_bitpacking.specs.Sources.{reader_at};
 
-    /// A reader of this many items of packed blocks that have one width, which is at most the type's bits. The
-    /// scratch block is scratch space.
+    /// A reader of this many items of packed blocks of one width, which is at most the type's bits. The scratch
+    /// block is space that it writes.
     ///
     /// # Errors
-    /// `NotGlobal` where each block has a width of its own. Then `OffsetTooLarge` where the offset is 1024 or
-    /// more, `LengthOverflow` where offset and length together, rounded up to whole blocks, are above
-    /// `usize::MAX`, and `PackedLength` where the bytes are not those of the blocks.
+    /// `NotGlobal` if each block has a width of its own. Then `OffsetTooLarge` if the offset is 1024 or
+    /// more, `LengthOverflow` if offset and length together, rounded up to whole blocks, are above
+    /// `usize::MAX`, and `PackedLength` if the bytes are not those of the blocks.
     pub fn try_new<D: PackedSource>(
         data: &'a D,
         len: usize,
@@ -103,7 +103,7 @@ impl<'a, T: BitPacked> BitUnpackedChunks<'a, T> {
         }
     }
 
-    /// The blocks that were unpacked so far.
+    /// The number of blocks unpacked so far.
     pub fn work(&self) -> &Work
         ensures { result.now ≡ self.now.work }
     {
@@ -138,8 +138,8 @@ impl<'a, T: BitPacked> BitUnpackedChunks<'a, T> {
         }
     }
 
-    /// The items of the first block, where it is cut in front or the only one, and else none. They are
-    /// lent until the reader is used again, and are the same at every call.
+    /// The items of the first block if it is cut or the only one, else none. They are lent until the reader
+    /// is used again, and are the same at every call.
     pub fn initial(&mut self) -> UnpackedItems<'_, T>
         ensures* after { sem 𝓛 (lends_chunk_items T.row T.BitCount self.entry (after_initial self.old) result) }
         ensures items { integers_lent T.value result ≡ initial_items T.PTYPE self.old }
@@ -152,8 +152,8 @@ impl<'a, T: BitPacked> BitUnpackedChunks<'a, T> {
         self.lend_block(0, span)
     }
 
-    /// The blocks that neither `initial` nor `trailer` lends, the same at every call. Those that are
-    /// unpacked stand in the reader's `Work` too.
+    /// The blocks that neither `initial` nor `trailer` lends, the same at every call. The reader's `Work`
+    /// counts those that are unpacked.
     pub fn full_chunks(&mut self) -> BitUnpackIterator<'_, T>
         ensures* after { sem 𝓛 (lends_count T.row T.BitCount self.entry result) }
         ensures blocks { blocks_left result ≡ whole_blocks self.old }
@@ -168,8 +168,8 @@ impl<'a, T: BitPacked> BitUnpackedChunks<'a, T> {
         }
     }
 
-    /// The items of the last block, where it is cut behind and not the only one, and else none. They
-    /// are lent until the reader is used again, and are the same at every call.
+    /// The items of the last block if it is cut and not the only one, else none. They are lent until the
+    /// reader is used again, and are the same at every call.
     pub fn trailer(&mut self) -> UnpackedItems<'_, T>
         ensures* after { sem 𝓛 (lends_chunk_items T.row T.BitCount self.entry (after_trailer self.old) result) }
         ensures items { integers_lent T.value result ≡ trailer_items T.PTYPE self.old }
@@ -182,7 +182,7 @@ impl<'a, T: BitPacked> BitUnpackedChunks<'a, T> {
         self.lend_block(end / FL_CHUNK_SIZE, span)
     }
 
-    /// Writes all items, each block unpacked once, a whole one straight into its place.
+    /// Writes all items. Each block is unpacked once, a whole one directly into the output.
     #[tactic(auto, unfolding(crate::specs::BlockSums::decoded_item))]
     pub fn decode_into(&mut self, output: &mut [T])
         requires { length output.old ≡ self.old.len }

@@ -1,4 +1,4 @@
-//! The items of a block that are lent from the scratch block.
+//! The items of a block, lent from the scratch block.
 
 ghost use Rattle.std.specs.Prelude.{◌≡◌, ◌≤◌};
 ghost use Rattle.std.specs.Option.{option_copied};
@@ -37,8 +37,8 @@ impl Span {
     }
 }
 
-/// The items of an unpacked block that belong to its column, or none. They stand in the scratch block,
-/// and are lent until the reader is used again.
+/// The items of an unpacked block that belong to its column, or none. They are in the scratch block, and
+/// lent until the reader is used again.
 #[derive(Drop)]
 pub struct UnpackedItems<'a, T> {
     pub(crate) block: &'a mut [T; FL_CHUNK_SIZE],
@@ -46,7 +46,7 @@ pub struct UnpackedItems<'a, T> {
 }
 
 impl<'a, T: BitPacked> UnpackedItems<'a, T> {
-    /// The items, or `None` where the reader lends none.
+    /// The items, or `None` if the reader lends none.
     pub fn items(&self) -> Option<&[T]>
         ensures { option_copied result ≡ items_lent self.now }
     {

@@ -4,7 +4,7 @@
 ghost use Rattle.std.specs.Prelude.{◌≡◌, ◌<◌, ◌≤◌, ◌+◌, ◌-◌, ◌*◌, ◌/◌, ◌^◌, ◌+ℤ◌, ◌-ℤ◌, ℕ, pos, Some, IfOk, length, map, min, option_map, slice_index_or};
 ghost use Rattle.fl_types.specs.Integers.{wrap};
 ghost use Rattle.fl_codec.specs.Chunks.{chunks_of};
-ghost use Rattle.fl_codec.specs.FoRColumns.{chunked_slots, chunked_sums, least_valid, min_valid};
+ghost use Rattle.fl_codec.specs.FoRColumns.{chunked_slots, chunked_sums, least_valid, min_valid, turned};
 
 use crate::chunks::{chunk_count, chunk_end};
 use fastlanes::FL_CHUNK_SIZE;
@@ -12,25 +12,11 @@ use fl_types::NativePType;
 use num_traits::{WrappingAdd, WrappingSub};
 use std::alloc::{AllocError, Global};
 
-/// The min_valid of two integers.
+/// The lesser of two integers.
 fn less<T: NativePType>(x: T, y: T) -> T
     ensures { Some (T.value result) ≡ min_valid (Some (T.value x)) (Some (T.value y)) }
 {
     if y < x { y } else { x }
-}
-
-/// The least of these integers, if there is one.
-pub(crate) fn least_of<T: NativePType>(items: &[T]) -> Option<T>
-    ensures { option_map T.value result ≡ least_valid (map (λ z. Some z) (map T.value items.now)) }
-{
-    if items.len() == 0 {
-        return None;
-    }
-    let mut least = items[0];
-    for i in 1..items.len() {
-        least = less(least, items[i]);
-    }
-    Some(least)
 }
 
 /// An integer less a reference, modulo 2 to the type's bits.
@@ -38,6 +24,21 @@ fn minus<T: NativePType + WrappingSub>(item: T, reference: T) -> T
     ensures { T.value result ≡ wrap T.PTYPE (T.value item -ℤ T.value reference) }
 {
     item.wrapping_sub(&reference)
+}
+
+/// The least of these integers, each less an origin, if there is one.
+pub(crate) fn least_of<T: NativePType + WrappingSub>(items: &[T], origin: T) -> Option<T>
+    ensures { option_map T.value result ≡ least_valid (map (λ z. Some z) (map (λ x. turned T.PTYPE (T.value origin) (T.value x)) items.now)) }
+{
+    if items.len() == 0 {
+        return None;
+    }
+    let mut least = minus(items[0], origin);
+    for i in 1..items.len() {
+        let item = minus(items[i], origin);
+        least = less(least, item);
+    }
+    Some(least)
 }
 
 /// An integer plus a reference, modulo 2 to the type's bits.

@@ -1,4 +1,4 @@
-//! Which items of plain arrays of integers lie between two bounds.
+//! Which items of plain arrays of integers are between two bounds.
 
 ghost use Rattle.std.specs.Prelude.{◌≡◌, ◌<◌, Ok, map, length, pos, slice_index_or};
 ghost use Rattle.fl_types.specs.Buffers.{integers_of, ptype_of};
@@ -81,8 +81,8 @@ fn between_slots(
 }
 
 impl PrimitiveArray {
-    /// Whether each item lies between two bounds of the array's type; a null stays a null. Nothing
-    /// lies between bounds of which the lower is above the upper.
+    /// Whether each item is between two bounds of the array's type; a null stays a null. Nothing
+    /// is between bounds of which the lower is greater than the upper.
     #[tactic(auto, using(crate::proofs::QuestionLaws::tests))]
     pub fn between(
         &self,

@@ -63,7 +63,7 @@ fn is_sorted_slots(slots: &PrimitiveBuffer, validity: &Validity, strict: bool) -
 }
 
 impl PrimitiveArray {
-    /// Whether no item is above the next or, where `strict`, each item is below the next; a null is
+    /// Whether no item is greater than the next or, if `strict`, each item is less than the next; a null is
     /// below every integer.
     pub fn is_sorted(&self, strict: bool) -> bool
         ensures { result ≡ (if strict then are_strictly_sorted (column_of_primitive self.now).items else are_sorted (column_of_primitive self.now).items) }

@@ -1,4 +1,4 @@
-//! What arrays of one value give and answer.
+//! Operations and queries of arrays of one value.
 
 ghost use Rattle.std.specs.Prelude.{◌≡◌, ◌||◌, IsTrue, IfOk, IfSome, Ok, Some, length, map, option_map, option_and_then, is_some, replicate, if◌then◌else◌};
 ghost use Rattle.std.specs.List.{list_all};
@@ -134,10 +134,10 @@ pub(crate) fn constant_of(
 
 impl ConstantArray {
     /// The item wherever an index names one, null where an index is null. The integer under a null
-    /// index is never looked at.
+    /// index is never read.
     ///
     /// # Errors
-    /// `IndexOutOfBounds` where an index is negative or not below the length.
+    /// `IndexOutOfBounds` if an index is negative or not below the length.
     pub fn take(
         &self,
         alloc: Global,
@@ -155,8 +155,8 @@ impl ConstantArray {
     /// items is skipped, wherever it starts.
     ///
     /// # Errors
-    /// `RangeOutOfBounds` where a range with items reaches beyond the length, and then
-    /// `LengthOverflow` where the lengths' sum is above `usize::MAX`.
+    /// `RangeOutOfBounds` if a range with items reaches beyond the length, and then
+    /// `LengthOverflow` if the lengths' sum is above `usize::MAX`.
     pub fn take_ranges(
         &self,
         alloc: Global,
@@ -170,7 +170,7 @@ impl ConstantArray {
         self.with_len(total).decode(alloc)
     }
 
-    /// The items at the mask's true places. The mask has the array's length.
+    /// The items whose bit of the mask is true. The mask has the array's length.
     pub fn filter(&self, alloc: Global, mask: &Mask) -> Result<PrimitiveArray, FastLanesError>
         requires { mask_len mask.now ≡ length (column_of_constant self.now).items }
         ensures { Answers column_of_primitive result (Ok (filter_of mask.now (column_of_constant self.now))) }
@@ -183,8 +183,8 @@ impl ConstantArray {
     /// The same integer in another type.
     ///
     /// # Errors
-    /// `NotInteger` where the target is no integer type, then `CastNull` where the null meets a
-    /// target that isn't nullable, then `CastOutOfRange` where the target doesn't have the integer.
+    /// `NotInteger` if the target is not an integer type, then `CastNull` if the null meets a
+    /// target that is not nullable, then `CastOutOfRange` if the target does not have the integer.
     pub fn cast(&self, alloc: Global, target: DType) -> Result<PrimitiveArray, FastLanesError>
         ensures { Answers column_of_primitive result (cast_column target (column_of_constant self.now)) }
     {
@@ -204,7 +204,7 @@ impl ConstantArray {
         self.decode(alloc)?.compare(alloc, operator, constant)
     }
 
-    /// Whether each item lies between two bounds of the array's type; a null stays a null.
+    /// Whether each item is between two bounds of the array's type; a null stays a null.
     pub fn between(
         &self,
         alloc: Global,
@@ -219,7 +219,7 @@ impl ConstantArray {
         self.decode(alloc)?.between(alloc, lower, upper, options)
     }
 
-    /// Whether all items are equal, as they always are.
+    /// Whether all items are equal: they always are.
     #[tactic(auto, using(crate::proofs::ConstantLaws::constant_is_constant))]
     pub fn is_constant(&self) -> bool
         ensures { result ≡ are_constant (column_of_constant self.now).items }
@@ -227,7 +227,7 @@ impl ConstantArray {
         true
     }
 
-    /// Whether no item is above the next, as none is, or, where `strict`, each is below the next.
+    /// Whether no item is greater than the next, which is always so, or, if `strict`, each item is less than the next.
     #[tactic(auto, using(crate::proofs::ConstantLaws::constant_sorted, crate::proofs::ConstantLaws::constant_strict))]
     pub fn is_sorted(&self, strict: bool) -> bool
         ensures { result ≡ (if strict then are_strictly_sorted (column_of_constant self.now).items else are_sorted (column_of_constant self.now).items) }

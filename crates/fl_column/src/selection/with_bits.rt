@@ -1,5 +1,5 @@
-//! Items that are taken where no index is null and each item has a bit: a loop over integers, and one
-//! over bits.
+//! Takes without null indices from items with a validity bit each: a loop over integers, and one over
+//! bits.
 
 ghost use Rattle.std.specs.Prelude.{◌≡◌, ◌<◌, IsTrue, Ok, Some, length, map, pos, slice_index_or};
 ghost use Rattle.std.specs.List.{list_all};

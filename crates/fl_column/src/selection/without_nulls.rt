@@ -1,5 +1,5 @@
-//! Items that are taken where no item and no index is null: a loop over integers, without a bit or an
-//! `Option` for each.
+//! Takes without null items and null indices: a loop over integers, without a bit or an `Option` for
+//! each.
 
 ghost use Rattle.std.specs.Prelude.{◌≡◌, IfOk, IsTrue, None, Some, map, unsigned_abs, if◌then◌else◌};
 ghost use Rattle.fl_types.specs.Buffers.{integers_of, ptype_of};

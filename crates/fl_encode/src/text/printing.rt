@@ -143,6 +143,17 @@ pub(crate) fn push_scheme(text: &mut Vec<u8>, scheme: &Scheme) -> Result<(), All
             text.extend_from_slice(b"forc")?;
             push_two(text, encoded, references)
         }
+        Scheme::FoRWrapped { encoded } => {
+            text.extend_from_slice(b"forw")?;
+            push_one(text, encoded)
+        }
+        Scheme::FoRChunkedWrapped {
+            encoded,
+            references,
+        } => {
+            text.extend_from_slice(b"forcw")?;
+            push_two(text, encoded, references)
+        }
         Scheme::Delta { bases, deltas } => {
             text.extend_from_slice(b"delta")?;
             push_two(text, bases, deltas)

@@ -5,7 +5,7 @@ ghost use Rattle.std.specs.Option.{option_copied};
 ghost use Rattle.fl_encode.specs.declared.scheme.Scheme.{back-Scheme-FoR-0 as child_scheme};
 ghost use Rattle.fl_encode.specs.declared.text.reading.Stop.TheVariants.{OutOfMemory};
 ghost use Rattle.fl_encode.specs.Shapes.{child_shape, shape};
-ghost use Rattle.fl_encode.specs.Texts.{Finds, after, child_by, common, digits_behind, expected, furthest, head_in, nested_head_in, one_by, packing_behind, rest_behind, scheme_by, scheme_in, tail_behind, three_by, two_by, whole, width_in};
+ghost use Rattle.fl_encode.specs.Texts.{Finds, after, child_by, common, digits_behind, expected, frame_by, frame_in, furthest, head_in, nested_head_in, one_by, packing_behind, rest_behind, scheme_by, scheme_in, tail_behind, three_by, two_by, whole, width_in};
 
 use crate::scheme::{Packing, Scheme};
 use std::alloc::{AllocFailed, Global};
@@ -36,14 +36,25 @@ pub(crate) enum Head {
     Constant,
     /// `bitpacked`, with a width or none, or `blocked`.
     BitPacked(Packing),
-    /// `for`.
-    FoR,
-    /// `forc`.
-    FoRChunked,
+    /// `for`, `forc`, `forw` or `forcw`.
+    FoR(Frame),
     /// `delta`.
     Delta,
     /// `rle`.
     RLE,
+}
+
+/// The word for a frame of reference.
+#[derive(Clone, Copy, Debug, PartialEq, Eq)]
+pub(crate) enum Frame {
+    /// `for`.
+    Whole,
+    /// `forw`.
+    WholeWrapped,
+    /// `forc`.
+    Chunked,
+    /// `forcw`.
+    ChunkedWrapped,
 }
 
 /// A child's scheme, if it has one.
@@ -144,20 +155,35 @@ fn furthest(text: &[u8]) -> usize
 {
     let plain = common(b"primitive", text).max(common(b"constant", text));
     let packed = common(b"bitpacked", text).max(common(b"blocked", text));
-    let differences = common(b"forc", text).max(common(b"delta", text));
-    let nested = differences.max(common(b"rle", text));
-    plain.max(packed).max(nested)
+    let frames = common(b"forcw", text).max(common(b"forw", text));
+    let nested = common(b"delta", text).max(common(b"rle", text));
+    plain.max(packed).max(frames.max(nested))
 }
 
-/// The word for an encoding of two children or more, or of one, and what stands behind it.
+/// The word for a frame of reference, of what stands behind its `for`, and what stands behind it.
+fn read_frame_word(text: &[u8]) -> (Frame, &[u8])
+    ensures frame { result.0 ≡ (frame_in text.now).0 }
+    ensures rest { result.1.now ≡ (frame_in text.now).1 }
+{
+    if let Some(rest) = rest_behind(b"cw", text) {
+        return (Frame::ChunkedWrapped, rest);
+    }
+    if let Some(rest) = rest_behind(b"c", text) {
+        return (Frame::Chunked, rest);
+    }
+    match rest_behind(b"w", text) {
+        Some(rest) => (Frame::WholeWrapped, rest),
+        None => (Frame::Whole, text),
+    }
+}
+
+/// The word for an encoding that has children, and what stands behind it.
 fn read_nested_head(text: &[u8]) -> Result<(Head, &[u8]), Stop>
     ensures { Finds (λ h. (h.0, h.1.now)) result (nested_head_in text.now) }
 {
-    if let Some(rest) = rest_behind(b"forc", text) {
-        return Ok((Head::FoRChunked, rest));
-    }
     if let Some(rest) = rest_behind(b"for", text) {
-        return Ok((Head::FoR, rest));
+        let (frame, rest) = read_frame_word(rest);
+        return Ok((Head::FoR(frame), rest));
     }
     if let Some(rest) = rest_behind(b"delta", text) {
         return Ok((Head::Delta, rest));
@@ -250,6 +276,44 @@ fn read_three(
     Ok((first, second, third, rest))
 }
 
+/// The scheme of a word for a frame of reference, and of the children behind it.
+#[cycle(read)]
+fn read_frame(
+    alloc: Global,
+    depth: usize,
+    frame: Frame,
+    text: &[u8],
+) -> Result<(Scheme, &[u8]), Stop>
+    ensures { Finds (λ s. (shape s.0, s.1.now)) result (frame_by (scheme_in depth) frame text.now) }
+{
+    match frame {
+        Frame::Whole => {
+            let (encoded, rest) = read_one(alloc, depth, text)?;
+            Ok((Scheme::FoR { encoded }, rest))
+        }
+        Frame::WholeWrapped => {
+            let (encoded, rest) = read_one(alloc, depth, text)?;
+            Ok((Scheme::FoRWrapped { encoded }, rest))
+        }
+        Frame::Chunked => {
+            let (encoded, references, rest) = read_two(alloc, depth, text)?;
+            let scheme = Scheme::FoRChunked {
+                encoded,
+                references,
+            };
+            Ok((scheme, rest))
+        }
+        Frame::ChunkedWrapped => {
+            let (encoded, references, rest) = read_two(alloc, depth, text)?;
+            let scheme = Scheme::FoRChunkedWrapped {
+                encoded,
+                references,
+            };
+            Ok((scheme, rest))
+        }
+    }
+}
+
 /// The scheme of an encoding's word, and of the children behind it.
 #[cycle(read)]
 fn read_children(
@@ -264,18 +328,7 @@ fn read_children(
         Head::Primitive => Ok((Scheme::Primitive, text)),
         Head::Constant => Ok((Scheme::Constant, text)),
         Head::BitPacked(packing) => Ok((Scheme::BitPacked(packing), text)),
-        Head::FoR => {
-            let (encoded, rest) = read_one(alloc, depth, text)?;
-            Ok((Scheme::FoR { encoded }, rest))
-        }
-        Head::FoRChunked => {
-            let (encoded, references, rest) = read_two(alloc, depth, text)?;
-            let scheme = Scheme::FoRChunked {
-                encoded,
-                references,
-            };
-            Ok((scheme, rest))
-        }
+        Head::FoR(frame) => read_frame(alloc, depth, frame, text),
         Head::Delta => {
             let (bases, deltas, rest) = read_two(alloc, depth, text)?;
             Ok((Scheme::Delta { bases, deltas }, rest))

@@ -14,11 +14,10 @@ use fl_column::FastLanesError;
 use fl_serialized::SerializedArray;
 use std::alloc::Global;
 
-/// The node of an array in which each bit-packed array is given a width for each block. No node in it, nor the
-/// node itself, has the id `fastlanes.bitpacked`.
+/// The node of an array after `to_blocked`. Neither it nor any node in it has the id `fastlanes.bitpacked`.
 ///
 /// # Errors
-/// None but `OutOfMemory`.
+/// Only `OutOfMemory`.
 pub fn written_blocked(alloc: Global, array: &ArrayRef) -> Result<SerializedArray, FastLanesError>
     ensures node { Answers (λ node. node) result (Ok (written (to_blocked_tree array.now))) }
     ensures ids { IfOk result (λ node. All (λ id. id ≢ bitpacked_v1_id) (ids_in node)) }

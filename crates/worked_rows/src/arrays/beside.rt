@@ -1,6 +1,8 @@
 //! Questions of an array that are answered beside a plain column.
 
-use super::questions::{back, constant, options};
+use super::queries::{constant, options};
+use super::questions::back;
+use crate::asked::Asked;
 use crate::columns::dtype_of;
 use crate::text::Text;
 use std::alloc::Global;
@@ -25,17 +27,12 @@ fn cast_back(
     }
 }
 
-/// Adds each of these types, and whether the array and the column are the same when they are cast to it.
-fn casts(
-    alloc: Global,
-    array: &ArrayRef,
-    names: &[&str],
-    column: &PrimitiveArray,
-    answer: &mut Text,
-) {
-    for name in names {
+/// Adds each of the types, and whether the array and the row's last column are the same when they are cast to it.
+pub(super) fn casts(asked: Asked, array: &ArrayRef, answer: &mut Text) {
+    for name in asked.words_from(1) {
         answer.word(name);
-        cast_back(alloc, array, dtype_of(name), column, answer);
+        let dtype = dtype_of(name);
+        cast_back(asked.alloc, array, dtype, asked.last_column(), answer);
     }
 }
 
@@ -138,35 +135,16 @@ fn test_all(
     }
 }
 
-/// Adds how many items lie within each two of the bounds, beside those of a column.
-fn test_beside(
-    alloc: Global,
-    array: &ArrayRef,
-    bounds: &[&str],
-    column: &PrimitiveArray,
-    answer: &mut Text,
-) {
-    match column.try_clone(alloc) {
+/// Adds how many items lie within each two of the bounds, beside those of the row's last column.
+pub(super) fn bounds(asked: Asked, array: &ArrayRef, answer: &mut Text) {
+    let (alloc, bounds) = (asked.alloc, asked.words_from(1));
+    match asked.last_column().try_clone(alloc) {
         Ok(plain) => test_all(alloc, array, Some(&plain.into_array()), bounds, answer),
         Err(refusal) => answer.refusal(refusal),
     }
 }
 
-/// Answers `casts`, `bounds` or `bounds_read` beside the row's last column.
-pub(super) fn ask(
-    alloc: Global,
-    array: &ArrayRef,
-    words: &[&str],
-    columns: &[PrimitiveArray],
-    answer: &mut Text,
-) -> bool {
-    match (words, columns) {
-        (["casts", names @ ..], [.., column]) => casts(alloc, array, names, column, answer),
-        (["bounds", bounds @ ..], [.., column]) => {
-            test_beside(alloc, array, bounds, column, answer);
-        }
-        (["bounds_read", bounds @ ..], _) => test_all(alloc, array, None, bounds, answer),
-        _ => return false,
-    }
-    true
+/// Adds how many blocks are unpacked for each two of the bounds.
+pub(super) fn bounds_read(asked: Asked, array: &ArrayRef, answer: &mut Text) {
+    test_all(asked.alloc, array, None, asked.words_from(1), answer);
 }

@@ -11,6 +11,7 @@ ghost use Rattle.std.specs.Prelude.{◌≡◌, ◌<◌, ◌≤◌, ℕ, IfOk, le
 use super::{Built, encoders, making};
 use crate::bits;
 use crate::columns::count;
+use crate::names::named;
 use crate::packing::width_of;
 use bytes::Bytes;
 use fl_bitpacking::bitpack_compress::bitpack_blocked_unchecked;
@@ -86,19 +87,20 @@ fn width_in_turn(widths: &[&str], block: usize) -> u8 {
     }
 }
 
-/// The widths of this many blocks, by widths in turn.
+/// The widths of this many blocks, by widths in turn: `3,0`.
 fn widths_of(
     alloc: Global,
-    widths: &[&str],
+    widths: &str,
     bits: usize,
     blocks: usize,
 ) -> Result<Vec<u8>, FastLanesError>
     ensures count { IfOk result (λ v. length v.items ≡ blocks) }
     ensures narrow { IfOk result (λ v. (j : ℕ) → j < length v.items → slice_index v.items j ≤ bits) }
 {
+    let turns: Vec<&str> = widths.split(',').collect(alloc)?;
     let mut all = Vec::new(alloc);
     for block in 0..blocks {
-        let width = width_in_turn(widths, block);
+        let width = width_in_turn(&turns, block);
         if usize::from(width) > bits {
             return Err(FastLanesError::WidthTooLarge);
         }
@@ -119,7 +121,7 @@ struct Inner<'a> {
 
 /// A column that is packed at widths in turn, with its patches.
 #[cycle(kinds)]
-fn blocked(alloc: Global, column: &PrimitiveArray, widths: &[&str], inner: Inner) -> Built {
+fn blocked(alloc: Global, column: &PrimitiveArray, widths: &str, inner: Inner) -> Built {
     let bits = column.ptype().bit_width();
     let widths = widths_of(alloc, widths, bits, chunk_count(column.len()))?;
     let (bytes, boundaries) = bitpack_blocked_unchecked(alloc, column, &widths)?;
@@ -185,30 +187,77 @@ fn runs(alloc: Global, runs: &Runs, len: usize, inner: Inner) -> Built {
     making::rle(alloc, values, indices, offsets, 0, len)
 }
 
+/// An encoding, or how a column is kept else.
+#[derive(Clone, Copy)]
+enum Encoding {
+    Constant,
+    Bools,
+    Encoder,
+    BitPacked,
+    Blocked,
+    For,
+    ForChunked,
+    Delta,
+    Rle,
+}
+
+const ENCODINGS: &[(&str, Encoding)] = &[
+    ("constant", Encoding::Constant),
+    ("bools", Encoding::Bools),
+    ("encoder", Encoding::Encoder),
+    ("bitpacked", Encoding::BitPacked),
+    ("blocked", Encoding::Blocked),
+    ("for", Encoding::For),
+    ("forc", Encoding::ForChunked),
+    ("delta", Encoding::Delta),
+    ("rle", Encoding::Rle),
+];
+
+/// The column's first item, as often as there are items, or as often as a word says.
+fn constant_of(column: &PrimitiveArray, needed: &str) -> Built {
+    if needed.is_empty() {
+        constant(column, column.len())
+    } else {
+        constant(column, count(needed))
+    }
+}
+
+/// An array that holds no other one, with what stands behind its name.
+fn unnested(
+    alloc: Global,
+    encoding: Option<Encoding>,
+    needed: &str,
+    column: &PrimitiveArray,
+) -> Built {
+    match encoding {
+        Some(Encoding::Constant) => constant_of(column, needed),
+        Some(Encoding::Bools) => bools(alloc, column),
+        Some(Encoding::Encoder) => encoders::encode(alloc, needed, column),
+        Some(Encoding::BitPacked) => bitpacked(alloc, column, width_of(needed)),
+        _ => plain(alloc, column),
+    }
+}
+
 /// An array of an encoding, with what stands behind its name.
 #[cycle(kinds)]
 fn encoded(
     alloc: Global,
-    name: &str,
+    encoding: Option<Encoding>,
     needed: &str,
     inner: Inner,
     column: &PrimitiveArray,
 ) -> Built {
-    match name {
-        "constant" if needed.is_empty() => constant(column, column.len()),
-        "constant" => constant(column, count(needed)),
-        "bools" => bools(alloc, column),
-        "encoder" => encoders::encode(alloc, needed, column),
-        "bitpacked" => bitpacked(alloc, column, width_of(needed)),
-        "blocked" => {
-            let widths: Vec<&str> = needed.split(',').collect(alloc)?;
-            blocked(alloc, column, &widths, inner)
-        }
-        "for" => less_one(alloc, &for_::encode(alloc, column)?, inner),
-        "forc" => less_each(alloc, &for_::encode_chunked(alloc, column)?, inner),
-        "delta" => delta(alloc, column, inner),
-        "rle" => runs(alloc, &rle::encode(alloc, column)?, column.len(), inner),
-        _ => plain(alloc, column),
+    match encoding {
+        Some(Encoding::Blocked) => blocked(alloc, column, needed, inner),
+        Some(Encoding::For) => less_one(alloc, &for_::encode(alloc, column)?, inner),
+        Some(Encoding::ForChunked) => less_each(
+            alloc,
+            &for_::encode_chunked(alloc, column)?,
+            inner,
+        ),
+        Some(Encoding::Delta) => delta(alloc, column, inner),
+        Some(Encoding::Rle) => runs(alloc, &rle::encode(alloc, column)?, column.len(), inner),
+        _ => unnested(alloc, encoding, needed, column),
     }
 }
 
@@ -233,7 +282,7 @@ fn nested(
         separator,
         depth: depth - 1,
     };
-    encoded(alloc, name, needed, inner, column)
+    encoded(alloc, named(ENCODINGS, name), needed, inner, column)
 }
 
 /// An array of a kind.

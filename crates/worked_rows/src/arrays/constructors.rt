@@ -1,14 +1,16 @@
 //! Encoded arrays of parts that stand in a row, by the constructors.
 
 use super::{Built, answer_built, building, making};
+use crate::asked::Asked;
 use crate::columns::count;
+use crate::names::named;
 use crate::packing::width_of;
 use crate::patches;
 use crate::text::Text;
 use bytes::Bytes;
 use fl_patches::Patches;
 use std::alloc::Global;
-use vortex_fastlanes::{FastLanesError, PType, PrimitiveArray};
+use vortex_fastlanes::{FastLanesError, PType, PrimitiveArray, Scalar};
 
 /// An offset of text.
 fn offset_of(text: &str) -> u16 {
@@ -34,7 +36,7 @@ fn patches_of(
     let (_, numbers) = word.split_once(':').unwrap_or((word, ""));
     let (len, offset) = numbers.split_once(':').unwrap_or((numbers, ""));
     let (len, offset) = (count(len), count(offset));
-    match columns {
+    match columns.get(..patch_columns(word)).unwrap_or(columns) {
         [indices, values] => Ok(Some(patches::make(alloc, len, offset, indices, values, None)?)),
         [indices, values, chunk_offsets] => {
             let patches = patches::make_chunked(
@@ -81,199 +83,126 @@ fn packed(
     })
 }
 
-/// The numbers of a bit-packed array, and how its patches are meant.
-#[derive(Clone, Copy)]
-struct PackedNumbers<'a> {
-    offset: u16,
-    len: usize,
-    patched: &'a str,
+/// A bit-packed array of bytes at one width: `new_bitpacked WIDTH OFFSET LEN PATCHES`.
+fn new_bitpacked(asked: Asked) -> Built {
+    let (offset, len) = (offset_of(asked.word(2)), asked.count(3));
+    let patches = patches_of(asked.alloc, asked.word(4), asked.columns_from(2))?;
+    let (bytes, typed) = (asked.column(0), asked.column(1));
+    let parts = packed(asked.alloc, bytes, typed, patches, offset, len)?;
+    making::bitpacked(parts, width_of(asked.word(1)))
 }
 
-/// The numbers that words name.
-fn numbers<'a>(offset: &str, len: &str, patched: &'a str) -> PackedNumbers<'a> {
-    PackedNumbers {
-        offset: offset_of(offset),
-        len: count(len),
-        patched,
-    }
+/// A bit-packed array of bytes between boundaries of a kind: `new_blocked OFFSET LEN KIND PATCHES`.
+fn new_blocked(asked: Asked) -> Built {
+    let (offset, len) = (offset_of(asked.word(1)), asked.count(2));
+    let patches = patches_of(asked.alloc, asked.word(4), asked.columns_from(3))?;
+    let boundaries = building::array(asked.alloc, asked.word(3), asked.column(2))?;
+    let (bytes, typed) = (asked.column(0), asked.column(1));
+    let parts = packed(asked.alloc, bytes, typed, patches, offset, len)?;
+    making::blocked(asked.alloc, parts, boundaries)
 }
 
-/// A bit-packed array of bytes at one width.
-fn new_bitpacked(
-    alloc: Global,
-    width: u8,
-    numbers: PackedNumbers,
-    columns: &[PrimitiveArray],
-) -> Built {
-    let PackedNumbers {
-        offset,
-        len,
-        patched,
-    } = numbers;
-    match columns {
-        [bytes, typed, rest @ ..] => {
-            let patches = patches_of(alloc, patched, rest)?;
-            making::bitpacked(packed(alloc, bytes, typed, patches, offset, len)?, width)
-        }
-        _ => Err(FastLanesError::ChildCount),
-    }
-}
-
-/// A bit-packed array of bytes between boundaries of a kind.
-fn new_blocked(
+/// The first item of an array of a kind.
+fn reference_of(
     alloc: Global,
     kind: &str,
-    numbers: PackedNumbers,
-    columns: &[PrimitiveArray],
-) -> Built {
-    let PackedNumbers {
-        offset,
-        len,
-        patched,
-    } = numbers;
-    match columns {
-        [bytes, typed, boundaries, rest @ ..] => {
-            let patches = patches_of(alloc, patched, rest)?;
-            let boundaries = building::array(alloc, kind, boundaries)?;
-            let parts = packed(alloc, bytes, typed, patches, offset, len)?;
-            making::blocked(alloc, parts, boundaries)
-        }
-        _ => Err(FastLanesError::ChildCount),
-    }
-}
-
-/// An array of a kind less the first item of another one.
-fn new_for(alloc: Global, kinds: (&str, &str), columns: &[PrimitiveArray]) -> Built {
-    let [encoded, reference] = columns else {
-        return Err(FastLanesError::ChildCount);
-    };
-    let reference = building::array(alloc, kinds.1, reference)?;
-    let encoded = building::array(alloc, kinds.0, encoded)?;
+    column: &PrimitiveArray,
+) -> Result<Scalar, FastLanesError> {
+    let reference = building::array(alloc, kind, column)?;
     if reference.len() == 0 {
         return Err(FastLanesError::ChildCount);
     }
-    let reference = reference.scalar_at(alloc, 0)?;
-    making::global_for(alloc, encoded, reference)
+    reference.scalar_at(alloc, 0)
 }
 
-/// An array of a kind less references of a kind.
-fn new_for_chunked(
-    alloc: Global,
-    offset: u16,
-    kinds: (&str, &str),
-    columns: &[PrimitiveArray],
-) -> Built {
-    let [encoded, references] = columns else {
-        return Err(FastLanesError::ChildCount);
-    };
-    let encoded = building::array(alloc, kinds.0, encoded)?;
-    let references = building::array(alloc, kinds.1, references)?;
-    making::chunked_for(alloc, encoded, references, offset)
+/// An array of a kind less the first item of another one: `new_for KIND KIND`.
+fn new_for(asked: Asked) -> Built {
+    let reference = reference_of(asked.alloc, asked.word(2), asked.column(1))?;
+    let encoded = building::array(asked.alloc, asked.word(1), asked.column(0))?;
+    making::global_for(asked.alloc, encoded, reference)
 }
 
-/// An array of bases and deltas, with the validity of a third column.
-fn new_delta(
-    alloc: Global,
-    window: (usize, usize),
-    kinds: (&str, &str),
-    columns: &[PrimitiveArray],
-) -> Built {
-    let [bases, deltas, typed] = columns else {
-        return Err(FastLanesError::ChildCount);
-    };
-    let bases = building::array(alloc, kinds.0, bases)?;
-    let deltas = building::array(alloc, kinds.1, deltas)?;
-    let validity = typed.validity().try_clone(alloc)?;
-    making::delta(alloc, bases, deltas, validity, window.0, window.1)
+/// An array of a kind less references of a kind: `new_for_chunked OFFSET KIND KIND`.
+fn new_for_chunked(asked: Asked) -> Built {
+    let offset = offset_of(asked.word(1));
+    let encoded = building::array(asked.alloc, asked.word(2), asked.column(0))?;
+    let references = building::array(asked.alloc, asked.word(3), asked.column(1))?;
+    making::chunked_for(asked.alloc, encoded, references, offset)
 }
 
-/// An array of run values, run indices and run offsets.
-fn new_rle(
-    alloc: Global,
-    window: (usize, usize),
-    kinds: (&str, &str, &str),
-    columns: &[PrimitiveArray],
-) -> Built {
-    let [values, indices, offsets] = columns else {
-        return Err(FastLanesError::ChildCount);
-    };
-    let values = building::array(alloc, kinds.0, values)?;
-    let indices = building::array(alloc, kinds.1, indices)?;
-    let offsets = building::array(alloc, kinds.2, offsets)?;
-    making::rle(alloc, values, indices, offsets, window.0, window.1)
+/// An array of bases and deltas, with the validity of a third column: `new_delta OFFSET LEN KIND KIND`.
+fn new_delta(asked: Asked) -> Built {
+    let (offset, len) = (asked.count(1), asked.count(2));
+    let bases = building::array(asked.alloc, asked.word(3), asked.column(0))?;
+    let deltas = building::array(asked.alloc, asked.word(4), asked.column(1))?;
+    let validity = asked.column(2).validity().try_clone(asked.alloc)?;
+    making::delta(asked.alloc, bases, deltas, validity, offset, len)
 }
 
-/// The first columns, or all where there are fewer.
-fn first(columns: &[PrimitiveArray], count: usize) -> &[PrimitiveArray] {
-    columns.get(..count).unwrap_or(columns)
+/// An array of run values, run indices and run offsets: `new_rle OFFSET LEN KIND KIND KIND`.
+fn new_rle(asked: Asked) -> Built {
+    let (offset, len) = (asked.count(1), asked.count(2));
+    let values = building::array(asked.alloc, asked.word(3), asked.column(0))?;
+    let indices = building::array(asked.alloc, asked.word(4), asked.column(1))?;
+    let offsets = building::array(asked.alloc, asked.word(5), asked.column(2))?;
+    making::rle(asked.alloc, values, indices, offsets, offset, len)
 }
 
-/// Answers words about a bit-packed array of the first columns.
-fn ask_packed(
-    alloc: Global,
-    question: &[&str],
-    columns: &[PrimitiveArray],
-    answer: &mut Text,
-) -> bool {
-    match question {
-        ["new_bitpacked", width, offset, len, patched, words @ ..] => {
-            let used = patch_columns(patched).saturating_add(2);
-            let (width, numbers) = (width_of(width), numbers(offset, len, patched));
-            let built = new_bitpacked(alloc, width, numbers, first(columns, used));
-            answer_built(alloc, &built, words, columns, used, answer);
-        }
-        ["new_blocked", offset, len, kind, patched, words @ ..] => {
-            let used = patch_columns(patched).saturating_add(3);
-            let numbers = numbers(offset, len, patched);
-            let built = new_blocked(alloc, kind, numbers, first(columns, used));
-            answer_built(alloc, &built, words, columns, used, answer);
-        }
-        _ => return false,
+#[derive(Clone, Copy)]
+enum Constructor {
+    BitPacked,
+    Blocked,
+    For,
+    ForChunked,
+    Delta,
+    Rle,
+}
+
+const CONSTRUCTORS: &[(&str, Constructor)] = &[
+    ("new_bitpacked", Constructor::BitPacked),
+    ("new_blocked", Constructor::Blocked),
+    ("new_for", Constructor::For),
+    ("new_for_chunked", Constructor::ForChunked),
+    ("new_delta", Constructor::Delta),
+    ("new_rle", Constructor::Rle),
+];
+
+/// What a constructor makes of the first columns.
+fn build(asked: Asked, constructor: Constructor) -> Built {
+    match constructor {
+        Constructor::BitPacked => new_bitpacked(asked),
+        Constructor::Blocked => new_blocked(asked),
+        Constructor::For => new_for(asked),
+        Constructor::ForChunked => new_for_chunked(asked),
+        Constructor::Delta => new_delta(asked),
+        Constructor::Rle => new_rle(asked),
     }
-    true
 }
 
-/// Answers words about an array of the first columns that is less a reference, or less a reference for each chunk.
-fn ask_for(
-    alloc: Global,
-    question: &[&str],
-    columns: &[PrimitiveArray],
-    answer: &mut Text,
-) -> bool {
-    match question {
-        ["new_for", encoded, reference, words @ ..] => {
-            let built = new_for(alloc, (encoded, reference), first(columns, 2));
-            answer_built(alloc, &built, words, columns, 2, answer);
-        }
-        ["new_for_chunked", offset, encoded, references, words @ ..] => {
-            let (offset, kinds) = (offset_of(offset), (*encoded, *references));
-            let built = new_for_chunked(alloc, offset, kinds, first(columns, 2));
-            answer_built(alloc, &built, words, columns, 2, answer);
-        }
-        _ => return ask_packed(alloc, question, columns, answer),
+/// How many words a constructor takes, its name among them, and how many columns.
+fn taken(asked: Asked, constructor: Constructor) -> (usize, usize) {
+    let patches = patch_columns(asked.word(4));
+    match constructor {
+        Constructor::BitPacked => (5, patches.saturating_add(2)),
+        Constructor::Blocked => (5, patches.saturating_add(3)),
+        Constructor::For => (3, 2),
+        Constructor::ForChunked => (4, 2),
+        Constructor::Delta => (5, 3),
+        Constructor::Rle => (6, 3),
     }
-    true
 }
 
 /// Answers words about an array of the first columns, by the constructor that the question names.
-pub(super) fn ask(
-    alloc: Global,
-    question: &[&str],
-    columns: &[PrimitiveArray],
-    answer: &mut Text,
-) -> bool {
-    match question {
-        ["new_delta", offset, len, bases, deltas, words @ ..] => {
-            let window = (count(offset), count(len));
-            let built = new_delta(alloc, window, (bases, deltas), first(columns, 3));
-            answer_built(alloc, &built, words, columns, 3, answer);
-        }
-        ["new_rle", offset, len, values, indices, offsets, words @ ..] => {
-            let (window, kinds) = ((count(offset), count(len)), (*values, *indices, *offsets));
-            let built = new_rle(alloc, window, kinds, first(columns, 3));
-            answer_built(alloc, &built, words, columns, 3, answer);
-        }
-        _ => return ask_for(alloc, question, columns, answer),
-    }
+pub(super) fn ask(asked: Asked, answer: &mut Text) -> bool {
+    let Some(constructor) = named(CONSTRUCTORS, asked.word(0)) else {
+        return false;
+    };
+    let (words, columns) = taken(asked, constructor);
+    answer_built(
+        asked.from(words),
+        &build(asked, constructor),
+        columns,
+        answer,
+    );
     true
 }

@@ -4,7 +4,9 @@
 ghost use Rattle.std.specs.Prelude.{◌≡◌, IfOk};
 ghost use Rattle.fl_array.specs.BitPackedFields.{ptype_in};
 
-use crate::columns::{count, dtype_of};
+use crate::asked::Asked;
+use crate::columns::dtype_of;
+use crate::names::named;
 use crate::packing::width_of;
 use crate::readers::WholeBlocks;
 use crate::text::Text;
@@ -163,53 +165,60 @@ fn single(array: &BitPackedArray, i: usize, answer: &mut Text) {
     }
 }
 
+/// Adds what a reader of the array's blocks lends.
+fn lend_of(array: &BitPackedArray, data: &BitPackedData, by: &str, answer: &mut Text) {
+    let ptype = array.packed_data().ptype();
+    match_each_integer_ptype!(ptype, lend(array, data, by, answer));
+}
+
 /// Answers a question of the data of a bit-packed array.
-fn ask_data(array: &BitPackedArray, data: &BitPackedData, words: &[&str], answer: &mut Text) {
-    match words {
-        ["ptype", name] => ptype(data, dtype_of(name), answer),
-        ["lent", by] => {
-            let ptype = array.packed_data().ptype();
-            match_each_integer_ptype!(ptype, lend(array, data, by, answer));
-        }
-        _ => answer.word("no such question"),
+fn ask_data(asked: Asked, array: &BitPackedArray, answer: &mut Text) {
+    match BitPackedArrayExt::data(array) {
+        Ok(data) => match asked.word(0) {
+            "ptype" => ptype(&data, dtype_of(asked.word(1)), answer),
+            _ => lend_of(array, &data, asked.word(1), answer),
+        },
+        Err(refusal) => answer.refusal(refusal),
     }
 }
 
+/// Adds whether the packed words are those of each block of the row's last column, packed alone.
+fn alone_of(asked: Asked, array: &BitPackedArray, answer: &mut Text) {
+    let (column, widths) = (asked.last_column(), asked.words_from(1));
+    let made = match_each_integer_ptype!(column.ptype(), alone(asked.alloc, array, column, widths));
+    show_alone(made, answer);
+}
+
+/// What is asked of a bit-packed array.
+#[derive(Clone, Copy)]
+enum Question {
+    Single,
+    Alone,
+    PType,
+    Lent,
+}
+
+const QUESTIONS: &[(&str, Question)] = &[
+    ("single", Question::Single),
+    ("alone", Question::Alone),
+    ("ptype", Question::PType),
+    ("lent", Question::Lent),
+];
+
 /// Answers a question of a bit-packed array.
-fn ask_packed(
-    alloc: Global,
-    array: &BitPackedArray,
-    words: &[&str],
-    columns: &[PrimitiveArray],
-    answer: &mut Text,
-) {
-    match (words, columns) {
-        (["single", i], _) => single(array, count(i), answer),
-        (["alone", widths @ ..], [.., column]) => {
-            let made = match_each_integer_ptype!(
-                column.ptype(),
-                alone(alloc, array, column, widths)
-            );
-            show_alone(made, answer);
-        }
-        _ => match BitPackedArrayExt::data(array) {
-            Ok(data) => ask_data(array, &data, words, answer),
-            Err(refusal) => answer.refusal(refusal),
-        },
+fn ask_packed(asked: Asked, question: Question, array: &BitPackedArray, answer: &mut Text) {
+    match question {
+        Question::Single => single(array, asked.count(1), answer),
+        Question::Alone => alone_of(asked, array, answer),
+        Question::PType | Question::Lent => ask_data(asked, array, answer),
     }
 }
 
 /// Answers `data` of any array, `single 0`, `ptype u8`, `lent by data` and `alone 3 0` of a bit-packed one.
-pub(super) fn ask(
-    alloc: Global,
-    array: &ArrayRef,
-    words: &[&str],
-    columns: &[PrimitiveArray],
-    answer: &mut Text,
-) {
-    match (words, array.as_bitpacked()) {
-        (["data"], _) => printed(array, answer),
-        (_, Some(packed)) => ask_packed(alloc, packed, words, columns, answer),
+pub(super) fn ask(asked: Asked, array: &ArrayRef, answer: &mut Text) {
+    match (named(QUESTIONS, asked.word(0)), array.as_bitpacked()) {
+        (Some(question), Some(packed)) => ask_packed(asked, question, packed, answer),
+        (None, _) if asked.word(0) == "data" => printed(array, answer),
         _ => answer.word("no such question"),
     }
 }

@@ -1,6 +1,7 @@
 //! Arrays of plain ones, by the library's encoders. Every call of one stands here.
 
 use super::Built;
+use crate::names::named;
 use crate::packing::width_of;
 use std::alloc::Global;
 use vortex_fastlanes::array::IntoArray;
@@ -36,31 +37,60 @@ fn blocked(alloc: Global, column: &PrimitiveArray, widths: &str) -> Built {
     Ok(array.into_array())
 }
 
+/// A column that is packed at a width, by the data of bit-packed arrays.
+fn packed_data(alloc: Global, column: &PrimitiveArray, width: u8) -> Built {
+    let array = column.try_clone(alloc)?.into_array();
+    Ok(BitPackedData::encode(alloc, &array, width)?.into_array())
+}
+
+/// The column as it is.
+fn plain(alloc: Global, column: &PrimitiveArray) -> Built {
+    Ok(column.try_clone(alloc)?.into_array())
+}
+
 /// A column as the data of an encoding make an array of it: the encoding's name, and behind a colon the width.
 fn encode_by_data(alloc: Global, encoder: &str, column: &PrimitiveArray) -> Built {
     let (name, width) = encoder.split_once(':').unwrap_or((encoder, ""));
     match name {
-        "bitpacked" => {
-            let array = column.try_clone(alloc)?.into_array();
-            Ok(BitPackedData::encode(alloc, &array, width_of(width))?.into_array())
-        }
+        "bitpacked" => packed_data(alloc, column, width_of(width)),
         "for" => Ok(FoRData::encode(alloc, column)?.into_array()),
         "rle" => Ok(RLEData::encode(alloc, column)?.into_array()),
-        _ => Ok(column.try_clone(alloc)?.into_array()),
+        _ => plain(alloc, column),
     }
 }
+
+#[derive(Clone, Copy)]
+enum Encoder {
+    BitPacked,
+    Blocked,
+    For,
+    ForChunked,
+    Delta,
+    Rle,
+    Data,
+}
+
+const ENCODERS: &[(&str, Encoder)] = &[
+    ("bitpacked", Encoder::BitPacked),
+    ("blocked", Encoder::Blocked),
+    ("for", Encoder::For),
+    ("forc", Encoder::ForChunked),
+    ("delta", Encoder::Delta),
+    ("rle", Encoder::Rle),
+    ("data", Encoder::Data),
+];
 
 /// A column as an encoder makes an array of it: its name, and behind a colon the widths.
 pub(super) fn encode(alloc: Global, encoder: &str, column: &PrimitiveArray) -> Built {
     let (name, widths) = encoder.split_once(':').unwrap_or((encoder, ""));
-    match name {
-        "bitpacked" => bitpacked(alloc, column, widths),
-        "blocked" => blocked(alloc, column, widths),
-        "for" => Ok(FoR::encode(alloc, column)?.into_array()),
-        "forc" => Ok(FoR::encode_chunked(alloc, column)?.into_array()),
-        "delta" => Ok(Delta::try_from_primitive_array(alloc, column)?.into_array()),
-        "rle" => Ok(RLE::encode(alloc, column)?.into_array()),
-        "data" => encode_by_data(alloc, widths, column),
-        _ => Ok(column.try_clone(alloc)?.into_array()),
+    match named(ENCODERS, name) {
+        Some(Encoder::BitPacked) => bitpacked(alloc, column, widths),
+        Some(Encoder::Blocked) => blocked(alloc, column, widths),
+        Some(Encoder::For) => Ok(FoR::encode(alloc, column)?.into_array()),
+        Some(Encoder::ForChunked) => Ok(FoR::encode_chunked(alloc, column)?.into_array()),
+        Some(Encoder::Delta) => Ok(Delta::try_from_primitive_array(alloc, column)?.into_array()),
+        Some(Encoder::Rle) => Ok(RLE::encode(alloc, column)?.into_array()),
+        Some(Encoder::Data) => encode_by_data(alloc, widths, column),
+        None => plain(alloc, column),
     }
 }

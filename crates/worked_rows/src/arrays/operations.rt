@@ -36,17 +36,6 @@ fn with_column(alloc: Global, name: &str, column: &PrimitiveArray) -> Read {
     }
 }
 
-/// The words of operations, and those of the question behind `then`.
-pub(super) fn split<'a>(words: &'a [&'a str]) -> (&'a [&'a str], &'a [&'a str]) {
-    for i in 0..words.len() {
-        if words[i] == "then" {
-            let (ops, question) = words.split_at(i);
-            return (ops, question.get(1..).unwrap_or(&[]));
-        }
-    }
-    (&[], words)
-}
-
 /// The operation that a word names: `slice:1:3`, `ranges:2:1,0:2`, `cast:u8?`, or `filter_none:9`, whose mask keeps none
 /// of nine items by its form.
 fn without_column(alloc: Global, word: &str) -> Read {

@@ -1,7 +1,7 @@
 //! What arrays of each kind are made of. Every call that looks into an encoded one stands here.
 
 use crate::text::Text;
-use crate::{packing, patches, shown};
+use crate::{patches, shown};
 use fl_array::bitpacking::{BitPackedArray, BitPackedArrayExt, BitWidthsView};
 use fl_array::delta::{DeltaArray, DeltaArrayExt};
 use fl_array::for_::{FoRArray, FoRArrayExt, FoRReferences};
@@ -265,7 +265,7 @@ pub(super) fn kept(array: &ArrayRef, answer: &mut Text) {
 /// Adds the packed bytes of a bit-packed array.
 pub(super) fn packed_bytes(array: &ArrayRef, answer: &mut Text) {
     match array.as_bitpacked() {
-        Some(array) => packing::show(answer, array.packed_data().packed().as_slice()),
+        Some(array) => shown::bytes(answer, array.packed_data().packed().as_slice()),
         None => answer.word("no bytes"),
     }
 }

@@ -1,228 +1,18 @@
 //! Questions to arrays.
 
-ghost use Rattle.std.specs.Prelude.{IsTrue};
-ghost use Rattle.fl_types.specs.Values.{scalar_parts};
-ghost use Rattle.fl_array.specs.Trees.{column};
-ghost use Rattle.fl_ops.specs.Questions.{is_comparable, may_ask};
-
-use super::{Built, beside, counted, data, parts, taking};
+use super::{Built, data, parts, queries};
+use crate::asked::Asked;
 use crate::columns::count;
-use crate::names::{asked, named};
+use crate::names::named;
 use crate::parts::is_same;
+use crate::shown::made;
 use crate::text::Text;
-use crate::{nodes, shown, types};
+use crate::{nodes, shown};
 use std::alloc::Global;
-use vortex_fastlanes::array::{Answer, ArrayOps, ArrayRef, Query, ask};
+use vortex_fastlanes::array::ArrayRef;
 use vortex_fastlanes::laws::{item_of_decoded, slice_of_slice};
 use vortex_fastlanes::plugin::round_trip;
-use vortex_fastlanes::{
-    BetweenOptions, CompareOperator, FastLanesError, Nullability, PrimitiveArray, Scalar,
-    StrictComparison, Validity, Work,
-};
-
-/// An integer of an array's type, whose mark `?` makes its type nullable.
-pub(crate) fn constant(array: &ArrayRef, integer: &str) -> Scalar
-    ensures { IsTrue (is_comparable (column array.now) (scalar_parts result)) }
-{
-    let (integer, nullability) = match integer.strip_suffix("?") {
-        Some(bare) => (bare, Nullability::Nullable),
-        None => (integer, Nullability::NonNullable),
-    };
-    match array.dtype().ptype() {
-        Some(ptype) => Scalar::primitive(types::value_of(ptype, integer), nullability),
-        None => Scalar::bool(true, nullability),
-    }
-}
-
-/// Adds an answer to a question.
-fn reply(made: &Result<Answer, FastLanesError>, answer: &mut Text) {
-    match made {
-        Ok(Answer::Scalar(item)) => shown::scalar(answer, *item),
-        Ok(Answer::Bools(tests)) => shown::bools(answer, tests),
-        Ok(Answer::Bool(bool_answer)) => answer.bool_answer(*bool_answer),
-        Err(refusal) => answer.refusal(*refusal),
-    }
-}
-
-/// Adds what a question answers, where a call answered something else.
-fn ask_again(alloc: Global, array: &ArrayRef, query: &Query, answer: &mut Text)
-    requires { IsTrue (may_ask (column array.now) query.now) }
-{
-    let mut asked = Text::new(alloc);
-    reply(&ask(alloc, array, query), &mut asked);
-    answer.unless_same(&mut asked);
-}
-
-const OPERATORS: &[(&str, CompareOperator)] = &[
-    ("eq", CompareOperator::Eq),
-    ("ne", CompareOperator::NotEq),
-    ("gt", CompareOperator::Gt),
-    ("gte", CompareOperator::Gte),
-    ("lt", CompareOperator::Lt),
-    ("lte", CompareOperator::Lte),
-];
-
-/// A comparison by its name.
-pub(crate) fn operator(name: &str) -> CompareOperator {
-    named(OPERATORS, name).unwrap_or(CompareOperator::Eq)
-}
-
-/// How a bound is meant, by the comparison with it: `gt`, `gte`, `lt` or `lte`.
-fn strictness(name: &str) -> StrictComparison {
-    match operator(name) {
-        CompareOperator::Gt | CompareOperator::Lt => StrictComparison::Strict,
-        _ => StrictComparison::NonStrict,
-    }
-}
-
-pub(crate) fn options(lower: &str, upper: &str) -> BetweenOptions {
-    BetweenOptions {
-        lower_strict: strictness(lower),
-        upper_strict: strictness(upper),
-    }
-}
-
-fn compare(alloc: Global, array: &ArrayRef, name: &str, integer: &str, answer: &mut Text) {
-    let (operator, constant) = (operator(name), constant(array, integer));
-    shown::made_bools(answer, array.compare(alloc, operator, &constant));
-    ask_again(alloc, array, &Query::Compare(operator, constant), answer);
-}
-
-/// Tests a range by its bounds and by how they are meant.
-fn between(
-    alloc: Global,
-    array: &ArrayRef,
-    bounds: (&str, &str),
-    options: BetweenOptions,
-    answer: &mut Text,
-) {
-    let (lower, upper) = (constant(array, bounds.0), constant(array, bounds.1));
-    shown::made_bools(answer, array.between(alloc, &lower, &upper, &options));
-    ask_again(alloc, array, &Query::Between(lower, upper, options), answer);
-}
-
-fn bool_answer(made: Result<bool, FastLanesError>, answer: &mut Text) {
-    match made {
-        Ok(bool_answer) => answer.bool_answer(bool_answer),
-        Err(refusal) => answer.refusal(refusal),
-    }
-}
-
-fn sorted(alloc: Global, array: &ArrayRef, strict: bool, answer: &mut Text) {
-    bool_answer(array.is_sorted(alloc, strict), answer);
-    ask_again(alloc, array, &Query::IsSorted(strict), answer);
-}
-
-fn constancy(alloc: Global, array: &ArrayRef, answer: &mut Text) {
-    bool_answer(array.is_constant(alloc), answer);
-    ask_again(alloc, array, &Query::IsConstant, answer);
-}
-
-/// What may be asked of an array.
-#[derive(Clone, Copy)]
-enum Question {
-    Kind,
-    Column,
-    Parts,
-    Kept,
-    Bytes,
-    Slots,
-    Back,
-    Items,
-    Copy,
-    Decode,
-    PrimitiveParts,
-    Validity,
-    Item,
-    Counted,
-    Slices,
-    Composed,
-    At,
-    Constant,
-    Sorted,
-    Strict,
-    Compare,
-    Between,
-    CompareCounted,
-    BetweenCounted,
-    TakeCounted,
-    Serialized,
-    Stored,
-}
-
-const QUESTIONS: &[(&str, Question)] = &[
-    ("kind", Question::Kind),
-    ("column", Question::Column),
-    ("parts", Question::Parts),
-    ("kept", Question::Kept),
-    ("bytes", Question::Bytes),
-    ("slots", Question::Slots),
-    ("back", Question::Back),
-    ("items", Question::Items),
-    ("copy", Question::Copy),
-    ("decode", Question::Decode),
-    ("plain", Question::PrimitiveParts),
-    ("validity", Question::Validity),
-    ("item", Question::Item),
-    ("counted", Question::Counted),
-    ("slices", Question::Slices),
-    ("composed", Question::Composed),
-    ("at", Question::At),
-    ("constant", Question::Constant),
-    ("sorted", Question::Sorted),
-    ("strict", Question::Strict),
-    ("compare", Question::Compare),
-    ("between", Question::Between),
-    ("compare_counted", Question::CompareCounted),
-    ("between_counted", Question::BetweenCounted),
-    ("take_counted", Question::TakeCounted),
-    ("serialized", Question::Serialized),
-    ("stored", Question::Stored),
-];
-
-/// Answers a question that has a query too: `at 2`, `constant`, `sorted`, `strict`, `compare lt 7`
-/// or `between gte 3 lt 7`.
-fn answer_query(
-    alloc: Global,
-    array: &ArrayRef,
-    asked: Question,
-    words: &[&str],
-    answer: &mut Text,
-) {
-    match (asked, words) {
-        (Question::At, [i]) => reply(&ask(alloc, array, &Query::ScalarAt(count(i))), answer),
-        (Question::Constant, []) => constancy(alloc, array, answer),
-        (Question::Sorted, []) => sorted(alloc, array, false, answer),
-        (Question::Strict, []) => sorted(alloc, array, true, answer),
-        (Question::Compare, [name, integer]) => compare(alloc, array, name, integer, answer),
-        (Question::Between, [from, lower, to, upper]) => {
-            let options = options(from, to);
-            between(alloc, array, (lower, upper), options, answer);
-        }
-        _ => answer_counted(alloc, array, asked, words, answer),
-    }
-}
-
-/// Answers a comparison and what it unpacked: `compare_counted lt 7` or `between_counted gte 3 lt 7`.
-fn answer_counted(
-    alloc: Global,
-    array: &ArrayRef,
-    asked: Question,
-    words: &[&str],
-    answer: &mut Text,
-) {
-    match (asked, words) {
-        (Question::CompareCounted, [name, integer]) => {
-            let constant = constant(array, integer);
-            counted::compare(alloc, array, operator(name), &constant, answer);
-        }
-        (Question::BetweenCounted, [from, lower, to, upper]) => {
-            let (lower, upper) = (constant(array, lower), constant(array, upper));
-            counted::between(alloc, array, &lower, &upper, options(from, to), answer);
-        }
-        _ => answer.word("no such question"),
-    }
-}
+use vortex_fastlanes::{FastLanesError, PrimitiveArray};
 
 /// Adds the item at an index, which is one of those that are there.
 fn item(alloc: Global, array: &ArrayRef, i: usize, answer: &mut Text) {
@@ -235,31 +25,23 @@ fn item(alloc: Global, array: &ArrayRef, i: usize, answer: &mut Text) {
 }
 
 /// Adds the type and the items of an array, each read alone.
-pub(super) fn column_read(alloc: Global, array: &ArrayRef, answer: &mut Text) {
+pub(super) fn column_read(array: &ArrayRef, answer: &mut Text) {
     shown::dtype(answer, array.dtype());
     for i in 0..array.len() {
-        item(alloc, array, i, answer);
+        item(answer.alloc(), array, i, answer);
     }
 }
 
 /// Adds the kind, the type and the items of an array.
-fn array_read(alloc: Global, array: &ArrayRef, answer: &mut Text) {
+fn array_read(array: &ArrayRef, answer: &mut Text) {
     parts::kind(array, answer);
-    column_read(alloc, array, answer);
+    column_read(array, answer);
 }
 
-fn array_made(alloc: Global, made: &Built, answer: &mut Text) {
+fn array_made(made: &Built, answer: &mut Text) {
     match made {
-        Ok(array) => array_read(alloc, array, answer),
+        Ok(array) => array_read(array, answer),
         Err(refusal) => answer.refusal(*refusal),
-    }
-}
-
-fn validity(alloc: Global, array: &ArrayRef, answer: &mut Text) {
-    match array.validity(alloc) {
-        Ok(Validity::Array(bits)) => shown::bits(answer, &bits),
-        Ok(validity) => answer.debug(&validity),
-        Err(refusal) => answer.refusal(refusal),
     }
 }
 
@@ -267,32 +49,6 @@ fn item_decoded(alloc: Global, array: &ArrayRef, i: usize, answer: &mut Text) {
     if i < array.len() {
         match item_of_decoded(array, alloc, i) {
             Ok((_, item)) => shown::scalar(answer, item),
-            Err(refusal) => answer.refusal(refusal),
-        }
-    }
-}
-
-/// Adds what a point read counts: how many blocks, and whether the words are at most two.
-fn point_read(work: &Work, answer: &mut Text) {
-    answer.count(usize::try_from(work.blocks()).unwrap_or(usize::MAX));
-    answer.word("blocks");
-    answer.word(if work.words() <= 2 {
-        "at most 2 words"
-    } else {
-        "more words"
-    });
-}
-
-/// Adds an item, and of a bit-packed array what was read for it.
-fn item_counted(alloc: Global, array: &ArrayRef, i: usize, answer: &mut Text) {
-    if i < array.len() {
-        match array.scalar_at_counted(alloc, i) {
-            Ok((item, work)) => {
-                shown::scalar(answer, item);
-                if array.as_bitpacked().is_some() {
-                    point_read(&work, answer);
-                }
-            }
             Err(refusal) => answer.refusal(refusal),
         }
     }
@@ -367,16 +123,11 @@ fn composed(
 }
 
 /// Adds what slices of a slice keep, one after another.
-fn all_composed(
-    alloc: Global,
-    array: &ArrayRef,
-    outer: (usize, usize),
-    inner: &[&str],
-    answer: &mut Text,
-) {
-    for range in inner {
+fn all_composed(asked: Asked, array: &ArrayRef, answer: &mut Text) {
+    let outer = range_of(asked.word(1));
+    for range in asked.words_from(2) {
         answer.word("|");
-        composed(alloc, array, outer, range_of(range), answer);
+        composed(asked.alloc, array, outer, range_of(range), answer);
     }
 }
 
@@ -437,7 +188,7 @@ fn decoded(alloc: Global, made: &Built, answer: &mut Text) {
     match made {
         Ok(array) => {
             parts::kind(array, answer);
-            array_made(alloc, &array.decode(alloc), answer);
+            array_made(&array.decode(alloc), answer);
         }
         Err(refusal) => answer.refusal(*refusal),
     }
@@ -455,86 +206,88 @@ fn stored(alloc: Global, array: &ArrayRef, answer: &mut Text) {
     }
 }
 
-/// Answers a question that calls something, or asks a query.
-fn answer_called(
-    alloc: Global,
-    array: &ArrayRef,
-    asked: Question,
-    words: &[&str],
-    answer: &mut Text,
-) {
-    match (asked, words) {
-        (Question::Items, []) => array_read(alloc, array, answer),
-        (Question::Copy, []) => array_made(alloc, &array.try_clone(alloc), answer),
-        (Question::Decode, []) => array_made(alloc, &array.decode(alloc), answer),
-        (Question::PrimitiveParts, []) => shown::made(answer, array.to_primitive(alloc)),
-        (Question::Validity, []) => validity(alloc, array, answer),
-        (Question::Item, [i]) => item_decoded(alloc, array, count(i), answer),
-        (Question::Counted, [i]) => item_counted(alloc, array, count(i), answer),
-        (Question::Slices, [outer, inner]) => {
-            let made = sliced_twice(alloc, array, range_of(outer), range_of(inner));
-            array_made(alloc, &made, answer);
-        }
-        (Question::Composed, [outer, rest @ ..]) => {
-            all_composed(alloc, array, range_of(outer), rest, answer);
-        }
-        (Question::Stored, []) => stored(alloc, array, answer),
-        (Question::Serialized, []) => nodes::serialized(alloc, array, answer),
-        (Question::Serialized, ["by", kind]) => nodes::serialized_by(alloc, kind, array, answer),
-        _ => answer_query(alloc, array, asked, words, answer),
-    }
+#[derive(Clone, Copy)]
+enum Question {
+    Kind,
+    Column,
+    Parts,
+    Kept,
+    Bytes,
+    Slots,
+    Back,
+    Items,
+    Copy,
+    Decode,
+    Plain,
+    Validity,
+    Item,
+    Slices,
+    Composed,
+    Serialized,
+    Stored,
 }
+
+const QUESTIONS: &[(&str, Question)] = &[
+    ("kind", Question::Kind),
+    ("column", Question::Column),
+    ("parts", Question::Parts),
+    ("kept", Question::Kept),
+    ("bytes", Question::Bytes),
+    ("slots", Question::Slots),
+    ("back", Question::Back),
+    ("items", Question::Items),
+    ("copy", Question::Copy),
+    ("decode", Question::Decode),
+    ("plain", Question::Plain),
+    ("validity", Question::Validity),
+    ("item", Question::Item),
+    ("slices", Question::Slices),
+    ("composed", Question::Composed),
+    ("serialized", Question::Serialized),
+    ("stored", Question::Stored),
+];
 
 /// Answers a question that looks at an array's parts, or calls something. The last column is the one that `back`
 /// speaks of.
-fn answer_asked(
-    alloc: Global,
-    array: &ArrayRef,
-    asked: Question,
-    words: &[&str],
-    columns: &[PrimitiveArray],
-    answer: &mut Text,
-) {
-    match (asked, words, columns) {
-        (Question::Kind, [], _) => parts::kind(array, answer),
-        (Question::Column, [], _) => column_read(alloc, array, answer),
-        (Question::Parts, [], _) => parts::parts(alloc, array, answer),
-        (Question::Kept, [], _) => parts::kept(array, answer),
-        (Question::Bytes, [], _) => parts::packed_bytes(array, answer),
-        (Question::Slots, [], _) => parts::slots(array, answer),
-        (Question::Back, [], [.., column]) => back(alloc, array, column, answer),
-        (Question::TakeCounted, [], [.., indices]) => taking::ask(alloc, array, indices, answer),
-        _ => answer_called(alloc, array, asked, words, answer),
-    }
-}
-
-/// Answers a question beside a plain column, or of what an array keeps.
-fn answer_other(
-    alloc: Global,
-    array: &ArrayRef,
-    words: &[&str],
-    columns: &[PrimitiveArray],
-    answer: &mut Text,
-) {
-    if !beside::ask(alloc, array, words, columns, answer) {
-        data::ask(alloc, array, words, columns, answer);
+fn answer_asked(asked: Asked, question: Question, array: &ArrayRef, answer: &mut Text) {
+    let alloc = asked.alloc;
+    match question {
+        Question::Kind => parts::kind(array, answer),
+        Question::Column => column_read(array, answer),
+        Question::Parts => parts::parts(alloc, array, answer),
+        Question::Kept => parts::kept(array, answer),
+        Question::Bytes => parts::packed_bytes(array, answer),
+        Question::Slots => parts::slots(array, answer),
+        Question::Back => back(alloc, array, asked.last_column(), answer),
+        Question::Items => array_read(array, answer),
+        Question::Copy => array_made(&array.try_clone(alloc), answer),
+        Question::Decode => array_made(&array.decode(alloc), answer),
+        Question::Plain => made(answer, array.to_primitive(alloc)),
+        Question::Validity => made(answer, array.validity(alloc)),
+        Question::Item => item_decoded(alloc, array, asked.count(1), answer),
+        Question::Slices => {
+            let (outer, inner) = (range_of(asked.word(1)), range_of(asked.word(2)));
+            array_made(&sliced_twice(alloc, array, outer, inner), answer);
+        }
+        Question::Composed => all_composed(asked, array, answer),
+        Question::Serialized => nodes::serialized(alloc, asked.word(2), array, answer),
+        Question::Stored => stored(alloc, array, answer),
     }
 }
 
 /// Answers what words ask of an array, or of one inside it.
-pub(super) fn answer(
-    alloc: Global,
-    array: &ArrayRef,
-    words: &[&str],
-    columns: &[PrimitiveArray],
-    answer: &mut Text,
-) {
-    let Some((array, words)) = parts::descend(array, words) else {
+pub(super) fn answer(asked: Asked, array: &ArrayRef, answer: &mut Text) {
+    let Some((array, words)) = parts::descend(array, asked.words) else {
         answer.word("no such array");
         return;
     };
-    match asked(QUESTIONS, words) {
-        Some((asked, words)) => answer_asked(alloc, array, asked, words, columns, answer),
-        None => answer_other(alloc, array, words, columns, answer),
+    let asked = asked.with_words(words);
+    match named(QUESTIONS, asked.word(0)) {
+        Some(question) => answer_asked(asked, question, array, answer),
+        None => {
+            if !queries::answer(asked, array, answer) {
+                data::ask(asked, array, answer);
+            }
+        }
     }
 }

@@ -4,156 +4,196 @@ ghost use Rattle.std.specs.Prelude.{IsTrue};
 ghost use Rattle.fl_ops.specs.Questions.{may_ask};
 ghost use Rattle.fl_array.specs.Trees.{column};
 
+use super::came;
 use super::inputs::Inputs;
-use super::outcome::{Came, Outcome};
-use super::packed_calls;
 use crate::arrays::operations;
-use crate::arrays::questions::{constant, operator, options};
-use crate::columns::count;
-use std::alloc::Global;
-use vortex_fastlanes::array::{Answer, ArrayOps, ArrayRef, Op, Query, apply_all, ask};
-use vortex_fastlanes::{BetweenOptions, FastLanesError};
+use crate::arrays::queries::{constant, operator, options};
+use crate::asked::Asked;
+use crate::names::named;
+use crate::text::Text;
+use fastlanes::Work;
+use vortex_fastlanes::array::{ArrayOps, ArrayRef, Op, Query, apply_all, ask};
+use vortex_fastlanes::{FastLanesError, Scalar};
 
-/// What makes an array, a scalar or the answer to a query.
-fn array(made: Result<ArrayRef, FastLanesError>) -> Came {
-    Ok(Outcome::Array(made?))
-}
-
-fn reply(made: Result<Answer, FastLanesError>) -> Came {
-    Ok(Outcome::Answer(made?))
+/// What a call gives beside what it counts.
+fn uncounted<T: Drop>(given: Result<(T, Work), FastLanesError>) -> Result<T, FastLanesError> {
+    let (value, _) = given?;
+    Ok(value)
 }
 
 /// Calls the one operation that the words name.
-fn op(alloc: Global, inputs: &Inputs) -> Came {
-    match inputs.ops.as_slice() {
-        [op] => array(operations::call(alloc, &inputs.array, op)),
-        _ => Ok(Outcome::NoSuchCall),
-    }
-}
-
-fn item(alloc: Global, array: &ArrayRef, i: usize) -> Came {
-    if i >= array.len() {
-        return Err(FastLanesError::IndexOutOfBounds);
-    }
-    Ok(Outcome::Scalar(array.scalar_at(alloc, i)?))
-}
-
-fn compare(alloc: Global, array: &ArrayRef, name: &str, integer: &str) -> Came {
-    let constant = constant(array, integer);
-    Ok(Outcome::Bools(array.compare(alloc, operator(name), &constant)?))
-}
-
-fn between(alloc: Global, array: &ArrayRef, range: (&str, &str), options: BetweenOptions) -> Came {
-    let (lower, upper) = (constant(array, range.0), constant(array, range.1));
-    Ok(Outcome::Bools(array.between(alloc, &lower, &upper, &options)?))
-}
-
-fn query_compare(alloc: Global, array: &ArrayRef, name: &str, integer: &str) -> Came {
-    let (operator, constant) = (operator(name), constant(array, integer));
-    reply(ask(alloc, array, &Query::Compare(operator, constant)))
-}
-
-fn query_between(
-    alloc: Global,
-    array: &ArrayRef,
-    range: (&str, &str),
-    options: BetweenOptions,
-) -> Came {
-    let (lower, upper) = (constant(array, range.0), constant(array, range.1));
-    reply(ask(alloc, array, &Query::Between(lower, upper, options)))
-}
-
-/// Asks a query.
-fn query(alloc: Global, array: &ArrayRef, words: &[&str]) -> Came {
-    match words {
-        ["at", i] => reply(ask(alloc, array, &Query::ScalarAt(count(i)))),
-        ["constant"] => reply(ask(alloc, array, &Query::IsConstant)),
-        ["sorted"] => reply(ask(alloc, array, &Query::IsSorted(false))),
-        ["strict"] => reply(ask(alloc, array, &Query::IsSorted(true))),
-        ["compare", name, integer] => query_compare(alloc, array, name, integer),
-        ["between", from, lower, to, upper] => {
-            query_between(alloc, array, (lower, upper), options(from, to))
-        }
-        _ => Ok(Outcome::NoSuchCall),
+fn op(asked: Asked, inputs: &Inputs, answer: &mut Text) {
+    match inputs.ops.first() {
+        Some(op) => came(answer, operations::call(asked.alloc, &inputs.array, op)),
+        None => answer.word("no such call"),
     }
 }
 
 /// Calls the take that the words name, which counts what it reads.
-fn take_counted(alloc: Global, inputs: &Inputs) -> Came {
-    match inputs.ops.as_slice() {
-        [Op::Take(indices)] => {
-            let (taken, _) = inputs.array.take_counted(alloc, indices)?;
-            Ok(Outcome::Array(taken))
+fn take_counted(asked: Asked, inputs: &Inputs, answer: &mut Text) {
+    match inputs.ops.first() {
+        Some(Op::Take(indices)) => {
+            let given = inputs.array.take_counted(asked.alloc, indices);
+            came(answer, uncounted(given));
         }
-        _ => Ok(Outcome::NoSuchCall),
+        _ => answer.word("no such call"),
     }
 }
 
-fn item_counted(alloc: Global, array: &ArrayRef, i: usize) -> Came {
+fn item(asked: Asked, array: &ArrayRef, i: usize) -> Result<Scalar, FastLanesError> {
     if i >= array.len() {
         return Err(FastLanesError::IndexOutOfBounds);
     }
-    let (item, _) = array.scalar_at_counted(alloc, i)?;
-    Ok(Outcome::Scalar(item))
+    array.scalar_at(asked.alloc, i)
 }
 
-fn compare_counted(alloc: Global, array: &ArrayRef, name: &str, integer: &str) -> Came {
-    let constant = constant(array, integer);
-    let (tests, _) = array.compare_counted(alloc, operator(name), &constant)?;
-    Ok(Outcome::Bools(tests))
+fn item_counted(asked: Asked, array: &ArrayRef, i: usize) -> Result<Scalar, FastLanesError> {
+    if i >= array.len() {
+        return Err(FastLanesError::IndexOutOfBounds);
+    }
+    uncounted(array.scalar_at_counted(asked.alloc, i))
 }
 
-fn between_counted(
-    alloc: Global,
-    array: &ArrayRef,
-    range: (&str, &str),
-    options: BetweenOptions,
-) -> Came {
-    let (lower, upper) = (constant(array, range.0), constant(array, range.1));
-    let (tests, _) = array.between_counted(alloc, &lower, &upper, &options)?;
-    Ok(Outcome::Bools(tests))
+/// Compares with a constant: `compare lt 7`.
+fn compare(asked: Asked, array: &ArrayRef, answer: &mut Text) {
+    let (operator, constant) = (operator(asked.word(1)), constant(array, asked.word(2)));
+    came(answer, array.compare(asked.alloc, operator, &constant));
 }
 
-/// Makes a call that counts what it reads of packed bytes.
-fn counted(alloc: Global, name: &str, words: &[&str], inputs: &Inputs) -> Came {
-    let array = &inputs.array;
-    match (name, words) {
-        ("counted_op", _) => take_counted(alloc, inputs),
-        ("item_counted", [i]) => item_counted(alloc, array, count(i)),
-        ("compare_counted", [name, integer]) => compare_counted(alloc, array, name, integer),
-        ("between_counted", [from, lower, to, upper]) => {
-            between_counted(alloc, array, (lower, upper), options(from, to))
+fn compare_counted(asked: Asked, array: &ArrayRef, answer: &mut Text) {
+    let (operator, constant) = (operator(asked.word(1)), constant(array, asked.word(2)));
+    let given = array.compare_counted(asked.alloc, operator, &constant);
+    came(answer, uncounted(given));
+}
+
+/// Tests a range: `between gte 3 lt 7`.
+fn between(asked: Asked, array: &ArrayRef, answer: &mut Text) {
+    let (lower, upper) = (
+        constant(array, asked.word(2)),
+        constant(array, asked.word(4)),
+    );
+    let options = options(asked.word(1), asked.word(3));
+    came(answer, array.between(asked.alloc, &lower, &upper, &options));
+}
+
+fn between_counted(asked: Asked, array: &ArrayRef, answer: &mut Text) {
+    let (lower, upper) = (
+        constant(array, asked.word(2)),
+        constant(array, asked.word(4)),
+    );
+    let options = options(asked.word(1), asked.word(3));
+    let given = array.between_counted(asked.alloc, &lower, &upper, &options);
+    came(answer, uncounted(given));
+}
+
+#[derive(Clone, Copy)]
+enum Asking {
+    At,
+    Constant,
+    Sorted,
+    Strict,
+    Compare,
+    Between,
+}
+
+const ASKINGS: &[(&str, Asking)] = &[
+    ("at", Asking::At),
+    ("constant", Asking::Constant),
+    ("sorted", Asking::Sorted),
+    ("strict", Asking::Strict),
+    ("compare", Asking::Compare),
+    ("between", Asking::Between),
+];
+
+/// The query that words name: `at 2`, `constant`, `sorted`, `strict`, `compare lt 7` or `between gte 3 lt 7`.
+fn query_of(asked: Asked, array: &ArrayRef) -> Query
+    ensures { IsTrue (may_ask (column array.now) result) }
+{
+    match named(ASKINGS, asked.word(1)) {
+        Some(Asking::At) => Query::ScalarAt(asked.count(2)),
+        Some(Asking::Sorted) => Query::IsSorted(false),
+        Some(Asking::Strict) => Query::IsSorted(true),
+        Some(Asking::Compare) => {
+            Query::Compare(operator(asked.word(2)), constant(array, asked.word(3)))
         }
-        _ => packed_calls::call(alloc, name, words, inputs),
-    }
-}
-
-/// Asks a question by a call.
-fn question(alloc: Global, name: &str, words: &[&str], inputs: &Inputs) -> Came {
-    let array = &inputs.array;
-    match (name, words) {
-        ("item", [i]) => item(alloc, array, count(i)),
-        ("compare", [name, integer]) => compare(alloc, array, name, integer),
-        ("between", [from, lower, to, upper]) => {
-            between(alloc, array, (lower, upper), options(from, to))
+        Some(Asking::Between) => {
+            let (lower, upper) = (
+                constant(array, asked.word(3)),
+                constant(array, asked.word(5)),
+            );
+            Query::Between(lower, upper, options(asked.word(2), asked.word(4)))
         }
-        ("constant", []) => Ok(Outcome::Bool(array.is_constant(alloc)?)),
-        ("sorted", []) => Ok(Outcome::Bool(array.is_sorted(alloc, false)?)),
-        ("strict", []) => Ok(Outcome::Bool(array.is_sorted(alloc, true)?)),
-        ("query", _) => query(alloc, array, words),
-        _ => counted(alloc, name, words, inputs),
+        Some(Asking::Constant) | None => Query::IsConstant,
     }
 }
 
-pub(super) fn call(alloc: Global, name: &str, words: &[&str], inputs: &Inputs) -> Came {
-    match name {
-        "op" => op(alloc, inputs),
-        "list_op" => array(apply_all(alloc, &inputs.array, &inputs.ops)),
-        "decode" => array(inputs.array.decode(alloc)),
-        "plain" => Ok(Outcome::Column(inputs.array.to_primitive(alloc)?)),
-        "copy" => array(inputs.array.try_clone(alloc)),
-        "validity" => Ok(Outcome::Validity(inputs.array.validity(alloc)?)),
-        "to_blocked" => array(inputs.array.to_blocked(alloc)),
-        _ => question(alloc, name, words, inputs),
+#[derive(Clone, Copy)]
+enum Call {
+    Op,
+    ListOp,
+    CountedOp,
+    Decode,
+    Plain,
+    Copy,
+    Validity,
+    ToBlocked,
+    Item,
+    ItemCounted,
+    Compare,
+    CompareCounted,
+    Between,
+    BetweenCounted,
+    Constant,
+    Sorted,
+    Strict,
+    Query,
+}
+
+const CALLS: &[(&str, Call)] = &[
+    ("op", Call::Op),
+    ("list_op", Call::ListOp),
+    ("counted_op", Call::CountedOp),
+    ("decode", Call::Decode),
+    ("plain", Call::Plain),
+    ("copy", Call::Copy),
+    ("validity", Call::Validity),
+    ("to_blocked", Call::ToBlocked),
+    ("item", Call::Item),
+    ("item_counted", Call::ItemCounted),
+    ("compare", Call::Compare),
+    ("compare_counted", Call::CompareCounted),
+    ("between", Call::Between),
+    ("between_counted", Call::BetweenCounted),
+    ("constant", Call::Constant),
+    ("sorted", Call::Sorted),
+    ("strict", Call::Strict),
+    ("query", Call::Query),
+];
+
+pub(super) fn make(asked: Asked, inputs: &Inputs, answer: &mut Text) -> bool {
+    let Some(call) = named(CALLS, asked.word(0)) else {
+        return false;
+    };
+    let (alloc, array) = (asked.alloc, &inputs.array);
+    match call {
+        Call::Op => op(asked, inputs, answer),
+        Call::ListOp => came(answer, apply_all(alloc, array, &inputs.ops)),
+        Call::CountedOp => take_counted(asked, inputs, answer),
+        Call::Decode => came(answer, array.decode(alloc)),
+        Call::Plain => came(answer, array.to_primitive(alloc)),
+        Call::Copy => came(answer, array.try_clone(alloc)),
+        Call::Validity => came(answer, array.validity(alloc)),
+        Call::ToBlocked => came(answer, array.to_blocked(alloc)),
+        Call::Item => came(answer, item(asked, array, asked.count(1))),
+        Call::ItemCounted => came(answer, item_counted(asked, array, asked.count(1))),
+        Call::Compare => compare(asked, array, answer),
+        Call::CompareCounted => compare_counted(asked, array, answer),
+        Call::Between => between(asked, array, answer),
+        Call::BetweenCounted => between_counted(asked, array, answer),
+        Call::Constant => came(answer, array.is_constant(alloc)),
+        Call::Sorted => came(answer, array.is_sorted(alloc, false)),
+        Call::Strict => came(answer, array.is_sorted(alloc, true)),
+        Call::Query => came(answer, ask(alloc, array, &query_of(asked, array))),
     }
+    true
 }

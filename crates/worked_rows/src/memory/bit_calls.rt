@@ -1,80 +1,128 @@
 //! Calls on lists of bits, masks, validities and boolean arrays.
 
+use super::came;
 use super::inputs::Inputs;
-use super::node_calls;
-use super::outcome::{Came, Outcome};
-use crate::columns::count;
+use crate::asked::Asked;
+use crate::names::named;
+use crate::text::Text;
 use std::alloc::Global;
 use vortex_fastlanes::array::Op;
-use vortex_fastlanes::{BitList, BoolArray, FastLanesError};
+use vortex_fastlanes::{BitList, BoolArray, FastLanesError, Mask, Validity};
+
+/// What makes a list of bits.
+type Listed = Result<BitList, FastLanesError>;
 
 /// A list of bits, each pushed after the other.
-fn pushed(alloc: Global, bits: &BitList) -> Came {
+fn pushed(alloc: Global, bits: &BitList) -> Listed {
     let mut list = BitList::new(alloc);
     for i in 0..bits.len() {
         list.push(bits.get(i))?;
     }
-    Ok(Outcome::Bits(list))
+    Ok(list)
 }
 
-/// Makes a call on a list of bits.
-fn on_bits(alloc: Global, words: &[&str], bits: &BitList) -> Came {
-    match words {
-        ["slice", start, end] => {
-            let (start, end) = (count(start), count(end));
-            if start > end || end > bits.len() {
-                return Err(FastLanesError::RangeOutOfBounds);
-            }
-            Ok(Outcome::Bits(bits.slice(alloc, start, end)?))
-        }
-        ["copy"] => Ok(Outcome::Bits(bits.try_clone(alloc)?)),
-        ["push"] => pushed(alloc, bits),
-        ["from_fn"] => {
-            let made = BitList::from_fn(alloc, bits.len(), |i| i < bits.len() && bits.get(i))?;
-            Ok(Outcome::Bits(made))
-        }
-        _ => Ok(Outcome::NoSuchCall),
+/// The same, each by a function.
+fn from_fn(alloc: Global, bits: &BitList) -> Listed {
+    BitList::from_fn(alloc, bits.len(), |i| i < bits.len() && bits.get(i))
+}
+
+fn slice_bits(alloc: Global, bits: &BitList, start: usize, end: usize) -> Listed {
+    if start > end || end > bits.len() {
+        return Err(FastLanesError::RangeOutOfBounds);
+    }
+    bits.slice(alloc, start, end)
+}
+
+fn slice_bools(
+    alloc: Global,
+    bools: &BoolArray,
+    start: usize,
+    end: usize,
+) -> Result<BoolArray, FastLanesError> {
+    if start > end || end > bools.len() {
+        return Err(FastLanesError::RangeOutOfBounds);
+    }
+    bools.slice(alloc, start, end)
+}
+
+/// A part of the validity of the first column.
+fn slice_validity(asked: Asked, start: usize, end: usize) -> Result<Validity, FastLanesError> {
+    let (validity, len) = (asked.column(0).validity(), asked.column(0).len());
+    if start > end || end > len || !validity.covers(len) {
+        return Err(FastLanesError::RangeOutOfBounds);
+    }
+    validity.slice(asked.alloc, start, end, len)
+}
+
+/// Copies the mask of the row's filter.
+fn copy_mask(alloc: Global, inputs: &Inputs) -> Result<Mask, FastLanesError> {
+    match inputs.ops.first() {
+        Some(Op::Filter(mask)) => mask.try_clone(alloc),
+        _ => Err(FastLanesError::MaskLength),
     }
 }
 
-/// Makes a call on a boolean array.
-fn on_bools(alloc: Global, words: &[&str], bools: &BoolArray) -> Came {
-    match words {
-        ["slice", start, end] => {
-            let (start, end) = (count(start), count(end));
-            if start > end || end > bools.len() {
-                return Err(FastLanesError::RangeOutOfBounds);
-            }
-            Ok(Outcome::Bools(bools.slice(alloc, start, end)?))
-        }
-        _ => Ok(Outcome::Bools(bools.try_clone(alloc)?)),
+/// Makes a call on a list of bits: `on_bits slice 1 3`, `copy`, `push` or `from_fn`.
+fn on_bits(asked: Asked, bits: &BitList, answer: &mut Text) {
+    let alloc = asked.alloc;
+    match asked.word(1) {
+        "slice" => came(
+            answer,
+            slice_bits(alloc, bits, asked.count(2), asked.count(3)),
+        ),
+        "push" => came(answer, pushed(alloc, bits)),
+        "from_fn" => came(answer, from_fn(alloc, bits)),
+        _ => came(answer, bits.try_clone(alloc)),
     }
 }
 
-/// Makes a call on the validity of the first column.
-fn on_validity(alloc: Global, words: &[&str], inputs: &Inputs) -> Came {
-    let [column, ..] = inputs.columns.as_slice() else {
-        return Err(FastLanesError::ChildCount);
+/// Makes a call on a boolean array: `on_bools slice 1 3` or `copy`.
+fn on_bools(asked: Asked, bools: &BoolArray, answer: &mut Text) {
+    match asked.word(1) {
+        "slice" => came(
+            answer,
+            slice_bools(asked.alloc, bools, asked.count(2), asked.count(3)),
+        ),
+        _ => came(answer, bools.try_clone(asked.alloc)),
+    }
+}
+
+/// Makes a call on the validity of the first column: `on_validity slice 1 3` or `copy`.
+fn on_validity(asked: Asked, answer: &mut Text) {
+    match asked.word(1) {
+        "slice" => came(
+            answer,
+            slice_validity(asked, asked.count(2), asked.count(3)),
+        ),
+        _ => came(answer, asked.column(0).validity().try_clone(asked.alloc)),
+    }
+}
+
+#[derive(Clone, Copy)]
+enum Call {
+    Bits,
+    Bools,
+    Validity,
+    Mask,
+}
+
+const CALLS: &[(&str, Call)] = &[
+    ("on_bits", Call::Bits),
+    ("on_bools", Call::Bools),
+    ("on_validity", Call::Validity),
+    ("mask_op", Call::Mask),
+];
+
+pub(super) fn make(asked: Asked, inputs: &Inputs, answer: &mut Text) -> bool {
+    let Some(call) = named(CALLS, asked.word(0)) else {
+        return false;
     };
-    let (validity, len) = (column.validity(), column.len());
-    match words {
-        ["slice", start, end] => {
-            let (start, end) = (count(start), count(end));
-            if start > end || end > len || !validity.covers(len) {
-                return Err(FastLanesError::RangeOutOfBounds);
-            }
-            Ok(Outcome::Validity(validity.slice(alloc, start, end, len)?))
-        }
-        _ => Ok(Outcome::Validity(validity.try_clone(alloc)?)),
+    match (call, inputs.array.as_bool()) {
+        (Call::Bits, Some(bools)) => on_bits(asked, bools.bits(), answer),
+        (Call::Bools, Some(bools)) => on_bools(asked, bools, answer),
+        (Call::Validity, _) => on_validity(asked, answer),
+        (Call::Mask, _) => came(answer, copy_mask(asked.alloc, inputs)),
+        _ => answer.word("no such call"),
     }
-}
-
-pub(super) fn call(alloc: Global, name: &str, words: &[&str], inputs: &Inputs) -> Came {
-    match (name, inputs.array.as_bool(), inputs.ops.as_slice()) {
-        ("on_bits", Some(bools), _) => on_bits(alloc, words, bools.bits()),
-        ("on_bools", Some(bools), _) => on_bools(alloc, words, bools),
-        ("on_validity", _, _) => on_validity(alloc, words, inputs),
-        ("mask_op", _, [Op::Filter(mask)]) => Ok(Outcome::Mask(mask.try_clone(alloc)?)),
-        _ => node_calls::call(alloc, name, words, inputs),
-    }
+    true
 }

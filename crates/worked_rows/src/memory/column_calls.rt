@@ -3,17 +3,19 @@
 ghost use Rattle.std.specs.Prelude.{◌≡◌, length};
 ghost use Rattle.fl_column.specs.Chunks.{chunk_count};
 
-use super::encoder_calls;
+use super::came;
 use super::inputs::Inputs;
-use super::outcome::{Came, Outcome};
-use crate::arrays::questions::{operator, options};
-use crate::columns::{count, type_of};
+use crate::arrays::queries::{operator, options};
+use crate::asked::Asked;
+use crate::columns::{Made, type_of};
+use crate::names::named;
 use crate::packing::width_of;
+use crate::patches::Selected;
+use crate::text::Text;
 use crate::types::value_of;
 use crate::widths;
-use fl_column::{PrimitiveArray, chunk_count};
+use fl_column::{BoolArray, PrimitiveArray, chunk_count};
 use fl_patches::gather_blocked_patches;
-use std::alloc::Global;
 use vortex_fastlanes::array::Op;
 use vortex_fastlanes::bitpack_compress::{
     bit_width_histogram, find_best_bit_width, find_best_bit_widths, gather_patches,
@@ -21,38 +23,41 @@ use vortex_fastlanes::bitpack_compress::{
 use vortex_fastlanes::bitpack_decompress::count_exceptions;
 use vortex_fastlanes::{ConstantArray, FastLanesError, PType};
 
+/// What a comparison gives.
+type Tests = Result<BoolArray, FastLanesError>;
+
 /// Calls the operation that the words name.
-fn op(alloc: Global, column: &PrimitiveArray, inputs: &Inputs) -> Came {
-    let made = match (inputs.ops.as_slice(), inputs.columns.as_slice()) {
-        ([Op::Slice(range)], _) if range.start <= range.end && range.end <= column.len() => {
-            column.slice(alloc, range.start, range.end)?
+fn op(asked: Asked, column: &PrimitiveArray, inputs: &Inputs) -> Made {
+    let alloc = asked.alloc;
+    match inputs.ops.first() {
+        Some(Op::Slice(range)) if range.start <= range.end && range.end <= column.len() => {
+            column.slice(alloc, range.start, range.end)
         }
-        ([Op::Filter(mask)], _) if mask.len() == column.len() => column.filter(alloc, mask)?,
-        ([Op::Take(_)], [_, indices, ..]) => column.take(alloc, indices)?,
-        ([Op::TakeRanges(ranges)], _) => column.take_ranges(alloc, ranges)?,
-        ([Op::Cast(target)], _) => column.cast(alloc, *target)?,
-        _ => column.try_clone(alloc)?,
-    };
-    Ok(Outcome::Column(made))
+        Some(Op::Filter(mask)) if mask.len() == column.len() => column.filter(alloc, mask),
+        Some(Op::Take(_)) => column.take(alloc, asked.column(1)),
+        Some(Op::TakeRanges(ranges)) => column.take_ranges(alloc, ranges),
+        Some(Op::Cast(target)) => column.cast(alloc, *target),
+        _ => column.try_clone(alloc),
+    }
 }
 
-fn compare(alloc: Global, column: &PrimitiveArray, name: &str, integer: &str) -> Came {
-    let constant = value_of(column.ptype(), integer);
-    Ok(Outcome::Bools(column.compare(alloc, operator(name), constant)?))
+/// Compares with a constant: `column_compare lt 7`.
+fn compare(asked: Asked, column: &PrimitiveArray) -> Tests {
+    let constant = value_of(column.ptype(), asked.word(2));
+    column.compare(asked.alloc, operator(asked.word(1)), constant)
 }
 
-/// Tests whether items are from one integer up to below another.
-fn between(alloc: Global, column: &PrimitiveArray, lower: &str, upper: &str) -> Came {
+/// Tests whether items are from one integer up to below another: `column_between 3 7`.
+fn between(asked: Asked, column: &PrimitiveArray) -> Tests {
     let (lower, upper) = (
-        value_of(column.ptype(), lower),
-        value_of(column.ptype(), upper),
+        value_of(column.ptype(), asked.word(1)),
+        value_of(column.ptype(), asked.word(2)),
     );
-    let tests = column.between(alloc, lower, upper, options("gte", "lt"))?;
-    Ok(Outcome::Bools(tests))
+    column.between(asked.alloc, lower, upper, options("gte", "lt"))
 }
 
 /// The patches at a width for each block, by the numbers of another column.
-fn gather_blocked(alloc: Global, column: &PrimitiveArray, widths: &PrimitiveArray) -> Came {
+fn gather_blocked(asked: Asked, column: &PrimitiveArray, widths: &PrimitiveArray) -> Selected {
     if widths.ptype() != PType::U8 {
         return Err(FastLanesError::TypeMismatch);
     }
@@ -60,104 +65,142 @@ fn gather_blocked(alloc: Global, column: &PrimitiveArray, widths: &PrimitiveArra
     if widths.len() != chunk_count(column.len()) {
         return Err(FastLanesError::BlockCount);
     }
-    Ok(Outcome::Patches(gather_blocked_patches(alloc, column, widths, 0)?))
-}
-
-fn best_widths(alloc: Global, column: &PrimitiveArray) -> Came {
-    let (widths, exceptions) = find_best_bit_widths(alloc, column)?;
-    Ok(Outcome::Widths(widths, exceptions))
+    gather_blocked_patches(asked.alloc, column, widths, 0)
 }
 
 /// Counts the numbers above a width.
-fn exceptions(width: u8, histogram: &[usize]) -> Came {
+fn exceptions(width: u8, histogram: &[usize]) -> Result<usize, FastLanesError> {
     if widths::sum_above(width, histogram).is_none() {
         return Err(FastLanesError::LengthOverflow);
     }
-    Ok(Outcome::Number(count_exceptions(width, histogram)))
-}
-
-/// Makes a call about widths.
-fn on_widths(
-    alloc: Global,
-    name: &str,
-    words: &[&str],
-    column: &PrimitiveArray,
-    inputs: &Inputs,
-) -> Came {
-    match (name, words, inputs.columns.as_slice()) {
-        ("histogram", [], _) => Ok(Outcome::Numbers(bit_width_histogram(alloc, column)?)),
-        ("best_widths", [], _) => best_widths(alloc, column),
-        ("best_width", [ptype], _) => {
-            let width = find_best_bit_width(type_of(ptype), &inputs.numbers)?;
-            Ok(Outcome::Number(usize::from(width)))
-        }
-        ("exceptions", [width], _) => exceptions(width_of(width), &inputs.numbers),
-        ("gather", [width], _) => {
-            let patches = gather_patches(alloc, column, width_of(width), 0)?;
-            Ok(Outcome::Patches(patches))
-        }
-        ("gather_blocked", [], [_, widths, ..]) => gather_blocked(alloc, column, widths),
-        _ => encoder_calls::call(alloc, name, words, inputs),
-    }
-}
-
-/// Makes a call on the first column.
-fn on_column(
-    alloc: Global,
-    name: &str,
-    words: &[&str],
-    column: &PrimitiveArray,
-    inputs: &Inputs,
-) -> Came {
-    match (name, words) {
-        ("column_op", _) => op(alloc, column, inputs),
-        ("column_compare", [name, integer]) => compare(alloc, column, name, integer),
-        ("column_between", [lower, upper]) => between(alloc, column, lower, upper),
-        ("positions", [len]) => Ok(Outcome::Positions(column.positions(alloc, count(len))?)),
-        ("options", []) => {
-            let made = PrimitiveArray::from_options::<u16>(alloc, &inputs.items)?;
-            Ok(Outcome::Column(made))
-        }
-        _ => on_widths(alloc, name, words, column, inputs),
-    }
+    Ok(count_exceptions(width, histogram))
 }
 
 /// Calls the operation that the words name on a constant array, or decodes it.
-fn constant_op(alloc: Global, constant: &ConstantArray, inputs: &Inputs) -> Came {
-    let made = match (inputs.ops.as_slice(), inputs.columns.as_slice()) {
-        ([Op::Take(_)], [_, indices, ..]) => constant.take(alloc, indices)?,
-        ([Op::TakeRanges(ranges)], _) => constant.take_ranges(alloc, ranges)?,
-        ([Op::Filter(mask)], _) if mask.len() == constant.len() => constant.filter(alloc, mask)?,
-        ([Op::Cast(target)], _) => constant.cast(alloc, *target)?,
-        _ => constant.decode(alloc)?,
-    };
-    Ok(Outcome::Column(made))
-}
-
-/// Makes a call on a constant array.
-fn on_constant(alloc: Global, name: &str, words: &[&str], inputs: &Inputs) -> Came {
-    let Some(constant) = inputs.array.as_constant() else {
-        return Err(FastLanesError::TypeMismatch);
-    };
-    let ptype = constant.ptype();
-    match (name, words) {
-        ("constant_compare", [name, integer]) => {
-            let tests = constant.compare(alloc, operator(name), value_of(ptype, integer))?;
-            Ok(Outcome::Bools(tests))
-        }
-        ("constant_between", [lower, upper]) => {
-            let (lower, upper) = (value_of(ptype, lower), value_of(ptype, upper));
-            let tests = constant.between(alloc, lower, upper, options("gte", "lt"))?;
-            Ok(Outcome::Bools(tests))
-        }
-        _ => constant_op(alloc, constant, inputs),
+fn constant_op(asked: Asked, constant: &ConstantArray, inputs: &Inputs) -> Made {
+    let alloc = asked.alloc;
+    match inputs.ops.first() {
+        Some(Op::Take(_)) => constant.take(alloc, asked.column(1)),
+        Some(Op::TakeRanges(ranges)) => constant.take_ranges(alloc, ranges),
+        Some(Op::Filter(mask)) if mask.len() == constant.len() => constant.filter(alloc, mask),
+        Some(Op::Cast(target)) => constant.cast(alloc, *target),
+        _ => constant.decode(alloc),
     }
 }
 
-pub(super) fn call(alloc: Global, name: &str, words: &[&str], inputs: &Inputs) -> Came {
-    match inputs.columns.as_slice() {
-        _ if name.starts_with("constant_") => on_constant(alloc, name, words, inputs),
-        [column, ..] => on_column(alloc, name, words, column, inputs),
-        [] => Ok(Outcome::NoSuchCall),
+fn constant_compare(asked: Asked, constant: &ConstantArray) -> Tests {
+    let value = value_of(constant.ptype(), asked.word(2));
+    constant.compare(asked.alloc, operator(asked.word(1)), value)
+}
+
+fn constant_between(asked: Asked, constant: &ConstantArray) -> Tests {
+    let (lower, upper) = (
+        value_of(constant.ptype(), asked.word(1)),
+        value_of(constant.ptype(), asked.word(2)),
+    );
+    constant.between(asked.alloc, lower, upper, options("gte", "lt"))
+}
+
+#[derive(Clone, Copy)]
+enum Call {
+    Op,
+    Compare,
+    Between,
+    Positions,
+    Options,
+    Histogram,
+    BestWidths,
+    BestWidth,
+    Exceptions,
+    Gather,
+    GatherBlocked,
+}
+
+const CALLS: &[(&str, Call)] = &[
+    ("column_op", Call::Op),
+    ("column_compare", Call::Compare),
+    ("column_between", Call::Between),
+    ("positions", Call::Positions),
+    ("options", Call::Options),
+    ("histogram", Call::Histogram),
+    ("best_widths", Call::BestWidths),
+    ("best_width", Call::BestWidth),
+    ("exceptions", Call::Exceptions),
+    ("gather", Call::Gather),
+    ("gather_blocked", Call::GatherBlocked),
+];
+
+/// Makes a call on the first column.
+fn on_column(asked: Asked, call: Call, inputs: &Inputs, answer: &mut Text) {
+    let (alloc, column) = (asked.alloc, asked.column(0));
+    match call {
+        Call::Op => came(answer, op(asked, column, inputs)),
+        Call::Compare => came(answer, compare(asked, column)),
+        Call::Between => came(answer, between(asked, column)),
+        Call::Positions => came(answer, column.positions(alloc, asked.count(1))),
+        Call::Options => came(
+            answer,
+            PrimitiveArray::from_options::<u16>(alloc, &inputs.items),
+        ),
+        Call::Histogram => came(answer, bit_width_histogram(alloc, column)),
+        Call::BestWidths => came(answer, find_best_bit_widths(alloc, column)),
+        Call::BestWidth => {
+            let ptype = type_of(asked.word(1));
+            came(answer, find_best_bit_width(ptype, &inputs.numbers));
+        }
+        Call::Exceptions => {
+            let width = width_of(asked.word(1));
+            came(answer, exceptions(width, &inputs.numbers));
+        }
+        Call::Gather => {
+            let width = width_of(asked.word(1));
+            came(answer, gather_patches(alloc, column, width, 0));
+        }
+        Call::GatherBlocked => came(answer, gather_blocked(asked, column, asked.column(1))),
+    }
+}
+
+#[derive(Clone, Copy)]
+enum ConstantCall {
+    Op,
+    Compare,
+    Between,
+}
+
+const CONSTANT_CALLS: &[(&str, ConstantCall)] = &[
+    ("constant_op", ConstantCall::Op),
+    ("constant_compare", ConstantCall::Compare),
+    ("constant_between", ConstantCall::Between),
+];
+
+/// Makes a call on a constant array.
+fn on_constant(
+    asked: Asked,
+    call: ConstantCall,
+    constant: &ConstantArray,
+    inputs: &Inputs,
+    answer: &mut Text,
+) {
+    match call {
+        ConstantCall::Op => came(answer, constant_op(asked, constant, inputs)),
+        ConstantCall::Compare => came(answer, constant_compare(asked, constant)),
+        ConstantCall::Between => came(answer, constant_between(asked, constant)),
+    }
+}
+
+pub(super) fn make(asked: Asked, inputs: &Inputs, answer: &mut Text) -> bool {
+    if let Some(call) = named(CALLS, asked.word(0)) {
+        on_column(asked, call, inputs, answer);
+        return true;
+    }
+    match (
+        named(CONSTANT_CALLS, asked.word(0)),
+        inputs.array.as_constant(),
+    ) {
+        (Some(call), Some(constant)) => {
+            on_constant(asked, call, constant, inputs, answer);
+            true
+        }
+        _ => false,
     }
 }

@@ -2,13 +2,15 @@
 
 ghost use Rattle.std.specs.Prelude.{◌≡◌, length};
 
-use super::bit_calls;
+use super::came;
 use super::inputs::Inputs;
-use super::outcome::{Came, Outcome};
+use crate::asked::Asked;
+use crate::columns::Made;
+use crate::names::named;
 use crate::packing::width_of;
+use crate::text::Text;
+use bytes::Bytes;
 use fl_array::bitpacking::BitPackedArray;
-use fl_array::for_::FoRArray;
-use fl_array::rle::RLEArray;
 use fl_column::PrimitiveArray;
 use fl_types::match_each_integer_ptype;
 use std::alloc::Global;
@@ -22,33 +24,25 @@ use vortex_fastlanes::{
     RLEData, delta_compress,
 };
 
-fn bitpacked(made: Result<BitPackedArray, FastLanesError>) -> Came {
-    Ok(Outcome::Array(made?.into_array()))
-}
-
-fn less_references(made: Result<FoRArray, FastLanesError>) -> Came {
-    Ok(Outcome::Array(made?.into_array()))
-}
-
-fn runs(made: Result<RLEArray, FastLanesError>) -> Came {
-    Ok(Outcome::Array(made?.into_array()))
-}
-
-fn deltas(alloc: Global, column: &PrimitiveArray) -> Came {
-    let (bases, deltas) = delta_compress(alloc, column)?;
-    Ok(Outcome::Columns(bases, deltas))
+/// Ends a call of an encoder, and adds the array that it gave.
+fn encoded<T: IntoArray>(answer: &mut Text, given: Result<T, FastLanesError>) {
+    let given = match given {
+        Ok(array) => Ok(array.into_array()),
+        Err(refusal) => Err(refusal),
+    };
+    came(answer, given);
 }
 
 /// The packed bytes.
-fn pack(alloc: Global, column: &PrimitiveArray, width: u8) -> Came {
+fn pack(alloc: Global, column: &PrimitiveArray, width: u8) -> Result<Bytes, FastLanesError> {
     if usize::from(width) > column.ptype().bit_width() {
         return Err(FastLanesError::WidthTooLarge);
     }
-    Ok(Outcome::Bytes(bitpack_unchecked(alloc, column, width)?))
+    bitpack_unchecked(alloc, column, width)
 }
 
 /// The sum of the bytes that items are packed into, at most those of 49 blocks at width 1.
-fn pack_into(column: &PrimitiveArray, width: u8) -> Came {
+fn pack_into(column: &PrimitiveArray, width: u8) -> Result<usize, FastLanesError> {
     let len = column.len();
     if usize::from(width) > column.ptype().bit_width() || len >= 1 << 32 {
         return Err(FastLanesError::WidthTooLarge);
@@ -63,91 +57,111 @@ fn pack_into(column: &PrimitiveArray, width: u8) -> Came {
     for i in 0..6272usize {
         sum = sum.saturating_add(usize::from(room[i]));
     }
-    Ok(Outcome::Number(sum))
+    Ok(sum)
 }
 
 /// The packed words.
-fn pack_words<T: PhysicalPType>(alloc: Global, column: &PrimitiveArray, width: u8) -> Came
+fn pack_words<T: PhysicalPType>(alloc: Global, column: &PrimitiveArray, width: u8) -> Made
     requires { column.now.ptype ≡ T.PTYPE }
 {
     if usize::from(width) > T::PTYPE.bit_width() {
         return Err(FastLanesError::WidthTooLarge);
     }
     let words = bitpack_primitive::<T>(alloc, column.as_slice::<T>(), width)?;
-    Ok(Outcome::Column(PrimitiveArray::non_nullable(words)))
+    Ok(PrimitiveArray::non_nullable(words))
 }
 
-/// Makes a call that packs integers, at widths of another column where there is one.
-fn on_bits(
-    alloc: Global,
-    name: &str,
-    words: &[&str],
-    column: &PrimitiveArray,
+/// The packed words, by the column's type.
+fn pack_primitive(alloc: Global, column: &PrimitiveArray, width: u8) -> Made {
+    match_each_integer_ptype!(column.ptype(), pack_words(alloc, column, width))
+}
+
+/// Packs at the widths that another column has: by the column, or by the data of its array.
+fn at_widths(
+    asked: Asked,
     inputs: &Inputs,
-) -> Came {
-    match (name, words) {
-        ("pack", [width]) => pack(alloc, column, width_of(width)),
-        ("pack_into", [width]) => pack_into(column, width_of(width)),
-        ("pack_primitive", [width]) => {
-            match_each_integer_ptype!(column.ptype(), pack_words(alloc, column, width_of(width)))
-        }
-        ("encode", [width]) => bitpacked(bitpack_encode(alloc, column, width_of(width), None)),
-        ("encode_best", []) => bitpacked(bitpack_to_best_bit_width(alloc, column)),
-        ("encode_bests", []) => bitpacked(bitpack_blocked_to_best_bit_widths(alloc, column)),
-        ("encode_array", [width]) => {
-            bitpacked(BitPacked::encode(alloc, &inputs.array, width_of(width)))
-        }
-        ("encode_data", [width]) => {
-            bitpacked(BitPackedData::encode(alloc, &inputs.array, width_of(width)))
-        }
-        _ => bit_calls::call(alloc, name, words, inputs),
-    }
-}
-
-/// Packs at the widths that another column has.
-fn at_widths(alloc: Global, name: &str, inputs: &Inputs) -> Came {
-    let [column, widths, ..] = inputs.columns.as_slice() else {
-        return Err(FastLanesError::ChildCount);
-    };
+    by_data: bool,
+) -> Result<BitPackedArray, FastLanesError> {
+    let widths = asked.column(1);
     if widths.ptype() != PType::U8 {
         return Err(FastLanesError::TypeMismatch);
     }
     let widths = widths.as_slice::<u8>();
-    if name == "encode_blocked" {
-        bitpacked(bitpack_encode_blocked(alloc, column, widths, None))
+    if by_data {
+        BitPackedData::encode_blocked(asked.alloc, &inputs.array, widths)
     } else {
-        bitpacked(BitPackedData::encode_blocked(alloc, &inputs.array, widths))
+        bitpack_encode_blocked(asked.alloc, asked.column(0), widths, None)
     }
 }
 
-/// Makes a call of an encoder.
-fn on_column(
-    alloc: Global,
-    name: &str,
-    words: &[&str],
-    column: &PrimitiveArray,
-    inputs: &Inputs,
-) -> Came {
-    match name {
-        "encode_for" => less_references(FoR::encode(alloc, column)),
-        "encode_for_chunked" => less_references(FoR::encode_chunked(alloc, column)),
-        "encode_for_data" => less_references(FoRData::encode(alloc, column)),
-        "encode_for_data_chunked" => less_references(FoRData::encode_chunked(alloc, column)),
-        "encode_delta" => {
-            let array = Delta::try_from_primitive_array(alloc, column)?;
-            Ok(Outcome::Array(array.into_array()))
-        }
-        "delta_compress" => deltas(alloc, column),
-        "encode_rle" => runs(RLE::encode(alloc, column)),
-        "encode_rle_data" => runs(RLEData::encode(alloc, column)),
-        "encode_blocked" | "encode_blocked_data" => at_widths(alloc, name, inputs),
-        _ => on_bits(alloc, name, words, column, inputs),
-    }
+#[derive(Clone, Copy)]
+enum Call {
+    For,
+    ForChunked,
+    ForData,
+    ForDataChunked,
+    Delta,
+    DeltaParts,
+    Rle,
+    RleData,
+    Blocked,
+    BlockedData,
+    Pack,
+    PackInto,
+    PackPrimitive,
+    Encode,
+    EncodeBest,
+    EncodeBests,
+    EncodeArray,
+    EncodeData,
 }
 
-pub(super) fn call(alloc: Global, name: &str, words: &[&str], inputs: &Inputs) -> Came {
-    match inputs.columns.as_slice() {
-        [column, ..] => on_column(alloc, name, words, column, inputs),
-        [] => Ok(Outcome::NoSuchCall),
+const CALLS: &[(&str, Call)] = &[
+    ("encode_for", Call::For),
+    ("encode_for_chunked", Call::ForChunked),
+    ("encode_for_data", Call::ForData),
+    ("encode_for_data_chunked", Call::ForDataChunked),
+    ("encode_delta", Call::Delta),
+    ("delta_compress", Call::DeltaParts),
+    ("encode_rle", Call::Rle),
+    ("encode_rle_data", Call::RleData),
+    ("encode_blocked", Call::Blocked),
+    ("encode_blocked_data", Call::BlockedData),
+    ("pack", Call::Pack),
+    ("pack_into", Call::PackInto),
+    ("pack_primitive", Call::PackPrimitive),
+    ("encode", Call::Encode),
+    ("encode_best", Call::EncodeBest),
+    ("encode_bests", Call::EncodeBests),
+    ("encode_array", Call::EncodeArray),
+    ("encode_data", Call::EncodeData),
+];
+
+pub(super) fn make(asked: Asked, inputs: &Inputs, answer: &mut Text) -> bool {
+    let Some(call) = named(CALLS, asked.word(0)) else {
+        return false;
+    };
+    let (alloc, column, array) = (asked.alloc, asked.column(0), &inputs.array);
+    let width = width_of(asked.word(1));
+    match call {
+        Call::For => encoded(answer, FoR::encode(alloc, column)),
+        Call::ForChunked => encoded(answer, FoR::encode_chunked(alloc, column)),
+        Call::ForData => encoded(answer, FoRData::encode(alloc, column)),
+        Call::ForDataChunked => encoded(answer, FoRData::encode_chunked(alloc, column)),
+        Call::Delta => encoded(answer, Delta::try_from_primitive_array(alloc, column)),
+        Call::DeltaParts => came(answer, delta_compress(alloc, column)),
+        Call::Rle => encoded(answer, RLE::encode(alloc, column)),
+        Call::RleData => encoded(answer, RLEData::encode(alloc, column)),
+        Call::Blocked => encoded(answer, at_widths(asked, inputs, false)),
+        Call::BlockedData => encoded(answer, at_widths(asked, inputs, true)),
+        Call::Pack => came(answer, pack(alloc, column, width)),
+        Call::PackInto => came(answer, pack_into(column, width)),
+        Call::PackPrimitive => came(answer, pack_primitive(alloc, column, width)),
+        Call::Encode => encoded(answer, bitpack_encode(alloc, column, width, None)),
+        Call::EncodeBest => encoded(answer, bitpack_to_best_bit_width(alloc, column)),
+        Call::EncodeBests => encoded(answer, bitpack_blocked_to_best_bit_widths(alloc, column)),
+        Call::EncodeArray => encoded(answer, BitPacked::encode(alloc, array, width)),
+        Call::EncodeData => encoded(answer, BitPackedData::encode(alloc, array, width)),
     }
+    true
 }

@@ -1,80 +1,21 @@
 //! Calls of the program's engine, over ends in memory.
 
-ghost use Rattle.std.specs.Prelude.{◌≡◌, Some, false};
+ghost use Rattle.std.specs.Prelude.{◌≡◌, false};
 
 use super::mark;
 use crate::arrays::building;
-use crate::packing;
+use crate::asked::Asked;
+use crate::program::{Input, Output, lines, words_of};
+use crate::shown;
 use crate::text::Text;
 use fl_column::PrimitiveArray;
 use flcol_container::write_container;
 use flcol_engine::commands::Command;
 use flcol_engine::fault::Fault;
-use flcol_engine::io::{ReadFault, Sink, Source, WriteFault};
 use flcol_engine::{args, engine};
 use std::alloc::Global;
 use vortex_fastlanes::FastLanesError;
 use vortex_fastlanes::plugin::serialize;
-
-/// A source in memory.
-#[derive(Drop)]
-struct Input<'a> {
-    bytes: &'a [u8],
-}
-
-impl Source for Input<'_> {
-    ghost left = { λ s. Some s.bytes.now };
-
-    ghost has_failed = { λ _. false };
-
-    fn read(&mut self, buf: &mut [u8]) -> Result<usize, ReadFault> {
-        let n = self.bytes.len().min(buf.len());
-        let (front, rest) = self.bytes.split_at(n);
-        buf[..n].copy_from_slice(front);
-        self.bytes = rest;
-        Ok(n)
-    }
-}
-
-/// A sink in memory, with room for small outputs.
-#[derive(Drop)]
-struct Output {
-    bytes: Vec<u8>,
-    failed: bool,
-    flushed: bool,
-}
-
-impl Output {
-    fn new(alloc: Global) -> Result<Output, FastLanesError> {
-        Ok(Output {
-            bytes: Vec::with_capacity(alloc, 1 << 15)?,
-            failed: false,
-            flushed: true,
-        })
-    }
-}
-
-impl Sink for Output {
-    ghost written = { λ s. Some s.bytes.items };
-
-    ghost has_failed = { λ s. s.failed };
-
-    ghost is_flushed = { λ s. s.flushed };
-
-    fn write(&mut self, buf: &[u8]) -> Result<usize, WriteFault> {
-        self.flushed = false;
-        if self.bytes.extend_from_slice(buf).is_err() {
-            self.failed = true;
-            return Err(WriteFault);
-        }
-        Ok(buf.len())
-    }
-
-    fn flush(&mut self) -> Result<(), WriteFault> {
-        self.flushed = true;
-        Ok(())
-    }
-}
 
 /// A command and what it reads.
 #[derive(Drop)]
@@ -82,21 +23,6 @@ struct Run {
     command: Command,
     input: Vec<u8>,
     output: Output,
-}
-
-/// A column as lines of text.
-fn lines(alloc: Global, column: &PrimitiveArray) -> Result<Vec<u8>, FastLanesError> {
-    let mut text = String::new(alloc);
-    for i in 0..column.len() {
-        match column.get(i) {
-            Some(value) => {
-                let integer = value.as_i128();
-                write!(text, "{integer}\n").map_err(|_| FastLanesError::OutOfMemory)?;
-            }
-            None => text.push_str("null\n")?,
-        }
-    }
-    Ok(text.into_bytes())
 }
 
 /// The container of an array of a kind.
@@ -108,15 +34,6 @@ fn container(
     let array = building::array(alloc, kind, column)?;
     let node = serialize(alloc, &array)?;
     write_container(alloc, &node).map_err(|_| FastLanesError::OutOfMemory)
-}
-
-/// The words of a line as the program gets them.
-fn words_of(alloc: Global, line: &[&str]) -> Result<Vec<String>, FastLanesError> {
-    let mut words = Vec::new(alloc);
-    for word in line {
-        words.push(String::from_str(alloc, word)?)?;
-    }
-    Ok(words)
 }
 
 /// The command that words name.
@@ -174,7 +91,7 @@ fn refused(fault: Fault, written: &[u8], answer: &mut Text) {
     }
     if !written.is_empty() {
         answer.word("but written");
-        packing::show(answer, written);
+        shown::bytes(answer, written);
     }
 }
 
@@ -188,12 +105,12 @@ fn answer_run(alloc: Global, made: Run, answer: &mut Text) {
     if output.failed {
         return;
     }
-    let mut source = Input { bytes: &input };
+    let mut source = Input::new(&input);
     mark(alloc);
     let came = call(alloc, &command, &mut source, &mut output);
     mark(alloc);
     match came {
-        Ok(()) => packing::show(answer, &output.bytes),
+        Ok(()) => shown::bytes(answer, &output.bytes),
         Err(fault) => refused(fault, &output.bytes, answer),
     }
 }
@@ -223,18 +140,9 @@ pub(super) fn ask_words(alloc: Global, line: &[&str], answer: &mut Text) {
 
 /// Answers what the engine writes for the program's words: of a column's lines, or of its container as an array of a
 /// kind.
-pub(super) fn ask(
-    alloc: Global,
-    kind: &str,
-    line: &[&str],
-    columns: &[PrimitiveArray],
-    answer: &mut Text,
-) {
-    let [column, ..] = columns else {
-        return;
-    };
-    match set_up(alloc, kind, line, column) {
-        Ok(made) => answer_run(alloc, made, answer),
+pub(super) fn ask(asked: Asked, kind: &str, answer: &mut Text) {
+    match set_up(asked.alloc, kind, asked.words_from(1), asked.column(0)) {
+        Ok(made) => answer_run(asked.alloc, made, answer),
         Err(refusal) => {
             answer.word("set-up");
             answer.refusal(refusal);

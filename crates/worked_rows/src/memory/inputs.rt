@@ -1,6 +1,9 @@
 //! What calls borrow and take.
 
 use crate::arrays::{building, operations, parts};
+use crate::asked::Asked;
+use crate::names::named;
+use crate::shown::{Show, made};
 use crate::text::Text;
 use crate::{bits, plain, shown, widths};
 use bytes::Bytes;
@@ -33,15 +36,11 @@ pub(super) struct Inputs {
 }
 
 /// The operations that words name, where the call takes operations.
-fn ops_of(
-    alloc: Global,
-    words: (&str, &[&str]),
-    columns: &[PrimitiveArray],
-) -> Result<Vec<Op>, FastLanesError> {
-    if words.0.ends_with("op") {
-        operations::read_all(alloc, words.1, columns)
+fn ops_of(asked: Asked) -> Result<Vec<Op>, FastLanesError> {
+    if asked.word(0).ends_with("op") {
+        operations::read_all(asked.alloc, asked.words_from(1), asked.columns_from(1))
     } else {
-        Ok(Vec::new(alloc))
+        Ok(Vec::new(asked.alloc))
     }
 }
 
@@ -78,22 +77,15 @@ fn container_of_array(alloc: Global, array: &ArrayRef) -> Result<Bytes, FastLane
 }
 
 impl Inputs {
-    pub(super) fn make(
-        alloc: Global,
-        kind: &str,
-        words: (&str, &[&str]),
-        columns: &[PrimitiveArray],
-    ) -> Result<Inputs, FastLanesError> {
-        let [first, others @ ..] = columns else {
-            return Err(FastLanesError::ChildCount);
-        };
+    pub(super) fn make(asked: Asked, kind: &str) -> Result<Inputs, FastLanesError> {
+        let (alloc, first) = (asked.alloc, asked.column(0));
         let array = building::array(alloc, kind, first)?;
         let node = serialize(alloc, &array)?;
         let container = container_of(alloc, &node)?;
         Ok(Inputs {
             array,
-            columns: copies(alloc, columns)?,
-            ops: ops_of(alloc, words, others)?,
+            columns: copies(alloc, asked.columns)?,
+            ops: ops_of(asked)?,
             items: plain::typed_items::<u16>(alloc, first)?,
             numbers: numbers_of(alloc, first)?,
             node,
@@ -133,12 +125,14 @@ impl Inputs {
     }
 }
 
-/// Adds the kind of an array, and its column, decoded.
-pub(super) fn array(alloc: Global, array: &ArrayRef, answer: &mut Text) {
-    parts::kind(array, answer);
-    match array.as_bool() {
-        Some(bools) => shown::bools(answer, bools),
-        None => shown::made(answer, array.to_primitive(alloc)),
+/// The kind of an array, and its column, decoded.
+impl Show for ArrayRef {
+    fn show(&self, answer: &mut Text) {
+        parts::kind(self, answer);
+        match self.as_bool() {
+            Some(bools) => shown::bools(answer, bools),
+            None => made(answer, self.to_primitive(answer.alloc())),
+        }
     }
 }
 
@@ -225,31 +219,55 @@ fn integers_of(alloc: Global, column: &PrimitiveArray) -> Result<Vec<u16>, FastL
     Ok(Vec::from_slice(alloc, column.as_slice::<u16>())?)
 }
 
+/// How a call that takes its inputs has them.
+#[derive(Clone, Copy)]
+enum Taking {
+    Arrays,
+    Packed,
+    Integers,
+    Bits,
+    Columns,
+}
+
+const TAKINGS: &[(&str, Taking)] = &[
+    ("new_for", Taking::Arrays),
+    ("new_for_chunked", Taking::Arrays),
+    ("new_delta", Taking::Arrays),
+    ("new_rle", Taking::Arrays),
+    ("new_packed", Taking::Packed),
+    ("new_column", Taking::Integers),
+    ("new_bools", Taking::Bits),
+    ("new_type", Taking::Columns),
+    ("new_array", Taking::Columns),
+    ("new_unpatched", Taking::Columns),
+    ("new_patches", Taking::Columns),
+];
+
+/// The integers of a column of `u16`, and its validity.
+fn integers_in(alloc: Global, column: &PrimitiveArray) -> Result<Owned, FastLanesError> {
+    let validity = column.validity().try_clone(alloc)?;
+    Ok(Owned::Integers(integers_of(alloc, column)?, validity))
+}
+
+/// A bit for each item of a column, and its validity.
+fn bits_in(alloc: Global, column: &PrimitiveArray) -> Result<Owned, FastLanesError> {
+    let validity = column.validity().try_clone(alloc)?;
+    Ok(Owned::Bits(bits::ones(alloc, column)?, validity))
+}
+
 impl Owned {
-    pub(super) fn make(
-        alloc: Global,
-        kind: &str,
-        words: (&str, &[&str]),
-        columns: &[PrimitiveArray],
-    ) -> Result<Owned, FastLanesError> {
-        let [column, ..] = columns else {
-            return Err(FastLanesError::ChildCount);
-        };
-        match words.0 {
-            "new_for" | "new_for_chunked" | "new_delta" | "new_rle" => {
-                Ok(Owned::Arrays(arrays_of(alloc, words.1, columns)?))
+    pub(super) fn make(asked: Asked, kind: &str) -> Result<Owned, FastLanesError> {
+        let (alloc, column) = (asked.alloc, asked.column(0));
+        match named(TAKINGS, asked.word(0)) {
+            Some(Taking::Arrays) => {
+                let arrays = arrays_of(alloc, asked.words_from(1), asked.columns)?;
+                Ok(Owned::Arrays(arrays))
             }
-            "new_packed" => Ok(Owned::Packed(packed_of(alloc, kind, column)?)),
-            "new_column" => {
-                let validity = column.validity().try_clone(alloc)?;
-                Ok(Owned::Integers(integers_of(alloc, column)?, validity))
-            }
-            "new_bools" => {
-                let validity = column.validity().try_clone(alloc)?;
-                Ok(Owned::Bits(bits::ones(alloc, column)?, validity))
-            }
-            name if name.starts_with("new_") => Ok(Owned::Columns(columns_of(alloc, columns)?)),
-            _ => Ok(Owned::Nothing),
+            Some(Taking::Packed) => Ok(Owned::Packed(packed_of(alloc, kind, column)?)),
+            Some(Taking::Integers) => integers_in(alloc, column),
+            Some(Taking::Bits) => bits_in(alloc, column),
+            Some(Taking::Columns) => Ok(Owned::Columns(columns_of(alloc, asked.columns)?)),
+            None => Ok(Owned::Nothing),
         }
     }
 }

@@ -1,28 +1,44 @@
 //! Calls on serialized arrays, their messages and their containers.
 
+use super::came;
 use super::inputs::Inputs;
-use super::outcome::{Came, Outcome};
+use crate::asked::Asked;
+use crate::names::named;
 use crate::nodes;
+use crate::shown::{Show, made};
+use crate::text::Text;
+use bytes::Bytes;
 use fl_metadata::{BitPackedBlockedMetadata, FoRChunkedMetadata, PatchesMetadata};
 use flcol_container::{ContainerError, read_container, write_container};
 use std::alloc::Global;
-use vortex_fastlanes::array::ArrayRef;
 use vortex_fastlanes::plugin::{
     BitPackedMetadata, DeltaMetadata, RLEMetadata, SerializedArray, deserialize, round_trip,
-    serialize,
 };
-use vortex_fastlanes::{FastLanesError, PType, PrimitiveArray};
+use vortex_fastlanes::{FastLanesError, PType};
 
-fn node(made: Result<SerializedArray, FastLanesError>) -> Came {
-    Ok(Outcome::Node(made?))
+/// The array that a node is read as.
+impl Show for SerializedArray {
+    fn show(&self, answer: &mut Text) {
+        made(answer, deserialize(answer.alloc(), self));
+    }
 }
 
-fn array(made: Result<ArrayRef, FastLanesError>) -> Came {
-    Ok(Outcome::Array(made?))
+/// The bytes of a container.
+#[derive(Drop)]
+struct Container {
+    bytes: Vec<u8>,
 }
 
-fn bytes(made: Result<Vec<u8>, FastLanesError>) -> Came {
-    Ok(Outcome::ByteList(made?))
+/// The node that a container holds.
+fn node_in(alloc: Global, container: &Container) -> Result<SerializedArray, FastLanesError> {
+    let bytes = Bytes::from_vec(Vec::from_slice(alloc, &container.bytes)?)?;
+    read(alloc, &bytes)
+}
+
+impl Show for Container {
+    fn show(&self, answer: &mut Text) {
+        made(answer, node_in(answer.alloc(), self));
+    }
 }
 
 /// The refusal of a container that is sound: no memory.
@@ -33,53 +49,123 @@ fn refused(refusal: ContainerError) -> FastLanesError {
     }
 }
 
-/// Writes the node's container, or reads it.
-fn on_container(alloc: Global, name: &str, inputs: &Inputs) -> Came {
-    if name == "write_container" {
-        match write_container(alloc, &inputs.node) {
-            Ok(bytes) => Ok(Outcome::Container(bytes)),
-            Err(refusal) => Err(refused(refusal)),
-        }
-    } else {
-        match read_container(alloc, &inputs.container) {
-            Ok(read) => Ok(Outcome::Node(read)),
-            Err(refusal) => Err(refused(refusal)),
-        }
+fn read(alloc: Global, bytes: &Bytes) -> Result<SerializedArray, FastLanesError> {
+    match read_container(alloc, bytes) {
+        Ok(node) => Ok(node),
+        Err(refusal) => Err(refused(refusal)),
     }
 }
 
-/// Writes the message that bytes say.
-fn on_message(alloc: Global, name: &str, text: &[u8]) -> Came {
-    match name {
-        "bitpacked_message" => bytes(BitPackedMetadata::decode(text)?.encode(alloc)),
-        "blocked_message" => bytes(BitPackedBlockedMetadata::decode(text)?.encode(alloc)),
-        "patches_message" => bytes(PatchesMetadata::decode(text)?.encode(alloc)),
-        "for_message" => bytes(FoRChunkedMetadata::decode(text)?.encode(alloc)),
-        "delta_message" => bytes(DeltaMetadata::decode(text)?.encode(alloc)),
-        "rle_message" => bytes(RLEMetadata::decode(text)?.encode(alloc)),
-        _ => Ok(Outcome::NoSuchCall),
+fn write(alloc: Global, node: &SerializedArray) -> Result<Container, FastLanesError> {
+    match write_container(alloc, node) {
+        Ok(bytes) => Ok(Container { bytes }),
+        Err(refusal) => Err(refused(refusal)),
     }
 }
 
-/// Writes the message that the first column's bytes say.
-fn on_bytes(alloc: Global, name: &str, columns: &[PrimitiveArray]) -> Came {
-    match columns {
-        [text, ..] if text.ptype() == PType::U8 => {
-            on_message(alloc, name, text.as_slice::<u8>())
-        }
-        _ => Ok(Outcome::NoSuchCall),
+/// What writes a message.
+type Written = Result<Vec<u8>, FastLanesError>;
+
+fn bitpacked(alloc: Global, text: &[u8]) -> Written {
+    BitPackedMetadata::decode(text)?.encode(alloc)
+}
+
+fn blocked(alloc: Global, text: &[u8]) -> Written {
+    BitPackedBlockedMetadata::decode(text)?.encode(alloc)
+}
+
+fn patches(alloc: Global, text: &[u8]) -> Written {
+    PatchesMetadata::decode(text)?.encode(alloc)
+}
+
+fn for_chunked(alloc: Global, text: &[u8]) -> Written {
+    FoRChunkedMetadata::decode(text)?.encode(alloc)
+}
+
+fn delta(alloc: Global, text: &[u8]) -> Written {
+    DeltaMetadata::decode(text)?.encode(alloc)
+}
+
+fn rle(alloc: Global, text: &[u8]) -> Written {
+    RLEMetadata::decode(text)?.encode(alloc)
+}
+
+/// A call that writes the message that the first column's bytes say.
+#[derive(Clone, Copy)]
+enum Message {
+    BitPacked,
+    Blocked,
+    Patches,
+    ForChunked,
+    Delta,
+    Rle,
+}
+
+const MESSAGES: &[(&str, Message)] = &[
+    ("bitpacked_message", Message::BitPacked),
+    ("blocked_message", Message::Blocked),
+    ("patches_message", Message::Patches),
+    ("for_message", Message::ForChunked),
+    ("delta_message", Message::Delta),
+    ("rle_message", Message::Rle),
+];
+
+fn on_message(asked: Asked, message: Message) -> Written {
+    let column = asked.column(0);
+    if column.ptype() != PType::U8 {
+        return Err(FastLanesError::TypeMismatch);
+    }
+    let (alloc, text) = (asked.alloc, column.as_slice::<u8>());
+    match message {
+        Message::BitPacked => bitpacked(alloc, text),
+        Message::Blocked => blocked(alloc, text),
+        Message::Patches => patches(alloc, text),
+        Message::ForChunked => for_chunked(alloc, text),
+        Message::Delta => delta(alloc, text),
+        Message::Rle => rle(alloc, text),
     }
 }
 
-pub(super) fn call(alloc: Global, name: &str, words: &[&str], inputs: &Inputs) -> Came {
-    match (name, words) {
-        ("serialize", []) => node(serialize(alloc, &inputs.array)),
-        ("serialize", [kind]) => node(nodes::written_by(alloc, kind, &inputs.array)),
-        ("deserialize", []) => array(deserialize(alloc, &inputs.node)),
-        ("deserialize", [kind]) => array(nodes::read_by(alloc, kind, &inputs.node)),
-        ("round_trip", []) => array(round_trip(alloc, &inputs.array)),
-        ("node_copy", []) => node(inputs.node.try_clone(alloc)),
-        ("write_container" | "read_container", []) => on_container(alloc, name, inputs),
-        _ => on_bytes(alloc, name, &inputs.columns),
+#[derive(Clone, Copy)]
+enum Call {
+    Serialize,
+    Deserialize,
+    RoundTrip,
+    NodeCopy,
+    WriteContainer,
+    ReadContainer,
+}
+
+const CALLS: &[(&str, Call)] = &[
+    ("serialize", Call::Serialize),
+    ("deserialize", Call::Deserialize),
+    ("round_trip", Call::RoundTrip),
+    ("node_copy", Call::NodeCopy),
+    ("write_container", Call::WriteContainer),
+    ("read_container", Call::ReadContainer),
+];
+
+/// Makes a call on the array, its node or its container.
+fn on_node(asked: Asked, call: Call, inputs: &Inputs, answer: &mut Text) {
+    let (alloc, kind) = (asked.alloc, asked.word(1));
+    match call {
+        Call::Serialize => came(answer, nodes::written(alloc, kind, &inputs.array)),
+        Call::Deserialize => came(answer, nodes::read(alloc, kind, &inputs.node)),
+        Call::RoundTrip => came(answer, round_trip(alloc, &inputs.array)),
+        Call::NodeCopy => came(answer, inputs.node.try_clone(alloc)),
+        Call::WriteContainer => came(answer, write(alloc, &inputs.node)),
+        Call::ReadContainer => came(answer, read(alloc, &inputs.container)),
     }
+}
+
+pub(super) fn make(asked: Asked, inputs: &Inputs, answer: &mut Text) -> bool {
+    if let Some(message) = named(MESSAGES, asked.word(0)) {
+        came(answer, on_message(asked, message));
+        return true;
+    }
+    match named(CALLS, asked.word(0)) {
+        Some(call) => on_node(asked, call, inputs, answer),
+        None => return false,
+    }
+    true
 }

@@ -1,21 +1,23 @@
 //! Calls that take their inputs: constructors, and what changes a column's type.
 
+use super::came;
 use super::inputs::Owned;
-use super::outcome::{Came, Outcome};
 use crate::arrays::making::{self, Packed};
-use crate::columns::count;
+use crate::asked::Asked;
+use crate::columns::Made;
 use crate::packing::width_of;
+use crate::text::Text;
 use crate::widths;
 use std::alloc::Global;
 use vortex_fastlanes::array::{ArrayRef, IntoArray};
 use vortex_fastlanes::bitpack_compress::{bit_width_histogram, bitpack_encode_unchecked};
 use vortex_fastlanes::{
     BitPacked, BitPackedArray, BitWidths, BoolArray, FastLanesError, PType, Patches,
-    PrimitiveArray, Scalar, Validity,
+    PrimitiveArray, Validity,
 };
 
 /// The array of the parts of a bit-packed one: over the boundaries, where it has any.
-fn packed_again(alloc: Global, array: BitPackedArray) -> Came {
+fn packed_again(alloc: Global, array: BitPackedArray) -> Result<ArrayRef, FastLanesError> {
     let ptype = array.packed_data().ptype();
     let parts = BitPacked::into_parts(array);
     let packed = Packed {
@@ -26,97 +28,111 @@ fn packed_again(alloc: Global, array: BitPackedArray) -> Came {
         offset: parts.offset,
         len: parts.len,
     };
-    let made = match parts.bit_widths {
-        BitWidths::Global(width) => making::bitpacked(packed, width)?,
-        BitWidths::Blocked(boundaries) => making::blocked(alloc, packed, boundaries)?,
-    };
-    Ok(Outcome::Array(made))
+    match parts.bit_widths {
+        BitWidths::Global(width) => making::bitpacked(packed, width),
+        BitWidths::Blocked(boundaries) => making::blocked(alloc, packed, boundaries),
+    }
 }
 
 /// A column in a type of the same width.
-fn reread(alloc: Global, column: PrimitiveArray) -> Came {
+fn reread(alloc: Global, column: PrimitiveArray) -> Made {
     if column.ptype().bit_width() != 16 {
         return Err(FastLanesError::TypeMismatch);
     }
-    Ok(Outcome::Column(column.reinterpret_cast(alloc, PType::I16)?))
+    column.reinterpret_cast(alloc, PType::I16)
 }
 
-/// The first item of an array, which is the reference of another one.
-fn reference_in(alloc: Global, array: &ArrayRef) -> Result<Scalar, FastLanesError> {
-    if array.len() == 0 {
+/// An array less the first item of another one.
+fn less_first(
+    alloc: Global,
+    encoded: ArrayRef,
+    reference: &ArrayRef,
+) -> Result<ArrayRef, FastLanesError> {
+    if reference.len() == 0 {
         return Err(FastLanesError::ReferenceCount);
     }
-    array.scalar_at(alloc, 0)
-}
-
-fn made(array: Result<ArrayRef, FastLanesError>) -> Came {
-    Ok(Outcome::Array(array?))
+    let reference = reference.scalar_at(alloc, 0)?;
+    making::global_for(alloc, encoded, reference)
 }
 
 /// Packs a column at a width that leaves nothing out, which the histogram is made for first.
-fn packed_unpatched(alloc: Global, column: PrimitiveArray, width: u8) -> Came {
+fn packed_unpatched(
+    alloc: Global,
+    column: PrimitiveArray,
+    width: u8,
+) -> Result<ArrayRef, FastLanesError> {
     let histogram = bit_width_histogram(alloc, &column)?;
     if usize::from(width) > column.ptype().bit_width() {
         return Err(FastLanesError::WidthTooLarge);
     }
     match widths::sum_above(width, &histogram) {
-        Some(0) => {
-            let packed = bitpack_encode_unchecked(alloc, column, width)?;
-            Ok(Outcome::Array(packed.into_array()))
-        }
+        Some(0) => Ok(bitpack_encode_unchecked(alloc, column, width)?.into_array()),
         _ => Err(FastLanesError::WidthTooLarge),
     }
 }
 
-/// Makes something of columns.
-fn of_columns(alloc: Global, name: &str, words: &[&str], columns: Vec<PrimitiveArray>) -> Came {
+/// Makes something of a column.
+fn of_column(asked: Asked, column: PrimitiveArray, answer: &mut Text) {
+    let alloc = asked.alloc;
+    match asked.word(0) {
+        "new_type" => came(answer, reread(alloc, column)),
+        "new_array" => came::<ArrayRef>(answer, Ok(column.into_array())),
+        _ => {
+            let width = width_of(asked.word(1));
+            came(answer, packed_unpatched(alloc, column, width));
+        }
+    }
+}
+
+/// Makes something of columns, the first one last.
+fn of_columns(asked: Asked, columns: Vec<PrimitiveArray>, answer: &mut Text) {
     let mut columns = columns;
-    match (name, words, columns.pop(), columns.pop(), columns.pop()) {
-        ("new_type", _, Some(column), _, _) => reread(alloc, column),
-        ("new_array", _, Some(column), _, _) => Ok(Outcome::Array(column.into_array())),
-        ("new_unpatched", [width], Some(column), _, _) => {
-            packed_unpatched(alloc, column, width_of(width))
+    match (columns.pop(), columns.pop()) {
+        (Some(indices), Some(values)) => {
+            let (len, offset) = (asked.count(1), asked.count(2));
+            let made = Patches::new(len, offset, indices, values, columns.pop());
+            came(answer, made.map(Some));
         }
-        ("new_patches", [len, offset], Some(indices), Some(values), chunk_offsets) => {
-            let made = Patches::new(count(len), count(offset), indices, values, chunk_offsets)?;
-            Ok(Outcome::Patches(Some(made)))
-        }
-        _ => Ok(Outcome::NoSuchCall),
+        (Some(column), None) => of_column(asked, column, answer),
+        _ => answer.word("no such call"),
     }
 }
 
-/// Makes an array of arrays.
-fn of_arrays(alloc: Global, name: &str, arrays: Vec<ArrayRef>) -> Came {
+/// Makes an array of two.
+fn of_two(asked: Asked, first: ArrayRef, second: ArrayRef) -> Result<ArrayRef, FastLanesError> {
+    let alloc = asked.alloc;
+    match asked.word(0) {
+        "new_for" => less_first(alloc, first, &second),
+        "new_for_chunked" => making::chunked_for(alloc, first, second, 0),
+        _ => {
+            let len = second.len();
+            making::delta(alloc, first, second, Validity::NonNullable, 0, len)
+        }
+    }
+}
+
+/// Makes an array of arrays, the first one last.
+fn of_arrays(asked: Asked, arrays: Vec<ArrayRef>) -> Result<ArrayRef, FastLanesError> {
     let mut arrays = arrays;
-    match (name, arrays.pop(), arrays.pop(), arrays.pop()) {
-        ("new_for", Some(encoded), Some(reference), _) => {
-            let reference = reference_in(alloc, &reference)?;
-            made(making::global_for(alloc, encoded, reference))
-        }
-        ("new_for_chunked", Some(encoded), Some(references), _) => {
-            made(making::chunked_for(alloc, encoded, references, 0))
-        }
-        ("new_delta", Some(bases), Some(deltas), _) => {
-            let len = deltas.len();
-            made(making::delta(alloc, bases, deltas, Validity::NonNullable, 0, len))
-        }
-        ("new_rle", Some(values), Some(indices), Some(offsets)) => {
+    match (arrays.pop(), arrays.pop(), arrays.pop()) {
+        (Some(values), Some(indices), Some(offsets)) => {
             let len = indices.len();
-            made(making::rle(alloc, values, indices, offsets, 0, len))
+            making::rle(asked.alloc, values, indices, offsets, 0, len)
         }
-        _ => Ok(Outcome::NoSuchCall),
+        (Some(first), Some(second), None) => of_two(asked, first, second),
+        _ => Err(FastLanesError::ChildCount),
     }
 }
 
-pub(super) fn call(alloc: Global, name: &str, words: &[&str], owned: Owned) -> Came {
+pub(super) fn make(asked: Asked, owned: Owned, answer: &mut Text) {
     match owned {
-        Owned::Columns(columns) => of_columns(alloc, name, words, columns),
-        Owned::Arrays(arrays) => of_arrays(alloc, name, arrays),
-        Owned::Packed(packed) => packed_again(alloc, packed),
+        Owned::Columns(columns) => of_columns(asked, columns, answer),
+        Owned::Arrays(arrays) => came(answer, of_arrays(asked, arrays)),
+        Owned::Packed(packed) => came(answer, packed_again(asked.alloc, packed)),
         Owned::Integers(integers, validity) => {
-            Ok(Outcome::Column(PrimitiveArray::new(integers, validity)?))
+            came(answer, PrimitiveArray::new(integers, validity));
         }
-        Owned::Bits(bits, validity) => Ok(Outcome::Bools(BoolArray::new(bits, validity)?)),
-        Owned::Nothing => Ok(Outcome::NoSuchCall),
+        Owned::Bits(bits, validity) => came(answer, BoolArray::new(bits, validity)),
+        Owned::Nothing => answer.word("no such call"),
     }
 }

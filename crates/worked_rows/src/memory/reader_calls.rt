@@ -3,7 +3,7 @@
 
 ghost use Rattle.std.specs.Prelude.{◌≡◌};
 
-use super::outcome::{Came, Outcome};
+use crate::columns::Made;
 use fl_array::bitpacking::{BitPackedArray, BitPackedArrayExt, BitWidthsView};
 use fl_types::match_each_integer_ptype;
 use std::alloc::Global;
@@ -15,19 +15,22 @@ use vortex_fastlanes::{
     BitPackedData, FL_CHUNK_SIZE, FastLanesError, NativePType, PhysicalPType, PrimitiveArray,
 };
 
+/// What a call on a reader gives.
+type Number = Result<usize, FastLanesError>;
+
 /// The packed bytes as words, by the array and by its data.
 pub(super) fn packed_slice<T: PhysicalPType>(
     alloc: Global,
     array: &BitPackedArray,
     of_data: bool,
-) -> Came {
+) -> Made {
     let words = if of_data {
         let data = BitPackedArrayExt::data(array)?;
         data.packed_slice::<T>(alloc)?
     } else {
         BitPackedArrayExt::packed_slice::<T>(array, alloc)?
     };
-    Ok(Outcome::Column(PrimitiveArray::non_nullable(words)))
+    Ok(PrimitiveArray::non_nullable(words))
 }
 
 /// An item that is not negative.
@@ -60,19 +63,19 @@ fn sum_of_ends<T: BitPacked>(chunks: &mut BitUnpackedChunks<'_, T>) -> usize {
 }
 
 /// The sum of what a reader of the array lends.
-fn sum_lent<T: BitPacked>(array: &BitPackedArray) -> Came
+fn sum_lent<T: BitPacked>(array: &BitPackedArray) -> Number
     requires { array.now.parts.ptype ≡ T.PTYPE }
 {
     T::prove_fits_in_memory();
     let mut scratch = [T::zero(); FL_CHUNK_SIZE];
     match BitPackedArrayExt::unpacked_chunks::<T>(array, &mut scratch) {
-        Ok(mut chunks) => Ok(Outcome::Number(sum_of_ends(&mut chunks))),
+        Ok(mut chunks) => Ok(sum_of_ends(&mut chunks)),
         Err(refusal) => Err(refusal),
     }
 }
 
 /// The sum of the items, at most those of 49 blocks, that a reader of blocks writes.
-fn read<T: BitPacked>(bytes: &[u8], width: usize, offset: usize, len: usize) -> Came {
+fn read<T: BitPacked>(bytes: &[u8], width: usize, offset: usize, len: usize) -> Number {
     T::prove_fits_in_memory();
     if width > T::PTYPE.bit_width() || len > 50_176 {
         return Err(FastLanesError::LengthOverflow);
@@ -82,14 +85,14 @@ fn read<T: BitPacked>(bytes: &[u8], width: usize, offset: usize, len: usize) -> 
     match UnpackedChunks::try_new_with_strategy(strategy, bytes, width, offset, len, &mut scratch) {
         Ok(mut chunks) => {
             chunks.decode_into(&mut room[..len]);
-            Ok(Outcome::Number(sum_of(&room)))
+            Ok(sum_of(&room))
         }
         Err(refusal) => Err(refusal),
     }
 }
 
 /// Reads the blocks of an array.
-fn read_blocks(array: &BitPackedArray) -> Came {
+pub(super) fn read_blocks(array: &BitPackedArray) -> Number {
     let data = array.packed_data();
     match array.bit_widths() {
         BitWidthsView::Global(width) => {
@@ -101,17 +104,17 @@ fn read_blocks(array: &BitPackedArray) -> Came {
 }
 
 /// An item as it is stored in packed bytes.
-fn item<T: PhysicalPType>(bytes: &[u8], width: usize, i: usize) -> Came {
+fn item<T: PhysicalPType>(bytes: &[u8], width: usize, i: usize) -> Number {
     let fits = 128 * width as u128 * (i as u128 / 1024 + 1) <= bytes.len() as u128;
     if width > T::PTYPE.bit_width() || !fits {
         return Err(FastLanesError::IndexOutOfBounds);
     }
     let item = unpack_single_primitive::<T>(bytes, width, i);
-    Ok(Outcome::Number(number_of(item)))
+    Ok(number_of(item))
 }
 
 /// An item as it is stored in the bytes of an array whose blocks have one width.
-pub(super) fn stored_item(array: &BitPackedArray, i: usize) -> Came {
+pub(super) fn stored_item(array: &BitPackedArray, i: usize) -> Number {
     let data = array.packed_data();
     match array.bit_widths() {
         BitWidthsView::Global(width) => {
@@ -123,20 +126,16 @@ pub(super) fn stored_item(array: &BitPackedArray, i: usize) -> Came {
 }
 
 /// The offset of data of the array's bytes with another width and offset.
-pub(super) fn data_with(array: &BitPackedArray, width: usize, offset: usize) -> Came {
+pub(super) fn data_with(array: &BitPackedArray, width: usize, offset: usize) -> Number {
     let packed = array.packed_data().packed().clone()?;
     let width = u8::try_from(width).unwrap_or(u8::MAX);
     let offset = u16::try_from(offset).unwrap_or(u16::MAX);
     let data = BitPackedData::try_new(packed, array.packed_data().patches(), width, offset)?;
-    Ok(Outcome::Number(usize::from(data.offset())))
+    Ok(usize::from(data.offset()))
 }
 
-/// Makes a call on a reader of an array.
-pub(super) fn call(name: &str, array: &BitPackedArray) -> Came {
+/// The sum of what a reader of an array lends.
+pub(super) fn lent(array: &BitPackedArray) -> Number {
     let ptype = array.packed_data().ptype();
-    match name {
-        "read" => read_blocks(array),
-        "lent" => match_each_integer_ptype!(ptype, sum_lent(array)),
-        _ => Ok(Outcome::NoSuchCall),
-    }
+    match_each_integer_ptype!(ptype, sum_lent(array))
 }

@@ -2,34 +2,13 @@
 
 use super::text;
 use crate::columns::{count, dtype_of};
+use crate::names::named;
 use crate::text::Text;
 use bytes::Bytes;
 use fl_serialized::SerializedArray;
 use fl_types::FastLanesError;
 use std::alloc::Global;
 use vortex_fastlanes::plugin::deserialize;
-
-/// Takes a part away from a node, or adds one: `buffer` and `child` add one, `bare` takes the metadata away.
-fn change_count(
-    alloc: Global,
-    node: &mut SerializedArray,
-    edit: &str,
-) -> Result<(), FastLanesError> {
-    match edit {
-        "buffer" => node.buffers.push(Bytes::new())?,
-        "unbuffer" => {
-            let _ = node.buffers.pop();
-        }
-        "child" => node
-            .children
-            .push(text::read(alloc, &["constant:u8:0", "20", "00"])?)?,
-        "unchild" => {
-            let _ = node.children.pop();
-        }
-        _ => node.metadata = Vec::new(alloc),
-    }
-    Ok(())
-}
 
 /// Adds bytes to a node's metadata: `08,02`.
 fn add_metadata(node: &mut SerializedArray, bytes: &str) -> Result<(), FastLanesError> {
@@ -53,18 +32,89 @@ fn set_buffer(
     Ok(())
 }
 
-/// Changes a node by a word: `id:NAME`, `type:u8?`, `len:3`, `metadata:08,02` (bytes that are added), `bytes:u16,0,256`,
-/// or a word without a colon.
-fn change(alloc: Global, node: &mut SerializedArray, edit: &str) -> Result<(), FastLanesError> {
-    match edit.split_once(':') {
-        Some(("id", name)) => node.id = text::id_in(alloc, name)?,
-        Some(("type", name)) => node.dtype = dtype_of(name),
-        Some(("len", len)) => node.len = count(len),
-        Some(("metadata", bytes)) => add_metadata(node, bytes)?,
-        Some((_, words)) => set_buffer(alloc, node, words)?,
-        None => change_count(alloc, node, edit)?,
+/// Adds a child to a node.
+fn add_child(alloc: Global, node: &mut SerializedArray) -> Result<(), FastLanesError> {
+    let child = text::read(alloc, &["constant:u8:0", "20", "00"])?;
+    node.children.push(child)?;
+    Ok(())
+}
+
+/// A change of a node. Some have words behind a colon.
+#[derive(Clone, Copy)]
+enum Edit {
+    Id,
+    Type,
+    Len,
+    Metadata,
+    Bytes,
+    Bare,
+    Buffer,
+    NoBuffer,
+    Child,
+    NoChild,
+}
+
+const EDITS: &[(&str, Edit)] = &[
+    ("id", Edit::Id),
+    ("type", Edit::Type),
+    ("len", Edit::Len),
+    ("metadata", Edit::Metadata),
+    ("bytes", Edit::Bytes),
+    ("bare", Edit::Bare),
+    ("buffer", Edit::Buffer),
+    ("unbuffer", Edit::NoBuffer),
+    ("child", Edit::Child),
+    ("unchild", Edit::NoChild),
+];
+
+/// Changes what a node says of itself by words.
+fn change_words(
+    alloc: Global,
+    node: &mut SerializedArray,
+    edit: Edit,
+    words: &str,
+) -> Result<(), FastLanesError> {
+    match edit {
+        Edit::Id => node.id = text::id_in(alloc, words)?,
+        Edit::Type => node.dtype = dtype_of(words),
+        Edit::Len => node.len = count(words),
+        Edit::Metadata => add_metadata(node, words)?,
+        _ => set_buffer(alloc, node, words)?,
     }
     Ok(())
+}
+
+/// Takes a part away from a node, or adds one.
+fn change_parts(
+    alloc: Global,
+    node: &mut SerializedArray,
+    edit: Edit,
+) -> Result<(), FastLanesError> {
+    match edit {
+        Edit::Bare => node.metadata = Vec::new(alloc),
+        Edit::Buffer => node.buffers.push(Bytes::new())?,
+        Edit::NoBuffer => {
+            let _ = node.buffers.pop();
+        }
+        Edit::Child => add_child(alloc, node)?,
+        _ => {
+            let _ = node.children.pop();
+        }
+    }
+    Ok(())
+}
+
+/// Changes a node by a word: `id:NAME`, `type:u8?`, `len:3`, `metadata:08,02` (bytes that are added), `bytes:u16,0,256`
+/// (the one buffer), `bare` (no metadata), `buffer` or `child` (one more), `unbuffer` or `unchild` (one less).
+fn change(alloc: Global, node: &mut SerializedArray, edit: &str) -> Result<(), FastLanesError> {
+    let (name, words) = edit.split_once(':').unwrap_or((edit, ""));
+    match named(EDITS, name) {
+        Some(edit @ (Edit::Id | Edit::Type | Edit::Len | Edit::Metadata | Edit::Bytes)) => {
+            change_words(alloc, node, edit, words)
+        }
+        Some(edit) => change_parts(alloc, node, edit),
+        None => Err(FastLanesError::UnknownId),
+    }
 }
 
 /// Changes a node, or its child at a place: `0/len:3`.

@@ -1,6 +1,7 @@
 //! Nodes as text: `id:type:len`, the bytes of the metadata, each buffer in `[` and `]`, each child in `(` and `)`.
 
 use crate::columns::{self, count, dtype_of};
+use crate::names::named;
 use crate::shown;
 use crate::text::Text;
 use bytes::Bytes;
@@ -10,19 +11,44 @@ use fl_serialized::ids::*;
 use fl_types::{FastLanesError, PValue};
 use std::alloc::Global;
 
-/// The id that a kind's name stands for, or the id itself.
-fn id_of(name: &str) -> &str {
-    match name {
-        "plain" => primitive_id(),
-        "constant" => constant_id(),
-        "bools" => bool_id(),
-        "bitpacked" => bitpacked_v1_id(),
-        "blocked" => bitpacked_v2_id(),
-        "for" => for_v1_id(),
-        "forc" => for_v2_id(),
-        "delta" => delta_id(),
-        "rle" => rle_id(),
-        id => id,
+/// A kind of arrays.
+#[derive(Clone, Copy)]
+enum Kind {
+    Plain,
+    Constant,
+    Bools,
+    BitPacked,
+    Blocked,
+    For,
+    ForChunked,
+    Delta,
+    Rle,
+}
+
+const KINDS: &[(&str, Kind)] = &[
+    ("plain", Kind::Plain),
+    ("constant", Kind::Constant),
+    ("bools", Kind::Bools),
+    ("bitpacked", Kind::BitPacked),
+    ("blocked", Kind::Blocked),
+    ("for", Kind::For),
+    ("forc", Kind::ForChunked),
+    ("delta", Kind::Delta),
+    ("rle", Kind::Rle),
+];
+
+/// The id of arrays of a kind.
+fn id_of(kind: Kind) -> &'static str {
+    match kind {
+        Kind::Plain => primitive_id(),
+        Kind::Constant => constant_id(),
+        Kind::Bools => bool_id(),
+        Kind::BitPacked => bitpacked_v1_id(),
+        Kind::Blocked => bitpacked_v2_id(),
+        Kind::For => for_v1_id(),
+        Kind::ForChunked => for_v2_id(),
+        Kind::Delta => delta_id(),
+        Kind::Rle => rle_id(),
     }
 }
 
@@ -40,9 +66,13 @@ fn bare(alloc: Global, word: &str) -> Result<SerializedArray, FastLanesError> {
     })
 }
 
-/// The id that a name stands for, as a node has it.
+/// The id that the name of a kind stands for, or the id itself.
 pub(super) fn id_in(alloc: Global, name: &str) -> Result<String, FastLanesError> {
-    Ok(String::from_str(alloc, id_of(name))?)
+    let id = match named(KINDS, name) {
+        Some(kind) => id_of(kind),
+        None => name,
+    };
+    Ok(String::from_str(alloc, id)?)
 }
 
 /// Adds an integer's bytes, the low one first.
@@ -137,7 +167,7 @@ impl<'a> Reader<'a> {
 }
 
 /// The node that words name.
-pub(super) fn read(alloc: Global, words: &[&str]) -> Result<SerializedArray, FastLanesError> {
+pub(crate) fn read(alloc: Global, words: &[&str]) -> Result<SerializedArray, FastLanesError> {
     let mut reader = Reader {
         open: Vec::new(alloc),
         words: Vec::new(alloc),
@@ -163,7 +193,7 @@ fn show_buffer(buffer: &[u8], answer: &mut Text) {
 }
 
 /// Adds a node.
-pub(super) fn show(node: &SerializedArray, answer: &mut Text) {
+pub(crate) fn show(node: &SerializedArray, answer: &mut Text) {
     answer.piece(node.id());
     answer.piece(":");
     shown::dtype_piece(answer, node.dtype());

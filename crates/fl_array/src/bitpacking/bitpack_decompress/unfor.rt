@@ -1,4 +1,4 @@
-//! Bit-packed arrays to whose items references are added as their blocks are unpacked.
+//! Bit-packed arrays with references that are added while their blocks are unpacked.
 
 ghost use Rattle.std.specs.Prelude.{◌≡◌, ◌+◌, Ok, OnOk, min};
 ghost use Rattle.fl_types.specs.Refusals.{Answers};

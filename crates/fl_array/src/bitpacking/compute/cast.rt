@@ -1,4 +1,4 @@
-//! Casts of bit-packed arrays in place: the packed bytes stay where the integer type does.
+//! Casts of bit-packed arrays in place: the packed bytes stay if the integer type does.
 
 ghost use Rattle.std.specs.Prelude.{◌≡◌, ◌||◌, IfOk, IsTrue, Ok, is_none, not};
 ghost use Rattle.std.specs.List.{list_any};
@@ -24,11 +24,10 @@ impl BitPackedArray {
         data.has_null()
     }
 
-    /// The same integers over the same packed bytes, where nulls may stand or not. All blocks have
-    /// one width.
+    /// The same integers over the same packed bytes, with another nullability. All blocks have one width.
     ///
     /// # Errors
-    /// None but `OutOfMemory`.
+    /// Only `OutOfMemory`.
     pub fn cast_in_place(
         &self,
         alloc: Global,

@@ -6,7 +6,7 @@ ghost use Rattle.fl_types.specs.Values.{integer_of};
 ghost use Rattle.fl_column.specs.Columns.{column_of_bools, column_of_primitive};
 ghost use Rattle.fl_column.specs.Questions.{holds, is_between, tested};
 ghost use Rattle.fl_bitpacking.specs.Decided.{undecided_blocks};
-ghost use Rattle.fl_bitpacking.specs.RangeTests.{passes};
+ghost use Rattle.fl_bitpacking.specs.RangeTests.{IsTestOf, passes};
 ghost use Rattle.fl_array.specs.BitPackedArrays.{BlockBoundaries, GlobalWidth, blocks_of_widths, tree_of_bitpacked};
 ghost use Rattle.fl_array.specs.Trees.{column};
 ghost use Rattle.fl_array.specs.UnpackedBlocks.{IsComparisonOf};
@@ -29,7 +29,8 @@ impl BitPackedArray {
         range: RangeTest,
         work: &mut Work,
     ) -> Result<BoolArray, FastLanesError>
-        requires { GlobalWidth width ≡ self.now.widths }
+        requires test { IsTestOf self.now.parts.ptype range }
+        requires widths { GlobalWidth width ≡ self.now.widths }
         ensures column { Answers column_of_bools result (Ok (tested (passes range) (column (tree_of_bitpacked self.now)))) }
         ensures blocks { OnOk result (work.new.blocks ≡ min (work.old.blocks + undecided_blocks self.now.parts (blocks_of_widths self.now.widths) (passes range)) u64.MAX) }
         ensures words { work.new.words ≡ work.old.words }
@@ -48,6 +49,7 @@ impl BitPackedArray {
         range: RangeTest,
         work: &mut Work,
     ) -> Result<BoolArray, FastLanesError>
+        requires test { IsTestOf self.now.parts.ptype range }
         requires same { BlockBoundaries boundaries.now ≡ self.now.widths }
         requires plain { column_of_primitive plain.now ≡ column boundaries.now }
         ensures column { Answers column_of_bools result (Ok (tested (passes range) (column (tree_of_bitpacked self.now)))) }
@@ -66,6 +68,7 @@ impl BitPackedArray {
         range: RangeTest,
         work: &mut Work,
     ) -> Result<BoolArray, FastLanesError>
+        requires { IsTestOf self.now.parts.ptype range }
         ensures column { Answers column_of_bools result (Ok (tested (passes range) (column (tree_of_bitpacked self.now)))) }
         ensures blocks { OnOk result (work.new.blocks ≡ min (work.old.blocks + undecided_blocks self.now.parts (blocks_of_widths self.now.widths) (passes range)) u64.MAX) }
         ensures words { work.new.words ≡ work.old.words }
@@ -80,12 +83,32 @@ impl BitPackedArray {
         }
     }
 
-    /// How each item compares with a constant, and what was unpacked of the packed bytes for it; a null stays a null. An array of
-    /// one width unpacks each block once, or none where there is no item or the width decides the comparison. An array of a width
-    /// for each block unpacks those whose own width does not decide it.
+    /// The answers of a test for the items, and what was unpacked of the packed bytes for it; a null stays a null. An array of one
+    /// width unpacks each block once, or none where there is no item or the width decides the test. An array of a width for each
+    /// block unpacks those whose own width does not decide it. A reference of the test is an integer of the array's type.
     ///
     /// # Errors
-    /// None but `OutOfMemory`.
+    /// Only `OutOfMemory`.
+    pub fn test_counted(
+        &self,
+        alloc: Global,
+        range: RangeTest,
+    ) -> Result<(BoolArray, Work), FastLanesError>
+        requires { IsTestOf self.now.parts.ptype range }
+        ensures answer { Answers (λ r. column_of_bools r.0) result (Ok (tested (passes range) (column (tree_of_bitpacked self.now)))) }
+        ensures work { IfOk result (λ r. IsComparisonOf self.now (passes range) r.1) }
+    {
+        self.packed_data().prove_well_formed();
+        let mut work = Work::new();
+        let answers = self.test(alloc, range, &mut work)?;
+        Ok((answers, work))
+    }
+
+    /// How each item compares with a constant, and what was unpacked of the packed bytes for it, as by `test_counted`; a null
+    /// stays a null.
+    ///
+    /// # Errors
+    /// Only `OutOfMemory`.
     pub fn compare_counted(
         &self,
         alloc: Global,
@@ -95,18 +118,14 @@ impl BitPackedArray {
         ensures answer { Answers (λ r. column_of_bools r.0) result (Ok (tested (holds operator (integer_of constant)) (column (tree_of_bitpacked self.now)))) }
         ensures work { IfOk result (λ r. IsComparisonOf self.now (holds operator (integer_of constant)) r.1) }
     {
-        self.packed_data().prove_well_formed();
-        let mut work = Work::new();
-        let range = RangeTest::comparing(operator, constant);
-        let answers = self.test(alloc, range, &mut work)?;
-        Ok((answers, work))
+        self.test_counted(alloc, RangeTest::comparing(operator, constant))
     }
 
-    /// Whether each item lies between two bounds, and what was unpacked of the packed bytes for it, as by `compare_counted`.
-    /// Nothing lies between bounds of which the lower is above the upper.
+    /// Whether each item is between two bounds, and what was unpacked of the packed bytes for it, as by `test_counted`.
+    /// No item is between bounds of which the lower is greater than the upper.
     ///
     /// # Errors
-    /// None but `OutOfMemory`.
+    /// Only `OutOfMemory`.
     pub fn between_counted(
         &self,
         alloc: Global,
@@ -117,10 +136,6 @@ impl BitPackedArray {
         ensures answer { Answers (λ r. column_of_bools r.0) result (Ok (tested (is_between options (integer_of lower) (integer_of upper)) (column (tree_of_bitpacked self.now)))) }
         ensures work { IfOk result (λ r. IsComparisonOf self.now (is_between options (integer_of lower) (integer_of upper)) r.1) }
     {
-        self.packed_data().prove_well_formed();
-        let mut work = Work::new();
-        let range = RangeTest::between(lower, upper, options);
-        let answers = self.test(alloc, range, &mut work)?;
-        Ok((answers, work))
+        self.test_counted(alloc, RangeTest::between(lower, upper, options))
     }
 }

@@ -15,11 +15,11 @@ use std::alloc::Global;
 
 impl BitPackedArray {
     /// The item at an index, with the column's type, and what was read of the packed bytes for it: no block is
-    /// unpacked, and at most two words are read. It takes no memory where the boundaries neither are nor hold a
-    /// delta array.
+    /// unpacked, and at most two words are read. It allocates nothing unless the boundaries are or hold a delta
+    /// array.
     ///
     /// # Errors
-    /// None but `OutOfMemory`.
+    /// Only `OutOfMemory`.
     pub fn scalar_at_counted(
         &self,
         alloc: Global,

@@ -1,4 +1,4 @@
-//! Slices of bit-packed arrays: the blocks that hold the range are kept as they are packed.
+//! Slices of bit-packed arrays: the blocks that hold the range are kept packed.
 
 ghost use Rattle.std.specs.Prelude.{◌≡◌, ◌+◌, ◌^◌, ◌<◌, ◌≤◌, Ok, length};
 ghost use Rattle.fl_types.specs.Refusals.{Answers};

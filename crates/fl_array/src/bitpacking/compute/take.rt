@@ -51,11 +51,11 @@ impl BitPackedArray {
     }
 
     /// The items that indices name, null where an index is null, and what was read of the packed bytes for them. The
-    /// integer under a null index is never looked at. Where each block has a width of its own, a block is unpacked
+    /// integer under a null index is never read. Where each block has a width of its own, a block is unpacked
     /// for seventeen indices at least, and at most two words are read for an index.
     ///
     /// # Errors
-    /// `IndexOutOfBounds` where an index is negative or not below the length.
+    /// `IndexOutOfBounds` if an index is negative or not below the length.
     pub fn take_counted(
         &self,
         alloc: Global,
@@ -86,7 +86,7 @@ impl BitPackedArray {
     /// at.
     ///
     /// # Errors
-    /// `IndexOutOfBounds` where an index is negative or not below the length.
+    /// `IndexOutOfBounds` if an index is negative or not below the length.
     pub fn take(
         &self,
         alloc: Global,

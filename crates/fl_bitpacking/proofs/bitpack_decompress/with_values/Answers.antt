@@ -1,4 +1,4 @@
-use Rattle.std.proofs.Common.{◌+◌, ◌/◌, ◌∙◌, ap, arith, unwrap_or}
+use Rattle.std.proofs.Common.{◌+◌, ◌/◌, ◌∙◌, ap, unwrap_or}
 use Rattle.std.specs.Option.{option_copied}
 use Rattle.fl_patches.specs.PatchMaps.{patched_in}
 use Rattle.fl_bitpacking.specs.Blocks.{value_at}

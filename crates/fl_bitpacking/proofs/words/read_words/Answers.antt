@@ -1,4 +1,4 @@
-use Rattle.std.proofs.Common.{◌≡◌, ◌/◌, ℕ, ℤ, length, map, List, ap, sym, ◌∙◌, arith, [], ◌∷◌, ◌++◌}
+use Rattle.std.proofs.Common.{◌≡◌, ◌/◌, ℕ, length, map, ap, ◌∙◌, arith, [], ◌∷◌}
 use Rattle.std.proofs.lemmas.List.{map-append}
 use Rattle.fl_types.specs.Bits.{tabulate}
 use Rattle.fl_bitpacking.specs.Words.{word_as}

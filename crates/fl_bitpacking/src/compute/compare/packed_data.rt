@@ -9,7 +9,7 @@ ghost use Rattle.fl_column.specs.Questions.{tested};
 ghost use Rattle.fl_bitpacking.specs.Blocks.{are_blocks, boundary_blocks, global_blocks};
 ghost use Rattle.fl_bitpacking.specs.Columns.{block_count, column_of_packed};
 ghost use Rattle.fl_bitpacking.specs.Decided.{undecided_blocks};
-ghost use Rattle.fl_bitpacking.specs.RangeTests.{passes};
+ghost use Rattle.fl_bitpacking.specs.RangeTests.{IsTestOf, passes};
 
 use crate::compute::compare::{test_blocked, test_global};
 use crate::compute::range_test::RangeTest;
@@ -29,6 +29,7 @@ impl PackedData {
         range: RangeTest,
         work: &mut Work,
     ) -> Result<BoolArray, FastLanesError>
+        requires test { IsTestOf self.now.ptype range }
         requires width { width ≤ bits_of_type self.now.ptype }
         requires room { 128 * width * block_count self.now ≤ length self.now.packed }
         ensures column { Answers column_of_bools result (Ok (tested (passes range) (column_of_packed self.now (global_blocks width)))) }
@@ -49,6 +50,7 @@ impl PackedData {
         range: RangeTest,
         work: &mut Work,
     ) -> Result<BoolArray, FastLanesError>
+        requires test { IsTestOf self.now.ptype range }
         requires count { length boundaries.now.slots ≡ block_count self.now + 1 }
         requires blocks { IsTrue (are_blocks (bits_of_type self.now.ptype) (length self.now.packed) (numbers boundaries.now)) }
         ensures column { Answers column_of_bools result (Ok (tested (passes range) (column_of_packed self.now (boundary_blocks (numbers boundaries.now))))) }

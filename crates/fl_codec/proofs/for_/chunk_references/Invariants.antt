@@ -2,14 +2,14 @@ use Rattle.std.proofs.Common.{◌≡◌, pos, map, take, unwrap_or}
 use Rattle.fl_types.specs.Bits.{tabulate}
 use Rattle.fl_types.specs.Validities.{items_of}
 use Rattle.fl_codec.specs.ForwardFill.{first_some, last_some}
-use Rattle.fl_codec.specs.FoRColumns.{chunk_leasts, reference_of_chunk}
+use Rattle.fl_codec.specs.FoRColumns.{chunk_leasts, reading, reference_of_chunk}
 use Rattle.fl_codec.proofs.for_.chunk_references.Given as goal
 
 -- the references so far
 abbrev pub invariant-loop-k : goal.invariant-loop-k
 invariant-loop-k g l =
     let value = g.T.Number.value in
-    let leasts = chunk_leasts (items_of l.validity (map value l.items)) in record {
+    let leasts = chunk_leasts (reading l.order g.T.NativePType.PTYPE) (items_of l.validity (map value l.items)) in record {
       last : value l.reference ≡ unwrap_or (last_some (take l.k leasts)) (unwrap_or (first_some leasts) (pos 0));
       references : map value l.references.items ≡ tabulate (reference_of_chunk leasts) l.k;
     }

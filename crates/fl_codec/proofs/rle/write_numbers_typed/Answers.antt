@@ -1,4 +1,4 @@
-use Rattle.std.proofs.Common.{◌≡◌, ◌+◌, ◌*◌, IsTrue, List, ℤ, None, Option, get_or, length, map, subst, sym, ◌∙◌, arith}
+use Rattle.std.proofs.Common.{◌≡◌, ◌+◌, ◌*◌, IsTrue, List, ℤ, None, Option, get_or, map, subst, sym, ◌∙◌, arith}
 use Rattle.fl_types.specs.Integers.{is_unsigned}
 use Rattle.fl_codec.specs.Parts.{items_of_primitive}
 use Rattle.fl_codec.specs.RunColumns.{is_run_index}

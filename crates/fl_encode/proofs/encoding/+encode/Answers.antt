@@ -18,14 +18,17 @@ encode_child-returns-in-Some t c = rw (c.in-Some.is, ← c.deref.ensures) c.enco
 pub encode-returns-in-FoRChunked : goal.encode-returns-in-FoRChunked
 encode-returns-in-FoRChunked t c = rw c.in-FoRChunked.is c.encode_chunked_for.ensures
 
+pub encode-returns-in-FoRChunkedWrapped : goal.encode-returns-in-FoRChunkedWrapped
+encode-returns-in-FoRChunkedWrapped t c = rw c.in-FoRChunkedWrapped.is c.encode_chunked_for-in-FoRChunkedWrapped.ensures
+
 -- ---- frames of reference
 pub encode_for-encode_over_reference-requires : goal.encode_for-encode_over_reference-requires
-encode_for-encode_over_reference-requires t c = (search rules, global_accepted c.args.array.now (global_parts c.in_ok-child.field-0) c.in_ok-child.ensures)
+encode_for-encode_over_reference-requires t c = (search rules, global_accepted c.args.order c.args.array.now (global_parts c.in_ok-child.field-0) c.in_ok-child.ensures)
 
 pub encode_for-returns : goal.encode_for-returns
 encode_for-returns t c =
-    one_reference_made (child_scheme c.args.scheme.now) c.args.array.now (global_parts c.in_ok-child.field-0) c.encode_over_reference.result c.in_ok-child.ensures
-    (c.global_for_and_back.ensures (global_parts c.in_ok-child.field-0) c.in_ok-child.ensures) c.encode_over_reference.ensures
+    one_reference_made c.args.order (child_scheme c.args.scheme.now) c.args.array.now (global_parts c.in_ok-child.field-0) c.encode_over_reference.result c.in_ok-child.ensures
+    (c.global_for_by_and_back.ensures (global_parts c.in_ok-child.field-0) c.in_ok-child.ensures) c.encode_over_reference.ensures
 
 pub encode_over_references-over_references-requires-clause-chunked : goal.encode_over_references-over_references-requires-clause-chunked
 encode_over_references-over_references-requires-clause-chunked t c = no_constant c.in_ok-references.references (column_of_primitive c.args.others) c.in_ok-references.ensures.stands_for c.requires.differ
@@ -37,7 +40,7 @@ encode_over_references-returns t c =
 pub encode_chunked_for-encode_over_reference-requires : goal.encode_chunked_for-encode_over_reference-requires
 encode_chunked_for-encode_over_reference-requires t c = (
   search rules,
-  made_accepted c.args.array.now (Whole (global_parts c.in-Global.field-0)) (ok_is _ _ c.in_ok-child.ensures ∙ ap for_parts c.in-Global.is) c.validity-validity.ensures.covers (few_positions (length c.args.array.now.slots) c.prove_few.ensures),
+  made_accepted c.args.order c.args.array.now (Whole (global_parts c.in-Global.field-0)) (ok_is _ _ c.in_ok-child.ensures ∙ ap for_parts c.in-Global.is) c.validity-validity.ensures.covers (few_positions (length c.args.array.now.slots) c.prove_few.ensures),
 )
 
 pub encode_chunked_for-encode_over_references-requires : goal.encode_chunked_for-encode_over_references-requires
@@ -45,20 +48,20 @@ encode_chunked_for-encode_over_references-requires t c =
     let is = ok_is _ _ c.in_ok-child.ensures ∙ ap for_parts c.in-Chunked.is in (
       search rules,
       (
-        made_accepted c.args.array.now (ByChunk c.in-Chunked.child c.in-Chunked.others) is c.validity-validity.ensures.covers (few_positions (length c.args.array.now.slots) c.prove_few.ensures),
-        references_differ c.args.array.now c.in-Chunked.child c.in-Chunked.others is,
+        made_accepted c.args.order c.args.array.now (ByChunk c.in-Chunked.child c.in-Chunked.others) is c.validity-validity.ensures.covers (few_positions (length c.args.array.now.slots) c.prove_few.ensures),
+        references_differ c.args.order c.args.array.now c.in-Chunked.child c.in-Chunked.others is,
       ),
     )
 
 pub encode_chunked_for-over_nulls-requires : goal.encode_chunked_for-over_nulls-requires
 encode_chunked_for-over_nulls-requires t c =
-    made_accepted c.args.array.now (Nulls c.in-Nulls.child (scalar_parts c.in-Nulls.reference)) (ok_is _ _ c.in_ok-child.ensures ∙ ap for_parts c.in-Nulls.is) c.validity-validity.ensures.covers (few_positions (length c.args.array.now.slots) c.prove_few.ensures)
+    made_accepted c.args.order c.args.array.now (Nulls c.in-Nulls.child (scalar_parts c.in-Nulls.reference)) (ok_is _ _ c.in_ok-child.ensures ∙ ap for_parts c.in-Nulls.is) c.validity-validity.ensures.covers (few_positions (length c.args.array.now.slots) c.prove_few.ensures)
 
 pub encode_chunked_for-returns-in-Chunked : goal.encode_chunked_for-returns-in-Chunked
 encode_chunked_for-returns-in-Chunked t c =
     let is = ok_is _ _ c.in_ok-child.ensures ∙ ap for_parts c.in-Chunked.is in
-    references_made (child_scheme c.args.encoded.now) (child_scheme c.args.references.now) c.args.array.now c.in-Chunked.child c.in-Chunked.others c.encode_over_references.result is
-    (chunked_column c.args.array.now c.in-Chunked.child c.in-Chunked.others is c.chunked_for_and_back.ensures) c.encode_over_references.ensures
+    references_made c.args.order (child_scheme c.args.encoded.now) (child_scheme c.args.references.now) c.args.array.now c.in-Chunked.child c.in-Chunked.others c.encode_over_references.result is
+    (chunked_column c.args.order c.args.array.now c.in-Chunked.child c.in-Chunked.others is c.chunked_for_by_and_back.ensures) c.encode_over_references.ensures
 
 -- ---- deltas
 pub encode_delta-over_deltas-requires : goal.encode_delta-over_deltas-requires

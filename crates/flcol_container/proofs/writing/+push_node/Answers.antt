@@ -1,4 +1,4 @@
-use Rattle.std.proofs.Common.{◌∙◌, ap, arith}
+use Rattle.std.proofs.Common.{◌∙◌, ap, arith, length}
 use Rattle.fl_serialized.specs.Nodes.{children_of, nodes_of}
 use Rattle.flcol_container.proofs.Sizes.{child_smaller}
 use Rattle.flcol_container.proofs.Written.{all_written, begun, child_fits, next_written}
@@ -16,7 +16,7 @@ push_node-requires t c =
     )
 
 pub loop-child-preserved : goal.loop-child-preserved
-loop-child-preserved t c = next_written c.args.array.now c.deref-child-items.result.now c.loop-child.child-index c.child-item.result c.node_size.result c.args.out.now.items c.loop-child.out.items c.push_length.new.out.items c.push_node.new.out.items c.loop-child-test.true c.child-item.is (child_fits c.args.array.now c.deref-child-items.result.now c.loop-child.child-index c.child-item.result (ap nodes_of c.deref-child-items.ensures.value ∙ ap children_of c.array.view_is) c.requires c.loop-child-test.true c.child-item.is).1 c.node_size.ensures.size c.loop-child.invariant c.in_ok-push_length.ensures c.in_ok-push_node.ensures
+loop-child-preserved t c = next_written c.args.array.now c.deref-child-items.result.now c.loop-child.child-index c.child-item.result (length c.as_slice-at.result.now) c.args.out.now.items c.loop-child.out.items c.push_length.new.out.items c.push_node.new.out.items c.put_length.new.out.items c.loop-child-test.true c.child-item.is (ap length c.as_slice-at.ensures.value) c.loop-child.invariant c.in_ok-push_length.ensures c.in_ok-push_node.ensures c.put_length.ensures
 
 pub returns : goal.returns
 returns t c = all_written c.args.array.now c.deref-child-items.result.now c.loop-child.child-index c.args.out.now.items c.loop-child.out.items c.loop-child-test.false (ap nodes_of c.deref-child-items.ensures.value ∙ ap children_of c.array.view_is) c.loop-child.invariant

@@ -1,20 +1,23 @@
-use Rattle.std.proofs.Common.{◌∙◌, rules, arith}
+use Rattle.std.proofs.Common.{ℤ, Bool}
+use Rattle.std.specs.Prelude.{IfOk, Ok}
+use Rattle.fl_types.specs.Refusals.{Answers}
 use Rattle.fl_types.specs.Values.{integer_of}
-use Rattle.fl_column.specs.Questions.{is_between}
+use Rattle.fl_column.specs.Columns.{column_of_bools}
+use Rattle.fl_column.specs.Questions.{is_between, tested}
 use Rattle.fl_bitpacking.specs.RangeTests.{passes}
 use Rattle.fl_array.specs.BitPackedArrays.{tree_of_bitpacked}
 use Rattle.fl_array.specs.Trees.{column}
-use Rattle.fl_array.proofs.ComparedLaws.{answers_alike, counted_alike}
+use Rattle.fl_array.specs.UnpackedBlocks.{IsComparisonOf}
+use Rattle.fl_array.proofs.ComparedLaws.{said_alike}
 use Rattle.fl_array.proofs.bitpacking.BitPackedArray.between_counted.Goals as goal
 
+pub test_counted-requires : goal.test_counted-requires
+test_counted-requires c = rw c.between.ensures.plain tt
+
 pub returns-clause-answer : goal.returns-clause-answer
-returns-clause-answer c = answers_alike (passes c.between-range.result) (is_between c.args.options (integer_of c.args.lower) (integer_of c.args.upper)) (column (tree_of_bitpacked c.args.self.now)) _ c.between-range.ensures c.in_ok-answers.ensures.column
+returns-clause-answer c =
+    said_alike (λ (test : ℤ → Bool). Answers (λ r. column_of_bools r.0) c.test_counted.result (Ok (tested test (column (tree_of_bitpacked c.args.self.now))))) (passes c.between.result) (is_between c.args.options (integer_of c.args.lower) (integer_of c.args.upper)) c.between.ensures.test c.test_counted.ensures.answer
 
 pub returns-clause-work : goal.returns-clause-work
 returns-clause-work c =
-    let counts = rw c.new-work.ensures at c.in_ok-answers.ensures.blocks in
-    let reads = rw c.new-work.ensures at c.test.ensures.words in
-    record {
-      blocks = counted_alike c.args.self.now (passes c.between-range.result) (is_between c.args.options (integer_of c.args.lower) (integer_of c.args.upper)) _ (rw c.packed_data.ensures at c.prove_well_formed.ensures) c.between-range.ensures counts;
-      words = reads;
-    }
+    said_alike (λ (test : ℤ → Bool). IfOk c.test_counted.result (λ r. IsComparisonOf c.args.self.now test r.1)) (passes c.between.result) (is_between c.args.options (integer_of c.args.lower) (integer_of c.args.upper)) c.between.ensures.test c.test_counted.ensures.work

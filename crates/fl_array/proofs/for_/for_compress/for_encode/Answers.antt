@@ -8,9 +8,9 @@ use Rattle.fl_array.proofs.RLELaws.{if_answered}
 use Rattle.fl_array.proofs.for_.for_compress.for_encode.Goals as goal
 
 pub from_global-requires : goal.from_global-requires
-from_global-requires c = rw c.into_array.ensures (global_accepted c.args.array.now (global_parts c.in_ok-child.field-0) c.in_ok-child.ensures)
+from_global-requires c = rw c.into_array.ensures (global_accepted c.args.order c.args.array.now (global_parts c.in_ok-child.field-0) c.in_ok-child.ensures)
 
 pub returns-clause-column : goal.returns-clause-column
 returns-clause-column c =
     if_answered (λ (a : FoRArrayParts). column (tree_of_for a) ≡ column_of_primitive c.args.array.now) c.from_global.result _ c.from_global.ensures
-    (rw c.into_array.ensures (c.global_for_and_back.ensures (global_parts c.in_ok-child.field-0) c.in_ok-child.ensures))
+    (rw c.into_array.ensures (c.global_for_by_and_back.ensures (global_parts c.in_ok-child.field-0) c.in_ok-child.ensures))

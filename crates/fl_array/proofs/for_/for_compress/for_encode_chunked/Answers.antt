@@ -12,20 +12,20 @@ use Rattle.fl_array.proofs.for_.for_compress.for_encode_chunked.Goals as goal
 pub from_global-requires : goal.from_global-requires
 from_global-requires c =
     rw c.into_array.ensures
-    (made_accepted c.args.array.now (Whole (global_parts c.in-Global.field-0)) (ok_is _ _ c.in_ok-child.ensures ∙ ap for_parts c.in-Global.is) c.validity-validity.ensures.covers (few_positions (length c.args.array.now.slots) c.prove_few.ensures))
+    (made_accepted c.args.order c.args.array.now (Whole (global_parts c.in-Global.field-0)) (ok_is _ _ c.in_ok-child.ensures ∙ ap for_parts c.in-Global.is) c.validity-validity.ensures.covers (few_positions (length c.args.array.now.slots) c.prove_few.ensures))
 
 pub from_chunked-requires-clause-sound : goal.from_chunked-requires-clause-sound
 from_chunked-requires-clause-sound c =
     rw (c.into_array-in-Chunked.ensures, c.into_array-in-Chunked-2.ensures)
-    (made_accepted c.args.array.now (ByChunk c.in-Chunked.child c.in-Chunked.references) (ok_is _ _ c.in_ok-child.ensures ∙ ap for_parts c.in-Chunked.is) c.validity-validity.ensures.covers (few_positions (length c.args.array.now.slots) c.prove_few.ensures))
+    (made_accepted c.args.order c.args.array.now (ByChunk c.in-Chunked.child c.in-Chunked.references) (ok_is _ _ c.in_ok-child.ensures ∙ ap for_parts c.in-Chunked.is) c.validity-validity.ensures.covers (few_positions (length c.args.array.now.slots) c.prove_few.ensures))
 
 pub from_global-requires-in-Nulls : goal.from_global-requires-in-Nulls
 from_global-requires-in-Nulls c =
     rw c.into_array-in-Nulls.ensures
-    (made_accepted c.args.array.now (Nulls c.in-Nulls.child (scalar_parts c.in-Nulls.reference)) (ok_is _ _ c.in_ok-child.ensures ∙ ap for_parts c.in-Nulls.is) c.validity-validity.ensures.covers (few_positions (length c.args.array.now.slots) c.prove_few.ensures))
+    (made_accepted c.args.order c.args.array.now (Nulls c.in-Nulls.child (scalar_parts c.in-Nulls.reference)) (ok_is _ _ c.in_ok-child.ensures ∙ ap for_parts c.in-Nulls.is) c.validity-validity.ensures.covers (few_positions (length c.args.array.now.slots) c.prove_few.ensures))
 
 pub returns-in-Chunked-clause-column : goal.returns-in-Chunked-clause-column
 returns-in-Chunked-clause-column c =
     if_answered (λ (a : FoRArrayParts). column (tree_of_for a) ≡ column_of_primitive c.args.array.now) c.from_chunked.result _ c.from_chunked.ensures
     (rw (c.into_array-in-Chunked.ensures, c.into_array-in-Chunked-2.ensures)
-    (chunked_column c.args.array.now c.in-Chunked.child c.in-Chunked.references (ok_is _ _ c.in_ok-child.ensures ∙ ap for_parts c.in-Chunked.is) c.chunked_for_and_back.ensures))
+    (chunked_column c.args.order c.args.array.now c.in-Chunked.child c.in-Chunked.references (ok_is _ _ c.in_ok-child.ensures ∙ ap for_parts c.in-Chunked.is) c.chunked_for_by_and_back.ensures))

@@ -1,5 +1,4 @@
-use Rattle.std.proofs.Common.{ℕ, ℤ, ◌<◌, ◌+ℤ◌, ◌∷◌, [], ◌∙◌, ap, sym, map, pos, get_or, length}
-use Rattle.fl_types.specs.Integers.{wrap}
+use Rattle.std.proofs.Common.{◌∷◌, [], map}
 use Rattle.fl_bitpacking.specs.Blocks.{blocks_of}
 use Rattle.fl_bitpacking.specs.BlockSums.{plus_block_reference}
 use Rattle.fl_bitpacking.specs.Parts.{parts_of}

@@ -1,11 +1,11 @@
-use Rattle.std.proofs.Common.{◌∙◌, sym, rules, arith}
+use Rattle.std.proofs.Common.{◌∙◌, sym}
 use Rattle.fl_bitpacking.specs.RangeTests.{passes}
 use Rattle.fl_bitpacking.proofs.ComparedLaws.{block_decided, block_tested}
 use Rattle.fl_bitpacking.proofs.compute.compare.test_block.Goals as goal
 
 pub returns-then-is_decided-clause-bits : goal.returns-then-is_decided-clause-bits
 returns-then-is_decided-clause-bits g c i h =
-    block_decided (passes c.args.test.range) c.args.test.ptype c.args.width c.args.block.now i _ (sym c.is_decided.ensures ∙ c.if-is_decided.true) (c.fill.ensures.bits i h ∙ c.is_passed_by.ensures)
+    block_decided (passes c.args.test.range) c.args.test.ptype c.args.width c.args.block.now i _ (sym c.is_decided.ensures ∙ c.if-is_decided.true) (c.fill.ensures.bits i h ∙ c.is_passed_by_zero.ensures)
 
 pub returns-else-is_decided-clause-bits : goal.returns-else-is_decided-clause-bits
 returns-else-is_decided-clause-bits g c i h =

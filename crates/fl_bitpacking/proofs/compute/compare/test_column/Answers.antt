@@ -1,4 +1,4 @@
-use Rattle.std.proofs.Common.{◌≡◌, ◌+◌, ◌∙◌, ap, sym, arith, option_map, unwrap_or}
+use Rattle.std.proofs.Common.{◌+◌, ◌∙◌, ap, arith, option_map, unwrap_or}
 use Rattle.fl_patches.specs.PatchMaps.{patched_in}
 use Rattle.fl_patches.proofs.Parts.{ok_same}
 use Rattle.fl_column.specs.Columns.{new_bools}
@@ -17,5 +17,5 @@ returns-clause-column c =
     let valid = ok_same _ _ c.in_ok-validity.ensures in
     let long = c.in_ok-stored.ensures.long in
     column_tested test parts blocks c.with_patches-bits.result c.new.result c.requires.fit (c.with_patches-bits.ensures.long ∙ long)
-    (λ i h. c.with_patches-bits.ensures.bits i (omega arith) ∙ (ap (λ b. unwrap_or (option_map test (patched_in parts.patches i)) b) (c.in_ok-stored.ensures.bits i h ∙ (ap (λ r. passes r (item_of_blocks c.new-test.result.ptype blocks parts.packed (parts.offset + i))) c.new-test.ensures.range ∙ ap (λ t. test (item_of_blocks t blocks parts.packed (parts.offset + i))) c.new-test.ensures.typed)) ∙ answer_or test (patched_in parts.patches i) (stored parts blocks i)))
+    (λ i h. (rw c.new-test.ensures.range at (c.with_patches-bits.ensures.bits i (omega arith))) ∙ (ap (λ b. unwrap_or (option_map test (patched_in parts.patches i)) b) (c.in_ok-stored.ensures.bits i h ∙ (ap (λ r. passes r (item_of_blocks c.new-test.result.ptype blocks parts.packed (parts.offset + i))) c.new-test.ensures.range ∙ ap (λ t. test (item_of_blocks t blocks parts.packed (parts.offset + i))) c.new-test.ensures.typed)) ∙ answer_or test (patched_in parts.patches i) (stored parts blocks i)))
     (c.new.ensures ∙ ap (λ v. new_bools c.with_patches-bits.result v) valid)

@@ -1,4 +1,4 @@
-use Rattle.std.proofs.Common.{◌≡◌, ◌+◌, ◌-◌, ◌*◌, ◌∙◌, ◌≤◌, length, refl, ap, if◌then◌else◌}
+use Rattle.std.proofs.Common.{◌+◌, ◌∙◌, length, refl, ap, if◌then◌else◌}
 use Rattle.fl_column.specs.Chunks.{chunk_count}
 use Rattle.fl_bitpacking.specs.Readers.{Reader, lends_last, whole_blocks}
 use Rattle.fl_bitpacking.proofs.Lent.{all_left}

@@ -1,5 +1,5 @@
-use Rattle.std.proofs.Common.{◌≡◌, Some, ◌+◌, ◌-◌, ◌*◌, ◌∙◌, map, take, drop, rules, refl, ap, sym, arith}
-use Rattle.fl_bitpacking.specs.Blocks.{global_blocks, item_of_blocks, value_at}
+use Rattle.std.proofs.Common.{◌≡◌, Some, ◌+◌, ◌-◌, ◌*◌, map, take, drop, rules, refl, ap, sym, arith}
+use Rattle.fl_bitpacking.specs.Blocks.{global_blocks, item_of_blocks}
 use Rattle.fl_bitpacking.specs.WholeBlocks.{block_items_at}
 use Rattle.fl_bitpacking.specs.Readers.{Reader}
 use Rattle.fl_bitpacking.proofs.Slices.{integers_between}

@@ -1,4 +1,4 @@
-use Rattle.std.proofs.Common.{◌≡◌, ◌+◌, ◌*◌, ℕ, ◌∙◌, map, refl, ap, rules}
+use Rattle.std.proofs.Common.{◌≡◌, ◌+◌, ◌*◌, ℕ, ◌∙◌, ap}
 use Rattle.fl_bitpacking.specs.Blocks.{global_blocks, item_of_blocks}
 use Rattle.fl_bitpacking.specs.UnpackedBlocks.{BlockItems}
 use Rattle.fl_bitpacking.specs.WholeBlocks.{block_items_at}

@@ -1,0 +1,180 @@
+-- What the steps of the search answer, by what the calls in them answered.
+use Rattle.std.proofs.Common.{◌≡◌, ◌≤◌, ◌<◌, ℕ, ◌-◌, ℤ, Bool, true, false, List, [], ◌∷◌, length, Option, Some, None, Ok, Err, ap, sym, subst, ◌∙◌, inl, inr}
+use Rattle.std.specs.Prelude.{IfErr, IfOk, IsTrue, Result}
+use Rattle.fl_types.specs.declared.error.FastLanesError.{FastLanesError}
+use Rattle.fl_types.specs.declared.error.FastLanesError.TheVariants.{NoMinimum, OutOfMemory}
+use Rattle.fl_types.specs.declared.validity.Validity.{Validity}
+use Rattle.fl_types.specs.Refusals.{Answers, Refuses}
+use Rattle.fl_types.specs.Validities.{covers}
+use Rattle.fl_types.specs.Values.{ScalarParts}
+use Rattle.fl_types.proofs.RefusalLaws.{Refuses_cases}
+use Rattle.fl_column.specs.Columns.{ConstantParts, PrimitiveParts, column_of_primitive}
+use Rattle.fl_column.specs.Questions.{are_constant}
+use Rattle.fl_codec.specs.FoRColumns.{least_by, reading}
+use Rattle.fl_codec.specs.declared.for_.ItemOrder.{ItemOrder}
+use Rattle.fl_codec.specs.declared.for_.ItemOrder.TheVariants.{Natural, Signed}
+use Rattle.fl_codec.specs.Parts.{ByChunk, Nulls, OneReference, RunParts, Whole, compress_deltas, encode_chunked_by, encode_global_by, encode_runs, items_of_primitive, subtract_min}
+use Rattle.fl_bitpacking.specs.Encoders.{AnswersUnless}
+use Rattle.fl_array.specs.Trees.{Tree, column}
+use Rattle.fl_array.specs.Trees as tree
+use Rattle.fl_array.proofs.EncodedRLE.{ok_is}
+use Rattle.fl_encode.specs.declared.scheme.Packing.TheVariants.{BestWidth, BestWidths}
+use Rattle.fl_encode.specs.declared.scheme.Scheme.{Scheme}
+use Rattle.fl_encode.specs.Encodings.{EncodesAs}
+use Rattle.fl_encode.specs.Packings.{constant_of}
+use Rattle.fl_encode.specs.Shapes.{BitPacked, Constant, Delta, Primitive, Shape, shape}
+use Rattle.fl_serde.specs.ByteCounts.{primitive_bytes, tree_bytes, validity_bytes}
+use Rattle.fl_compress.specs.declared.choice.Choice.{Choice}
+use Rattle.fl_compress.specs.declared.limits.Limits.{Limits}
+use Rattle.fl_compress.specs.Candidates.{candidates, delta_schemes, framed_schemes, has_level, over_chunk_references, over_deltas, over_one_reference, over_runs, packed_schemes, where_allowed, with_reference, with_references}
+use Rattle.fl_compress.specs.Cheapest.{beside, cheaper, cheapest, combined}
+use Rattle.fl_compress.specs.Choices.{chosen, or_frames, runs_of, two, with_bytes}
+use Rattle.fl_compress.specs.EncodedBytes.{encoded_bytes}
+use Rattle.fl_compress.specs.Smallest.{IsSmallest}
+use Rattle.fl_compress.proofs.CheapestLaws.{first_cheapest, wrapped}
+use Rattle.fl_compress.proofs.ListLaws.{candidate_list, chunk_list, delta_list, deltas_list, framed_list, no_candidate_list, no_delta_list, not_framed_list, nulls_list, one_list, packed_list, packings_there, runs_list, whole_list}
+use Rattle.fl_compress.proofs.MadeBytes.{free_of_refusal}
+use Rattle.fl_compress.proofs.SmallestLaws.{constant_is_constant, empty_is_plain, never_larger, smallest_is}
+
+-- ---- answers
+-- a call answered this, and that is it
+abbrev pub Gives : {X : Type 0} → X → X → Type 0
+Gives {X} a b = (let r : Result X FastLanesError = Ok a in r) ≡ Ok b
+
+pub gives : {X : Type 0} (a b : X) → a ≡ b → Gives a b
+gives {X} a b e = ap (λ x. let r : Result X FastLanesError = Ok x in r) e
+
+-- a call that answers one thing answers what is the same
+pub answers_same : (r : Result Choice FastLanesError) (x y : Option (Shape × ℕ)) → x ≡ y → Answers chosen r (Ok x) → Answers chosen r (Ok y)
+answers_same r x y e h = subst (λ z. Answers chosen r (Ok z)) e h
+
+-- ---- packed
+pub packing_choice : (p : PrimitiveParts) (allowed : Bool) (global blocked : Option ℕ) (choice : Option (Shape × ℕ)) → allowed ≡ true → Gives (encoded_bytes p (BitPacked BestWidth)) global → Gives (encoded_bytes p (BitPacked BestWidths)) blocked
+    → choice ≡ cheaper (with_bytes (BitPacked BestWidth) global) (with_bytes (BitPacked BestWidths) blocked)
+    → Gives (cheapest (encoded_bytes p) (where_allowed allowed (BitPacked BestWidth ∷ BitPacked BestWidths ∷ []))) choice
+packing_choice p allowed global blocked choice e g h c =
+    gives _ _ (packings_there p allowed e
+    ∙ (ap (λ b. cheaper (with_bytes (BitPacked BestWidth) b) (with_bytes (BitPacked BestWidths) (encoded_bytes p (BitPacked BestWidths)))) (ok_is _ _ g)
+    ∙ (ap (λ b. cheaper (with_bytes (BitPacked BestWidth) global) (with_bytes (BitPacked BestWidths) b)) (ok_is _ _ h) ∙ sym c)))
+
+pub packed_choice : (limits : Limits) (depth : ℕ) (p : PrimitiveParts) (n : ℕ) (plain constant best packing choice : Option (Shape × ℕ)) → n ≡ primitive_bytes p → plain ≡ Some (Primitive, n) → constant ≡ cheapest (encoded_bytes p) (where_allowed limits.constant (Constant ∷ []))
+    → best ≡ cheaper plain constant → Gives (cheapest (encoded_bytes p) (where_allowed (has_level limits.bitpacked depth) (BitPacked BestWidth ∷ BitPacked BestWidths ∷ []))) packing → choice ≡ cheaper best packing
+    → Gives (cheapest (encoded_bytes p) (packed_schemes limits depth)) choice
+packed_choice limits depth p n plain constant best packing choice e f g h k c =
+    let lists = packed_list limits depth p in
+    let packed = ok_is _ _ k in
+    let first : Some (Primitive, primitive_bytes p) ≡ plain = ap (λ m. let o : Option (Shape × ℕ) = Some (Primitive, m) in o) (sym e) ∙ sym f in
+    gives _ _ (cc)
+
+-- ---- frames of reference
+pub one_choice : (order : ItemOrder) (p q : PrimitiveParts) (parts : OneReference) (schemes : List Shape) (s : Shape) (n : ℕ) (choice : Option (Shape × ℕ)) → encode_global_by order p ≡ Ok parts → q ≡ parts.child
+    → Gives (cheapest (encoded_bytes q) schemes) (Some (s, n)) → Gives (Some (with_reference order s, n)) choice → Gives (cheapest (encoded_bytes p) (over_one_reference order schemes)) choice
+one_choice order p q parts schemes s n choice e f g h =
+    gives _ _ (one_list order p parts schemes e ∙ (ap (wrapped (with_reference order)) (ap (λ r. cheapest (encoded_bytes r) schemes) (sym f) ∙ ok_is _ _ g) ∙ ok_is _ _ h))
+
+-- a column without a least item is refused for that alone
+no_least : (p : PrimitiveParts) (o : Option ℤ) (refusal : FastLanesError) → subtract_min p o ≡ Err refusal → NoMinimum ≡ refusal
+no_least p None refusal e = cc
+no_least p (Some z) refusal e = cc
+
+pub only_no_minimum : (order : ItemOrder) (p : PrimitiveParts) (refusal : FastLanesError) (r : Result (Option (Shape × ℕ)) FastLanesError) → Refuses refusal (encode_global_by order p) → (refusal ≡ NoMinimum → Refuses refusal r) → Refuses refusal r
+only_no_minimum order p refusal r h k = elim (Refuses_cases refusal (encode_global_by order p) h) [
+  | inl memory ↦ subst (λ e. Refuses e r) (sym memory) tt
+  | inr is ↦ k (sym (no_least p (least_by (reading order p.ptype) (items_of_primitive p)) refusal is))
+]
+
+pub whole_choice : (order : ItemOrder) (p q : PrimitiveParts) (parts : OneReference) (limits : Limits) (depth : ℕ) (child others : Option (Shape × ℕ)) (r : Result Choice FastLanesError) → encode_chunked_by order p ≡ Whole parts → q ≡ parts.child
+    → Gives (cheapest (encoded_bytes q) (packed_schemes limits depth)) child → others ≡ Some (Primitive, 0) → Answers chosen r (Ok (combined (with_references order) child others)) → Answers chosen r (Ok (cheapest (encoded_bytes p) (over_chunk_references order (packed_schemes limits depth))))
+whole_choice order p q parts limits depth child others r e f g h a =
+    let schemes = packed_schemes limits depth in
+    let here : cheapest (encoded_bytes parts.child) schemes ≡ child = ap (λ s. cheapest (encoded_bytes s) schemes) (sym f) ∙ ok_is _ _ g in
+    answers_same r _ _ (sym (whole_list order p parts limits depth e ∙ (ap (λ c. combined (with_references order) c (Some (Primitive, 0))) here ∙ ap (combined (with_references order) child) (sym h)))) a
+
+pub chunks_choice : (order : ItemOrder) (p child others : PrimitiveParts) (schemes : List Shape) (r : Result Choice FastLanesError) → encode_chunked_by order p ≡ ByChunk child others
+    → Answers chosen r (Ok (combined (with_references order) (cheapest (encoded_bytes child) schemes) (cheapest (encoded_bytes others) schemes))) → Answers chosen r (Ok (cheapest (encoded_bytes p) (over_chunk_references order schemes)))
+chunks_choice order p child others schemes r e a = answers_same r _ _ (sym (chunk_list order p child others schemes e)) a
+
+pub nulls_choice : (order : ItemOrder) (p : PrimitiveParts) (constant : ConstantParts) (reference : ScalarParts) (limits : Limits) (depth : ℕ) (child others : Option (Shape × ℕ)) (r : Result Choice FastLanesError) → encode_chunked_by order p ≡ Nulls constant reference → child ≡ Some (Primitive, 0) → others ≡ Some (Primitive, 0)
+    → Answers chosen r (Ok (combined (with_references order) child others)) → Answers chosen r (Ok (cheapest (encoded_bytes p) (over_chunk_references order (packed_schemes limits depth))))
+nulls_choice order p constant reference limits depth child others r e f g a =
+    answers_same r _ _ (sym (nulls_list order p constant reference limits depth e ∙ (ap (λ c. combined (with_references order) c (Some (Primitive, 0))) (sym f) ∙ ap (combined (with_references order) child) (sym g)))) a
+
+pub frames_choice : (order : ItemOrder) (p : PrimitiveParts) (children : List Shape) (first one many best choice : Option (Shape × ℕ)) → Gives (cheapest (encoded_bytes p) (over_one_reference order children)) one → Gives (cheapest (encoded_bytes p) (over_chunk_references order children)) many
+    → best ≡ cheaper first one → choice ≡ cheaper best many → Gives (or_frames order p children first) choice
+frames_choice order p children first one many best choice g h k c =
+    let other = ok_is _ _ g in
+    let last = ok_is _ _ h in
+    gives _ _ (cc)
+
+pub framed_choice : (limits : Limits) (depth : ℕ) (p : PrimitiveParts) (packed natural : Option (Shape × ℕ)) (r : Result Choice FastLanesError) → has_level limits.for_ depth ≡ true → Gives (cheapest (encoded_bytes p) (packed_schemes limits depth)) packed
+    → Gives (or_frames Natural p (packed_schemes limits (depth - 1)) packed) natural → Answers chosen r (Ok (or_frames Signed p (packed_schemes limits (depth - 1)) natural)) → Answers chosen r (Ok (cheapest (encoded_bytes p) (framed_schemes limits depth)))
+framed_choice limits depth p packed natural r e f g a =
+    let children = packed_schemes limits (depth - 1) in
+    answers_same r _ _ (sym (framed_list limits depth p e ∙ (ap (λ c. or_frames Signed p children (or_frames Natural p children c)) (ok_is _ _ f) ∙ ap (or_frames Signed p children) (ok_is _ _ g)))) a
+
+pub unframed_choice : (limits : Limits) (depth : ℕ) (p : PrimitiveParts) (packed : Option (Shape × ℕ)) → has_level limits.for_ depth ≡ false → Gives (cheapest (encoded_bytes p) (packed_schemes limits depth)) packed → Gives (cheapest (encoded_bytes p) (framed_schemes limits depth)) packed
+unframed_choice limits depth p packed e f = gives _ _ (not_framed_list limits depth p e ∙ ok_is _ _ f)
+
+-- ---- deltas
+pub deltas_choice : (p bases deltas : PrimitiveParts) (v : Validity) (own len : ℕ) (schemes : List Shape) (r : Result Choice FastLanesError) → compress_deltas p ≡ (bases, deltas) → own ≡ validity_bytes len v → len ≡ length p.slots → v ≡ p.validity
+    → Answers chosen r (Ok (combined Delta (cheapest (encoded_bytes bases) schemes) (beside own (cheapest (encoded_bytes deltas) schemes)))) → Answers chosen r (Ok (cheapest (encoded_bytes p) (over_deltas schemes)))
+deltas_choice p bases deltas v own len schemes r e f g h a =
+    let bytes : own ≡ validity_bytes (length p.slots) p.validity = f ∙ (ap (λ n. validity_bytes n v) g ∙ ap (validity_bytes (length p.slots)) h) in
+    answers_same r _ _ (sym (deltas_list p schemes
+    ∙ (ap (λ (x : PrimitiveParts × PrimitiveParts). combined Delta (cheapest (encoded_bytes x.0) schemes) (beside (validity_bytes (length p.slots) p.validity) (cheapest (encoded_bytes x.1) schemes))) e
+    ∙ ap (λ n. combined Delta (cheapest (encoded_bytes bases) schemes) (beside n (cheapest (encoded_bytes deltas) schemes))) (sym bytes)))) a
+
+pub delta_choice : (limits : Limits) (depth : ℕ) (p : PrimitiveParts) (framed deltas choice : Option (Shape × ℕ)) → has_level limits.delta depth ≡ true → Gives (cheapest (encoded_bytes p) (framed_schemes limits depth)) framed
+    → Gives (cheapest (encoded_bytes p) (over_deltas (framed_schemes limits (depth - 1)))) deltas → choice ≡ cheaper framed deltas → Gives (cheapest (encoded_bytes p) (delta_schemes limits depth)) choice
+delta_choice limits depth p framed deltas choice e f g c =
+    let lists = delta_list limits depth p e in
+    let first = ok_is _ _ f in
+    let other = ok_is _ _ g in
+    gives _ _ (cc)
+
+pub no_delta_choice : (limits : Limits) (depth : ℕ) (p : PrimitiveParts) (framed : Option (Shape × ℕ)) → has_level limits.delta depth ≡ false → Gives (cheapest (encoded_bytes p) (framed_schemes limits depth)) framed → Gives (cheapest (encoded_bytes p) (delta_schemes limits depth)) framed
+no_delta_choice limits depth p framed e f = gives _ _ (no_delta_list limits depth p e ∙ ok_is _ _ f)
+
+-- ---- runs
+pub runs_choice : (p : PrimitiveParts) (runs : RunParts) (values others : List Shape) (r : Result Choice FastLanesError) → encode_runs p ≡ runs
+    → Answers chosen r (Ok (combined runs_of (cheapest (encoded_bytes runs.values) values) (combined two (cheapest (encoded_bytes runs.indices) others) (cheapest (encoded_bytes runs.offsets) others))))
+    → Answers chosen r (Ok (cheapest (encoded_bytes p) (over_runs values others)))
+runs_choice p runs values others r e a =
+    answers_same r _ _ (sym (runs_list p values others
+    ∙ ap (λ (x : RunParts). combined runs_of (cheapest (encoded_bytes x.values) values) (combined two (cheapest (encoded_bytes x.indices) others) (cheapest (encoded_bytes x.offsets) others))) e)) a
+
+pub whole_search : (limits : Limits) (p : PrimitiveParts) (best runs choice : Option (Shape × ℕ)) → has_level limits.rle limits.depth ≡ true → Gives (cheapest (encoded_bytes p) (delta_schemes limits limits.depth)) best
+    → Gives (cheapest (encoded_bytes p) (over_runs (delta_schemes limits (limits.depth - 1)) (framed_schemes limits (limits.depth - 1)))) runs → choice ≡ cheaper best runs → Gives (cheapest (encoded_bytes p) (candidates limits)) choice
+whole_search limits p best runs choice e f g c =
+    let lists = candidate_list limits p e in
+    let first = ok_is _ _ f in
+    let other = ok_is _ _ g in
+    gives _ _ (cc)
+
+pub search_without_runs : (limits : Limits) (p : PrimitiveParts) (best : Option (Shape × ℕ)) → has_level limits.rle limits.depth ≡ false → Gives (cheapest (encoded_bytes p) (delta_schemes limits limits.depth)) best → Gives (cheapest (encoded_bytes p) (candidates limits)) best
+search_without_runs limits p best e f = gives _ _ (no_candidate_list limits p e ∙ ok_is _ _ f)
+
+-- ---- the array
+pub smallest_made : (limits : Limits) (p : PrimitiveParts) (scheme : Scheme) (n : ℕ) (r : Result Tree FastLanesError) → Gives (cheapest (encoded_bytes p) (candidates limits)) (Some (shape scheme, n)) → EncodesAs scheme p r → IfOk r (IsSmallest (candidates limits) p)
+smallest_made limits p scheme n (Ok t) e h = smallest_is (candidates limits) p scheme n t (ok_is _ _ e) h.form
+smallest_made limits p scheme n (Err f) e h = tt
+
+pub memory_alone : (limits : Limits) (p : PrimitiveParts) (scheme : Scheme) (n : ℕ) (r : Result Tree FastLanesError) → Gives (cheapest (encoded_bytes p) (candidates limits)) (Some (shape scheme, n)) → EncodesAs scheme p r → IfErr r (λ e. e ≡ OutOfMemory)
+memory_alone limits p scheme n (Ok t) e h = tt
+memory_alone limits p scheme n (Err f) e h =
+    let none = free_of_refusal scheme p n (first_cheapest (encoded_bytes p) (candidates limits) (shape scheme, n) (ok_is _ _ e)).own in
+    subst (λ (o : Option FastLanesError). AnswersUnless {X = Tree} o (Err f)) none h.refused
+
+pub no_larger_made : (limits : Limits) (p : PrimitiveParts) (scheme : Scheme) (n : ℕ) (r : Result Tree FastLanesError) → Gives (cheapest (encoded_bytes p) (candidates limits)) (Some (shape scheme, n)) → EncodesAs scheme p r → IfOk r (λ t. tree_bytes t ≤ primitive_bytes p)
+no_larger_made limits p scheme n (Ok t) e h = never_larger limits p t (smallest_is (candidates limits) p scheme n t (ok_is _ _ e) h.form)
+no_larger_made limits p scheme n (Err f) e h = tt
+
+pub plain_made : (limits : Limits) (p : PrimitiveParts) (scheme : Scheme) (n : ℕ) (r : Result Tree FastLanesError) → IsTrue (covers p.validity (length p.slots)) → Gives (cheapest (encoded_bytes p) (candidates limits)) (Some (shape scheme, n)) → EncodesAs scheme p r
+    → length p.slots ≡ 0 → IfOk r (λ t. t ≡ tree.Primitive p)
+plain_made limits p scheme n (Ok t) c e h none = empty_is_plain limits p scheme n t c (ok_is _ _ e) h.form none
+plain_made limits p scheme n (Err f) c e h none = tt
+
+pub constant_made : (limits : Limits) (p : PrimitiveParts) (scheme : Scheme) (n : ℕ) (r : Result Tree FastLanesError) → Gives (cheapest (encoded_bytes p) (candidates limits)) (Some (shape scheme, n)) → EncodesAs scheme p r
+    → limits.constant ≡ true → 0 < length p.slots → are_constant (column_of_primitive p).items ≡ true → IfOk r (λ t. t ≡ tree.Constant (constant_of p))
+constant_made limits p scheme n (Ok t) e h allowed some same = constant_is_constant limits p scheme n t (ok_is _ _ e) h.form allowed some same
+constant_made limits p scheme n (Err f) e h allowed some same = tt

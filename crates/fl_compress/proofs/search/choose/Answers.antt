@@ -1,0 +1,11 @@
+use Rattle.std.proofs.Common.{sym, ◌∙◌}
+use Rattle.fl_compress.specs.Choices.{chosen}
+use Rattle.fl_compress.proofs.AnswerLaws.{search_without_runs, whole_search}
+use Rattle.fl_compress.proofs.search.choose.Goals as goal
+
+pub returns-then-not-has_level : goal.returns-then-not-has_level
+returns-then-not-has_level c = search_without_runs c.args.limits.now c.args.array.now (chosen c.in_ok-best.best) (sym c.has_level.ensures ∙ c.if-not-has_level.true) c.in_ok-best.ensures.choice
+
+pub returns : goal.returns
+returns c =
+    whole_search c.args.limits.now c.args.array.now (chosen c.in_ok-best.best) (chosen c.in_ok-runs.runs) (chosen c.cheaper.result) (sym c.has_level.ensures ∙ c.if-not-has_level.false) c.in_ok-best.ensures.choice c.in_ok-runs.ensures c.cheaper.ensures.choice

@@ -1,0 +1,11 @@
+use Rattle.std.proofs.Common.{sym, ◌∙◌}
+use Rattle.fl_compress.specs.Choices.{chosen}
+use Rattle.fl_compress.proofs.AnswerLaws.{delta_choice, no_delta_choice}
+use Rattle.fl_compress.proofs.search.choose_framed_or_deltas.Goals as goal
+
+pub returns-then-not-has_level-clause-choice : goal.returns-then-not-has_level-clause-choice
+returns-then-not-has_level-clause-choice c = no_delta_choice c.args.limits.now c.args.depth c.args.array.now (chosen c.in_ok-framed.framed) (sym c.has_level.ensures ∙ c.if-not-has_level.true) c.in_ok-framed.ensures.choice
+
+pub returns-clause-choice : goal.returns-clause-choice
+returns-clause-choice c =
+    delta_choice c.args.limits.now c.args.depth c.args.array.now (chosen c.in_ok-framed.framed) (chosen c.in_ok-deltas.deltas) (chosen c.cheaper.result) (sym c.has_level.ensures ∙ c.if-not-has_level.false) c.in_ok-framed.ensures.choice c.in_ok-deltas.ensures c.cheaper.ensures.choice

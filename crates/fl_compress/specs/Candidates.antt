@@ -1,0 +1,68 @@
+-- The schemes among which the smallest is sought, in their order.
+use Rattle.std.specs.Prelude.{◌-◌, ◌&&◌, ℕ, Bool, true, List, [], ◌∷◌, ◌++◌, map, flat_map, nat_lt, if◌then◌else◌}
+use Rattle.fl_codec.specs.declared.for_.ItemOrder.{ItemOrder}
+use Rattle.fl_codec.specs.declared.for_.ItemOrder.TheVariants.{Natural, Signed}
+use Rattle.fl_encode.specs.declared.scheme.Packing.TheVariants.{BestWidth, BestWidths}
+use Rattle.fl_encode.specs.Shapes.{BitPacked, Constant, Delta, FoR, FoRChunked, FoRChunkedWrapped, FoRWrapped, Primitive, RLE, Shape}
+use Rattle.fl_compress.specs.declared.limits.Limits.{Limits}
+
+-- these schemes, where they are allowed
+abbrev pub where_allowed : Bool → List Shape → List Shape
+where_allowed allowed schemes = if allowed then schemes else []
+
+-- an encoding is allowed, and there is a level left for it
+abbrev pub has_level : Bool → ℕ → Bool
+has_level allowed depth = allowed && nat_lt 0 depth
+
+-- plain, constant, and bit-packed at the best width or the best widths
+unfoldable pub packed_schemes : Limits → ℕ → List Shape
+packed_schemes limits depth =
+    Primitive ∷ (where_allowed limits.constant (Constant ∷ []) ++ where_allowed (has_level limits.bitpacked depth) (BitPacked BestWidth ∷ BitPacked BestWidths ∷ []))
+
+-- one reference, which is the least item by an order
+abbrev pub with_reference : ItemOrder → Shape → Shape
+with_reference Natural encoded = FoR encoded
+with_reference Signed encoded = FoRWrapped encoded
+
+-- a reference for each chunk
+abbrev pub with_references : ItemOrder → Shape → Shape → Shape
+with_references Natural encoded references = FoRChunked encoded references
+with_references Signed encoded references = FoRChunkedWrapped encoded references
+
+-- one reference over each of these
+abbrev pub over_one_reference : ItemOrder → List Shape → List Shape
+over_one_reference order children = map (with_reference order) children
+
+-- a reference for each chunk over each two of these
+abbrev pub over_chunk_references : ItemOrder → List Shape → List Shape
+over_chunk_references order children = flat_map (λ encoded. map (with_references order encoded) children) children
+
+-- frames of reference over these, by either order
+abbrev pub over_frames : List Shape → List Shape
+over_frames children = over_one_reference Natural children ++ (over_chunk_references Natural children ++ (over_one_reference Signed children ++ over_chunk_references Signed children))
+
+-- those, and frames of reference whose children are packed
+unfoldable pub framed_schemes : Limits → ℕ → List Shape
+framed_schemes limits depth = packed_schemes limits depth ++ where_allowed (has_level limits.for_ depth) (over_frames (packed_schemes limits (depth - 1)))
+
+-- deltas over each two of these
+abbrev pub over_deltas : List Shape → List Shape
+over_deltas children = flat_map (λ bases. map (Delta bases) children) children
+
+-- those, and deltas whose children are framed
+unfoldable pub delta_schemes : Limits → ℕ → List Shape
+delta_schemes limits depth = framed_schemes limits depth ++ where_allowed (has_level limits.delta depth) (over_deltas (framed_schemes limits (depth - 1)))
+
+-- runs over each of these values, and each two of the others
+abbrev pub over_runs : List Shape → List Shape → List Shape
+over_runs values others = flat_map (λ v. flat_map (λ i. map (RLE v i) others) others) values
+
+-- those, and runs whose values are deltas or framed, and whose other children are framed
+unfoldable pub candidates : Limits → List Shape
+candidates limits =
+    delta_schemes limits limits.depth
+    ++ where_allowed (has_level limits.rle limits.depth) (over_runs (delta_schemes limits (limits.depth - 1)) (framed_schemes limits (limits.depth - 1)))
+
+-- three levels of all encodings
+abbrev pub default_limits : Limits
+default_limits = record { depth = 3; constant = true; bitpacked = true; for_ = true; delta = true; rle = true }

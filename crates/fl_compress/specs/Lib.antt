@@ -1,0 +1,5 @@
+pub mod Cheapest
+pub mod EncodedBytes
+pub mod Candidates
+pub mod Choices
+pub mod Smallest

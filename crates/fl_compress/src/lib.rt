@@ -1,0 +1,15 @@
+//! The smallest of all nestings of encodings: a scheme is chosen by how many bytes the array takes by it, and
+//! then run.
+//!
+//! The bytes of children add up, so the best scheme has the best child in each slot: it is sought slot by slot,
+//! in arrays of the parts that an encoding makes, and no array is encoded but by the scheme that is chosen.
+#![tactic(auto)]
+
+mod choice;
+pub mod compression;
+pub mod limits;
+mod packing;
+mod search;
+
+pub use crate::compression::{compress, compress_within};
+pub use crate::limits::Limits;

@@ -1,0 +1,320 @@
+-- What is read before a wrong byte begins the text of some scheme.
+use Rattle.std.proofs.Common.{◌≡◌, ◌+◌, ◌-◌, ◌==◌, ◌&&◌, ◌++◌, ◌⊎◌, ℕ, zero, suc, false, List, [], ◌∷◌, length, take, Option, Some, None, Ok, Err, refl, ap, sym, subst, ◌∙◌, inl, inr, arith, append_assoc, append-nil, length-append, max}
+use Rattle.std.specs.Prelude.{Result, codes}
+use Rattle.std.specs.Option.{option_map_or}
+use Rattle.std.proofs.lemmas.Bool.{cases_Bool, cases_lt}
+use Rattle.std.proofs.lemmas.List.{take-append-le, take_all}
+use Rattle.fl_encode.specs.declared.scheme.Packing.TheVariants.{BestWidth, BestWidths, Width}
+use Rattle.fl_encode.specs.declared.text.reading.Frame.{Frame}
+use Rattle.fl_encode.specs.declared.text.reading.Frame.TheVariants as frames
+use Rattle.fl_encode.specs.declared.text.reading.Head.{Head}
+use Rattle.fl_encode.specs.declared.text.reading.Head.TheVariants as heads
+use Rattle.fl_encode.specs.Grammar.{AreThreeChildren, AreTwoChildren, BeginsScheme, IsOneChild, IsTextOf, IsWidthText}
+use Rattle.fl_encode.specs.Shapes.{BitPacked, Constant, Delta, FoR, FoRChunked, FoRChunkedWrapped, FoRWrapped, Plain, Primitive, RLE, Shape, is_plain}
+use Rattle.fl_encode.specs.Texts.{after, child_by, common, expected, frame_by, frame_in, furthest, goes_on, head_in, one_by, packing_behind, positioned, rest_behind, scheme_by, scheme_in, scheme_of_text, tail_behind, three_by, two_by, whole, width_in}
+use Rattle.fl_encode.proofs.GrammarLaws.{IsHead, Reader, Sound, child_said, equal_bytes, expected_is, forget, head_said, letters, rest_is, scheme_said, tail_is}
+
+-- ---- steps of a reader
+ok_err : {A C : Type 0} (x : A) (left : ℕ) → (let r : Result A ℕ = Ok x in r) ≡ Err left → C
+ok_err x left e = absurd cc
+
+same_err : {A : Type 0} (left other : ℕ) → (let r : Result A ℕ = Err left in r) ≡ Err other → left ≡ other
+same_err left other e = cc
+
+abbrev Fails : {A B : Type 0} → Result A ℕ → (A → Result B ℕ) → ℕ → Type 0
+Fails {A = A} r next left = (r ≡ Err left) ⊎ ((x : A) × (r ≡ Ok x) × (next x ≡ Err left))
+
+after_err : {A B : Type 0} (r : Result A ℕ) (next : A → Result B ℕ) (left : ℕ) → after r next ≡ Err left → Fails r next left
+after_err (Ok x) next left e = inr (x, refl, e)
+after_err (Err other) next left e = inl (ap (λ (n : ℕ). Err n) (same_err other left e))
+
+abbrev FailsBehind : {B : Type 0} → (List ℕ → Result B ℕ) → Option (List ℕ) → Result B ℕ → ℕ → Type 0
+FailsBehind f o d left = ((rest : List ℕ) × (o ≡ Some rest) × (f rest ≡ Err left)) ⊎ (d ≡ Err left)
+
+option_err : {B : Type 0} (f : List ℕ → Result B ℕ) (o : Option (List ℕ)) (d : Result B ℕ) (left : ℕ) → option_map_or f o d ≡ Err left → FailsBehind f o d left
+option_err f None d left e = inr e
+option_err f (Some rest) d left e = inl (rest, refl, e)
+
+-- ---- texts that are cut
+-- so much is left of a text of which the rest, with more behind it, is one of these
+abbrev Cut : (List ℕ → Type 0) → List ℕ → ℕ → Type 0
+Cut P text left = (done : List ℕ) × (more : List ℕ) × (rest : List ℕ) × (text ≡ done ++ rest) × (length rest ≡ left) × P (done ++ more)
+
+cut_behind : (P Q : List ℕ → Type 0) (front tail text inner : List ℕ) (left : ℕ) → text ≡ front ++ inner → ((own : List ℕ) → P own → Q (front ++ (own ++ tail))) → Cut P inner left → Cut Q text left
+cut_behind P Q front tail text inner left e to (done, more, rest, is, size, holds) =
+    let joined : front ++ ((done ++ more) ++ tail) ≡ (front ++ done) ++ (more ++ tail) = ap (λ (t : List ℕ). front ++ t) (append_assoc done more tail) ∙ sym (append_assoc front done (more ++ tail)) in (
+      front ++ done,
+      more ++ tail,
+      rest,
+      e ∙ (ap (λ (t : List ℕ). front ++ t) is ∙ sym (append_assoc front done rest)),
+      size,
+      subst Q joined (to (done ++ more) holds),
+    )
+
+expected_left : (byte : ℕ) (text : List ℕ) (left : ℕ) → expected byte text ≡ Err left → length text ≡ left
+expected_left byte text left e = elim (option_err (λ r. Ok r) (tail_behind byte text) (Err (length text)) left e) [
+  | inl (rest, is, missing) ↦ ok_err rest left missing
+  | inr missing ↦ same_err (length text) left missing
+]
+
+abbrev SomeScheme : List ℕ → Type 0
+SomeScheme own = (s : Shape) × IsTextOf s own × (is_plain s ≡ false)
+
+abbrev SomeChild : List ℕ → Type 0
+SomeChild own = (s : Shape) × IsTextOf s own
+
+abbrev Cuts : Reader → Type 0
+Cuts read = (text : List ℕ) (left : ℕ) → read text ≡ Err left → Cut SomeScheme text left
+
+-- ---- words
+-- a text and a word, as far as they are alike
+alike_part : (word text : List ℕ) → (done : List ℕ) × (more : List ℕ) × (rest : List ℕ) × (text ≡ done ++ rest) × (length done ≡ common word text) × (word ≡ done ++ more)
+alike_part [] text = ([], [], text, refl, refl, refl)
+alike_part (w ∷ word) [] = ([], w ∷ word, [], refl, refl, refl)
+alike_part (w ∷ word) (x ∷ text) = elim (cases_Bool (x == w)) [
+  | inl same ↦
+      let behind = alike_part word text in
+      let byte = equal_bytes x w same in
+      rw same (
+        w ∷ behind.0,
+        behind.1,
+        behind.2,
+        ap (λ (b : ℕ). b ∷ text) byte ∙ ap (λ (t : List ℕ). w ∷ t) behind.3,
+        (let size = behind.4 in omega arith),
+        ap (λ (t : List ℕ). w ∷ t) behind.5,
+      )
+  | inr other ↦ rw other ([], w ∷ word, x ∷ text, refl, refl, refl)
+]
+
+-- a text begins as a word does, as far as they are alike
+word_cut : (s : Shape) (word text : List ℕ) → IsTextOf s word → is_plain s ≡ false → (done : List ℕ) × (more : List ℕ) × (rest : List ℕ) × (text ≡ done ++ rest) × (length done ≡ common word text) × SomeScheme (done ++ more)
+word_cut s word text is p =
+    let alike = alike_part word text in
+    (alike.0, alike.1, alike.2, alike.3, alike.4, (s, subst (IsTextOf s) alike.5 is, p))
+
+abbrev Begun : List ℕ → ℕ → Type 0
+Begun text n = (done : List ℕ) × (more : List ℕ) × (rest : List ℕ) × (text ≡ done ++ rest) × (length done ≡ n) × SomeScheme (done ++ more)
+
+larger : (text : List ℕ) (m n : ℕ) → Begun text m → Begun text n → Begun text (max m n)
+larger text m n h k = elim (cases_lt m n) [
+  | inl less ↦ let same : n ≡ max m n = omega arith in subst (Begun text) same k
+  | inr more ↦ let same : m ≡ max m n = omega arith in subst (Begun text) same h
+]
+
+furthest_cut : (text : List ℕ) → Begun text (furthest text)
+furthest_cut text =
+    larger text _ _
+    (larger text _ _ (larger text _ _ (word_cut Primitive (codes "primitive") text refl refl) (word_cut Constant (codes "constant") text refl refl))
+    (larger text _ _ (word_cut (BitPacked BestWidth) (codes "bitpacked") text refl refl) (word_cut (BitPacked BestWidths) (codes "blocked") text refl refl)))
+    (larger text _ _
+    (larger text _ _ (word_cut (FoRChunkedWrapped Plain Plain) (codes "forcw") text ([], inl (refl, refl), refl) refl) (word_cut (FoRWrapped Plain) (codes "forw") text ([], inl (refl, refl), refl) refl))
+    (larger text _ _ (word_cut (Delta Plain Plain) (codes "delta") text ([], inl (refl, refl), refl) refl) (word_cut (RLE Plain Plain Plain) (codes "rle") text ([], inl (refl, refl), refl) refl)))
+
+from_begun : (text : List ℕ) (n left : ℕ) → Begun text n → length text - n ≡ left → Cut SomeScheme text left
+from_begun text n left (done, more, rest, is, size, holds) e =
+    let long : length text ≡ length done + length rest = ap length is ∙ length-append done rest in
+    (done, more, rest, is, omega arith, holds)
+
+width_left : (text : List ℕ) (left : ℕ) → width_in text ≡ Err left → length text ≡ left
+width_left [] left e = same_err 0 left e
+width_left (x ∷ rest) left e = elim (cases_Bool (goes_on 0 x)) [
+  | inl more ↦ ok_err _ left (rw more at e)
+  | inr done ↦ same_err (length (x ∷ rest)) left (rw done at e)
+]
+
+-- a colon without a width
+packing_cut : (text rest : List ℕ) (left : ℕ) → text ≡ codes "bitpacked" ++ rest → packing_behind rest ≡ Err left → Cut SomeScheme text left
+packing_cut text rest left is e = elim (option_err (λ digits. after (width_in digits) (λ w. Ok (Width w.0, w.1))) (tail_behind 58 rest) (Ok (BestWidth, rest)) left e) [
+  | inl (digits, colon, missing) ↦ elim (after_err (width_in digits) (λ w. Ok (Width w.0, w.1)) left missing) [
+    | inl fails ↦
+        let zero_width : IsWidthText 0 (codes "0") = record { some = omega arith; digits = refl; value = refl; fits = omega arith } in (
+          codes "bitpacked:",
+          codes "0",
+          digits,
+          is ∙ ap (λ (t : List ℕ). codes "bitpacked" ++ t) (tail_is 58 rest digits colon),
+          width_left digits left fails,
+          (BitPacked (Width 0), (codes "0", zero_width, refl), refl),
+        )
+    | inr (w, read, fine) ↦ ok_err _ left fine
+  ]
+  | inr fine ↦ ok_err _ left fine
+]
+
+words_cut : (text : List ℕ) (left : ℕ) (head : Head) (word : List ℕ) (d : Result (Head × List ℕ) ℕ) → (d ≡ Err left → Cut SomeScheme text left) → option_map_or (λ (rest : List ℕ). Ok (head, rest)) (rest_behind word text) d ≡ Err left → Cut SomeScheme text left
+words_cut text left head word d others e = elim (option_err (λ (rest : List ℕ). Ok (head, rest)) (rest_behind word text) d left e) [
+  | inl (rest, is, fine) ↦ ok_err (head, rest) left fine
+  | inr missing ↦ others missing
+]
+
+frames_cut : (text : List ℕ) (left : ℕ) (d : Result (Head × List ℕ) ℕ) → (d ≡ Err left → Cut SomeScheme text left) → option_map_or (λ (rest : List ℕ). Ok (heads.FoR (frame_in rest).0, (frame_in rest).1)) (rest_behind (codes "for") text) d ≡ Err left → Cut SomeScheme text left
+frames_cut text left d others e = elim (option_err (λ (rest : List ℕ). Ok (heads.FoR (frame_in rest).0, (frame_in rest).1)) (rest_behind (codes "for") text) d left e) [
+  | inl (rest, is, fine) ↦ ok_err (heads.FoR (frame_in rest).0, (frame_in rest).1) left fine
+  | inr missing ↦ others missing
+]
+
+packed_cut : (text : List ℕ) (left : ℕ) (d : Result (Head × List ℕ) ℕ) → (d ≡ Err left → Cut SomeScheme text left) → option_map_or (λ (rest : List ℕ). after (packing_behind rest) (λ p. Ok (heads.BitPacked p.0, p.1))) (rest_behind (codes "bitpacked") text) d ≡ Err left → Cut SomeScheme text left
+packed_cut text left d others e = elim (option_err (λ (rest : List ℕ). after (packing_behind rest) (λ p. Ok (heads.BitPacked p.0, p.1))) (rest_behind (codes "bitpacked") text) d left e) [
+  | inl (rest, is, fails) ↦ elim (after_err (packing_behind rest) (λ p. Ok (heads.BitPacked p.0, p.1)) left fails) [
+    | inl missing ↦ packing_cut text rest left (rest_is (codes "bitpacked") text rest is) missing
+    | inr (p, read, fine) ↦ ok_err (heads.BitPacked p.0, p.1) left fine
+  ]
+  | inr missing ↦ others missing
+]
+
+head_cut : (text : List ℕ) (left : ℕ) → head_in text ≡ Err left → Cut SomeScheme text left
+head_cut text left e =
+    words_cut text left heads.Primitive (codes "primitive") _ (words_cut text left heads.Constant (codes "constant") _ (packed_cut text left _ (words_cut text left (heads.BitPacked BestWidths) (codes "blocked") _ (frames_cut text left _ (words_cut text left heads.Delta (codes "delta") _ (words_cut text left heads.RLE (codes "rle") (Err (length text - furthest text))
+    (λ missing. from_begun text (furthest text) left (furthest_cut text) (same_err (length text - furthest text) left missing)))))))) e
+
+-- ---- children
+abbrev SomeOne : List ℕ → Type 0
+SomeOne own = (s : Shape) × IsOneChild (is_plain s) (IsTextOf s) own
+
+abbrev SomeTwo : List ℕ → Type 0
+SomeTwo own = (s : Shape) × (t : Shape) × AreTwoChildren (is_plain s && is_plain t) (IsTextOf s) (IsTextOf t) own
+
+abbrev SomeThree : List ℕ → Type 0
+SomeThree own = (s : Shape) × (t : Shape) × (u : Shape) × AreThreeChildren (is_plain s && (is_plain t && is_plain u)) (IsTextOf s) (IsTextOf t) (IsTextOf u) own
+
+child_cut : (read : Reader) → Cuts read → (text : List ℕ) (left : ℕ) → child_by read text ≡ Err left → Cut SomeChild text left
+child_cut read cuts text left e = elim (option_err (λ (rest : List ℕ). Ok (Plain, rest)) (tail_behind 95 text) (read text) left e) [
+  | inl (rest, is, fine) ↦ ok_err (Plain, rest) left fine
+  | inr missing ↦
+      let cut = cuts text left missing in
+      (cut.0, cut.1, cut.2, cut.3, cut.4, (cut.5.0, cut.5.1))
+]
+
+-- a child, and what comes behind it
+step_child : {B : Type 0} (read : Reader) → Sound read → Cuts read → (P : List ℕ → Type 0) (front tail text inner : List ℕ) (next : Shape × List ℕ → Result B ℕ) (left : ℕ) → text ≡ front ++ inner → ((own : List ℕ) → SomeChild own → P (front ++ (own ++ tail)))
+    → ((a : Shape × List ℕ) (own : List ℕ) → IsTextOf a.0 own → text ≡ (front ++ own) ++ a.1 → next a ≡ Err left → Cut P text left) → after (child_by read inner) next ≡ Err left → Cut P text left
+step_child read sound cuts P front tail text inner next left is holds behind e = elim (after_err (child_by read inner) next left e) [
+  | inl missing ↦ cut_behind SomeChild P front tail text inner left is holds (child_cut read cuts inner left missing)
+  | inr (a, fine, later) ↦
+      let said = child_said read sound inner a fine in
+      behind a said.0 said.1 (is ∙ (ap (λ (t : List ℕ). front ++ t) said.2 ∙ sym (append_assoc front said.0 a.1))) later
+]
+
+-- a byte that has to come, and what comes behind it
+step_byte : {B : Type 0} (P : List ℕ → Type 0) (byte : ℕ) (front more text inner : List ℕ) (next : List ℕ → Result B ℕ) (left : ℕ) → text ≡ front ++ inner → P (front ++ more)
+    → ((rest : List ℕ) → text ≡ (front ++ byte ∷ []) ++ rest → next rest ≡ Err left → Cut P text left) → after (expected byte inner) next ≡ Err left → Cut P text left
+step_byte P byte front more text inner next left is holds behind e = elim (after_err (expected byte inner) next left e) [
+  | inl missing ↦ (front, more, inner, is, expected_left byte inner left missing, holds)
+  | inr (rest, fine, later) ↦ behind rest (is ∙ (ap (λ (t : List ℕ). front ++ t) (expected_is byte inner rest fine) ∙ sym (append_assoc front (byte ∷ []) rest))) later
+]
+
+one_cut : (read : Reader) → Sound read → Cuts read → (text : List ℕ) (left : ℕ) → one_by read text ≡ Err left → Cut SomeOne text left
+one_cut read sound cuts text left e = elim (option_err (λ inner. after (child_by read inner) (λ a. after (expected 41 a.1) (λ rest. Ok (a.0, rest)))) (tail_behind 40 text) (Ok (Plain, text)) left e) [
+  | inl (inner, opened, fails) ↦
+      step_child read sound cuts SomeOne (40 ∷ []) (41 ∷ []) text inner _ left (tail_is 40 text inner opened) (λ own some. (some.0, inr (own, some.1, refl)))
+      (λ a own is so_far later. step_byte SomeOne 41 (40 ∷ own) (41 ∷ []) text a.1 _ left so_far (a.0, inr (own, is, refl)) (λ rest end fine. ok_err (a.0, rest) left fine) later) fails
+  | inr fine ↦ ok_err (Plain, text) left fine
+]
+
+two_text : (first second : List ℕ) → ((40 ∷ first) ++ 44 ∷ []) ++ (second ++ 41 ∷ []) ≡ 40 ∷ (first ++ 44 ∷ (second ++ 41 ∷ []))
+two_text first second = ap (λ (t : List ℕ). 40 ∷ t) (append_assoc first (44 ∷ []) (second ++ 41 ∷ []))
+
+two_cut : (read : Reader) → Sound read → Cuts read → (text : List ℕ) (left : ℕ) → two_by read text ≡ Err left → Cut SomeTwo text left
+two_cut read sound cuts text left e = elim (option_err (λ inner. after (child_by read inner) (λ a. after (expected 44 a.1) (λ more. after (child_by read more) (λ b. after (expected 41 b.1) (λ rest. Ok (a.0, b.0, rest)))))) (tail_behind 40 text) (Ok (Plain, Plain, text)) left e) [
+  | inl (inner, opened, fails) ↦
+      step_child read sound cuts SomeTwo (40 ∷ []) (44 ∷ 95 ∷ 41 ∷ []) text inner _ left (tail_is 40 text inner opened) (λ own some. (some.0, Plain, inr (own, codes "_", some.1, refl, refl)))
+      (λ a first isa so_far later. step_byte SomeTwo 44 (40 ∷ first) (44 ∷ 95 ∷ 41 ∷ []) text a.1 _ left so_far (a.0, Plain, inr (first, codes "_", isa, refl, refl))
+      (λ more comma next. step_child read sound cuts SomeTwo ((40 ∷ first) ++ 44 ∷ []) (41 ∷ []) text more _ left comma (λ own some. (a.0, some.0, inr (first, own, isa, some.1, two_text first own)))
+      (λ b second isb behind end. step_byte SomeTwo 41 (((40 ∷ first) ++ 44 ∷ []) ++ second) (41 ∷ []) text b.1 _ left behind
+      (a.0, b.0, inr (first, second, isa, isb, append_assoc ((40 ∷ first) ++ 44 ∷ []) second (41 ∷ []) ∙ two_text first second)) (λ rest closed fine. ok_err (a.0, b.0, rest) left fine) end) next) later) fails
+  | inr fine ↦ ok_err (Plain, Plain, text) left fine
+]
+
+three_text : (first second third : List ℕ) → ((((40 ∷ first) ++ 44 ∷ []) ++ second) ++ 44 ∷ []) ++ (third ++ 41 ∷ []) ≡ 40 ∷ (first ++ 44 ∷ (second ++ 44 ∷ (third ++ 41 ∷ [])))
+three_text first second third =
+    append_assoc (((40 ∷ first) ++ 44 ∷ []) ++ second) (44 ∷ []) (third ++ 41 ∷ []) ∙ (append_assoc ((40 ∷ first) ++ 44 ∷ []) second (44 ∷ (third ++ 41 ∷ []))
+    ∙ ap (λ (t : List ℕ). 40 ∷ t) (append_assoc first (44 ∷ []) (second ++ 44 ∷ (third ++ 41 ∷ []))))
+
+-- with the third child plain
+plain_third : (first second : List ℕ) → ((40 ∷ first) ++ 44 ∷ []) ++ (second ++ 44 ∷ 95 ∷ 41 ∷ []) ≡ 40 ∷ (first ++ 44 ∷ (second ++ 44 ∷ 95 ∷ 41 ∷ []))
+plain_third first second = ap (λ (t : List ℕ). 40 ∷ t) (append_assoc first (44 ∷ []) (second ++ 44 ∷ 95 ∷ 41 ∷ []))
+
+three_cut : (read : Reader) → Sound read → Cuts read → (text : List ℕ) (left : ℕ) → three_by read text ≡ Err left → Cut SomeThree text left
+three_cut read sound cuts text left e = elim (option_err (λ inner. after (child_by read inner) (λ a. after (expected 44 a.1) (λ more. after (child_by read more) (λ b. after (expected 44 b.1) (λ last. after (child_by read last) (λ c. after (expected 41 c.1) (λ rest. Ok (a.0, b.0, c.0, rest)))))))) (tail_behind 40 text) (Ok (Plain, Plain, Plain, text)) left e) [
+  | inl (inner, opened, fails) ↦
+      step_child read sound cuts SomeThree (40 ∷ []) (44 ∷ 95 ∷ 44 ∷ 95 ∷ 41 ∷ []) text inner _ left (tail_is 40 text inner opened) (λ own some. (some.0, Plain, Plain, inr (own, codes "_", codes "_", some.1, refl, refl, refl)))
+      (λ a first isa so_far later. step_byte SomeThree 44 (40 ∷ first) (44 ∷ 95 ∷ 44 ∷ 95 ∷ 41 ∷ []) text a.1 _ left so_far (a.0, Plain, Plain, inr (first, codes "_", codes "_", isa, refl, refl, refl))
+      (λ more comma next. step_child read sound cuts SomeThree ((40 ∷ first) ++ 44 ∷ []) (44 ∷ 95 ∷ 41 ∷ []) text more _ left comma (λ own some. (a.0, some.0, Plain, inr (first, own, codes "_", isa, some.1, refl, plain_third first own)))
+      (λ b second isb behind third_part. step_byte SomeThree 44 (((40 ∷ first) ++ 44 ∷ []) ++ second) (44 ∷ 95 ∷ 41 ∷ []) text b.1 _ left behind
+      (a.0, b.0, Plain, inr (first, second, codes "_", isa, isb, refl, append_assoc ((40 ∷ first) ++ 44 ∷ []) second (44 ∷ 95 ∷ 41 ∷ []) ∙ plain_third first second))
+      (λ last second_comma rest_of_it. step_child read sound cuts SomeThree ((((40 ∷ first) ++ 44 ∷ []) ++ second) ++ 44 ∷ []) (41 ∷ []) text last _ left second_comma (λ own some. (a.0, b.0, some.0, inr (first, second, own, isa, isb, some.1, three_text first second own)))
+      (λ c third isc at_end end. step_byte SomeThree 41 (((((40 ∷ first) ++ 44 ∷ []) ++ second) ++ 44 ∷ []) ++ third) (41 ∷ []) text c.1 _ left at_end
+      (a.0, b.0, c.0, inr (first, second, third, isa, isb, isc, append_assoc ((((40 ∷ first) ++ 44 ∷ []) ++ second) ++ 44 ∷ []) third (41 ∷ []) ∙ three_text first second third)) (λ rest closed fine. ok_err (a.0, b.0, c.0, rest) left fine) end) rest_of_it) third_part) next) later) fails
+  | inr fine ↦ ok_err (Plain, Plain, Plain, text) left fine
+]
+
+-- ---- schemes
+-- the same of a text with a word before it
+cut_word : (P : List ℕ → Type 0) (word text : List ℕ) (left : ℕ) → ((own : List ℕ) → P own → SomeScheme (word ++ own)) → Cut P text left → Cut SomeScheme (word ++ text) left
+cut_word P word text left to cut = cut_behind P SomeScheme word [] (word ++ text) text left refl (λ own holds. subst (λ (t : List ℕ). SomeScheme (word ++ t)) (sym (append-nil own)) (to own holds)) cut
+
+-- a call that fails where another one does
+only_first : {A B : Type 0} (r : Result A ℕ) (f : A → B) (left : ℕ) → after r (λ x. Ok (f x)) ≡ Err left → r ≡ Err left
+only_first (Ok x) f left e = ok_err (f x) left e
+only_first (Err other) f left e = ap (λ (n : ℕ). Err n) (same_err other left e)
+
+frame_by_cut : (read : Reader) → Sound read → Cuts read → (frame : Frame) (text : List ℕ) (left : ℕ) → frame_by read frame text ≡ Err left → Cut SomeScheme (codes "for" ++ (letters frame ++ text)) left
+frame_by_cut read sound cuts frames.Whole text left e =
+    cut_word SomeOne (codes "for") text left (λ own some. (FoR some.0, (own, some.1, refl), refl)) (one_cut read sound cuts text left (only_first (one_by read text) (λ a. (FoR a.0, a.1)) left e))
+frame_by_cut read sound cuts frames.WholeWrapped text left e =
+    cut_word SomeOne (codes "forw") text left (λ own some. (FoRWrapped some.0, (own, some.1, refl), refl)) (one_cut read sound cuts text left (only_first (one_by read text) (λ a. (FoRWrapped a.0, a.1)) left e))
+frame_by_cut read sound cuts frames.Chunked text left e =
+    cut_word SomeTwo (codes "forc") text left (λ own some. (FoRChunked some.0 some.1, (own, some.2, refl), refl)) (two_cut read sound cuts text left (only_first (two_by read text) (λ a. (FoRChunked a.0 a.1, a.2)) left e))
+frame_by_cut read sound cuts frames.ChunkedWrapped text left e =
+    cut_word SomeTwo (codes "forcw") text left (λ own some. (FoRChunkedWrapped some.0 some.1, (own, some.2, refl), refl)) (two_cut read sound cuts text left (only_first (two_by read text) (λ a. (FoRChunkedWrapped a.0 a.1, a.2)) left e))
+
+scheme_by_cut : (read : Reader) → Sound read → Cuts read → (head : Head) (word text : List ℕ) (left : ℕ) → IsHead head word → scheme_by read head text ≡ Err left → Cut SomeScheme (word ++ text) left
+scheme_by_cut read sound cuts heads.Primitive word text left is e = ok_err (Primitive, text) left e
+scheme_by_cut read sound cuts heads.Constant word text left is e = ok_err (Constant, text) left e
+scheme_by_cut read sound cuts (heads.BitPacked packing) word text left is e = ok_err (BitPacked packing, text) left e
+scheme_by_cut read sound cuts (heads.FoR frame) word text left is e =
+    let same : codes "for" ++ (letters frame ++ text) ≡ word ++ text = sym (ap (λ (t : List ℕ). t ++ text) is ∙ append_assoc (codes "for") (letters frame) text) in
+    subst (λ (t : List ℕ). Cut SomeScheme t left) same (frame_by_cut read sound cuts frame text left e)
+scheme_by_cut read sound cuts heads.Delta word text left is e =
+    let cut = cut_word SomeTwo (codes "delta") text left (λ own some. (Delta some.0 some.1, (own, some.2, refl), refl)) (two_cut read sound cuts text left (only_first (two_by read text) (λ a. (Delta a.0 a.1, a.2)) left e)) in
+    subst (λ (t : List ℕ). Cut SomeScheme (t ++ text) left) (sym is) cut
+scheme_by_cut read sound cuts heads.RLE word text left is e =
+    let cut = cut_word SomeThree (codes "rle") text left (λ own some. (RLE some.0 some.1 some.2, (own, some.3, refl), refl)) (three_cut read sound cuts text left (only_first (three_by read text) (λ a. (RLE a.0 a.1 a.2, a.3)) left e)) in
+    subst (λ (t : List ℕ). Cut SomeScheme (t ++ text) left) (sym is) cut
+
+scheme_cut : (depth : ℕ) → Cuts (scheme_in depth)
+scheme_cut zero text left e = ([], codes "primitive", text, refl, same_err (length text) left e, (Primitive, refl, refl))
+scheme_cut (suc depth) text left e = elim (after_err (head_in text) (λ h. scheme_by (scheme_in depth) h.0 h.1) left e) [
+  | inl missing ↦ head_cut text left missing
+  | inr (h, fine, later) ↦
+      let head = head_said text h fine in
+      let sound : Sound (scheme_in depth) = λ t y k. forget t y (scheme_said depth t y k) in
+      subst (λ (t : List ℕ). Cut SomeScheme t left) (sym head.2) (scheme_by_cut (scheme_in depth) sound (scheme_cut depth) h.0 head.0 h.1 left head.1 later)
+]
+
+-- ---- whole texts
+whole_left : (x : Shape × List ℕ) (left : ℕ) → whole x ≡ Err left → length x.1 ≡ left
+whole_left (s, []) left e = ok_err s left e
+whole_left (s, b ∷ rest) left e = same_err (length (b ∷ rest)) left e
+
+whole_cut : (text : List ℕ) (left : ℕ) → after (scheme_in (length text) text) whole ≡ Err left → Cut SomeScheme text left
+whole_cut text left e = elim (after_err (scheme_in (length text) text) whole left e) [
+  | inl missing ↦ scheme_cut (length text) text left missing
+  | inr (x, fine, later) ↦
+      let said = scheme_said (length text) text x fine in
+      (said.0, [], x.1, said.2, whole_left x left later, (x.0, subst (IsTextOf x.0) (sym (append-nil said.0)) said.1, said.3))
+]
+
+begins : (text : List ℕ) (left position : ℕ) → Cut SomeScheme text left → length text - left ≡ position → BeginsScheme (take position text)
+begins text left position (done, more, rest, is, size, some) e =
+    let long : length text ≡ length done + length rest = ap length is ∙ length-append done rest in
+    let at : position ≡ length done = omega arith in
+    let front : take position text ≡ done = ap (λ (n : ℕ). take n text) at ∙ (ap (take (length done)) is ∙ (take-append-le (length done) done rest (omega arith) ∙ take_all (length done) done (omega arith))) in
+    (some.0, more, (subst (λ (t : List ℕ). IsTextOf some.0 (t ++ more)) (sym front) some.1, some.2))
+
+at_position : (text : List ℕ) (position : ℕ) (r : Result Shape ℕ) → ((left : ℕ) → r ≡ Err left → Cut SomeScheme text left) → positioned (length text) r ≡ Err position → BeginsScheme (take position text)
+at_position text position (Ok s) cuts e = ok_err s position e
+at_position text position (Err left) cuts e = begins text left position (cuts left refl) (same_err (length text - left) position e)
+
+-- the bytes before a wrong one begin the text of some scheme
+pub begins_before : (text : List ℕ) (position : ℕ) → scheme_of_text text ≡ Err position → BeginsScheme (take position text)
+begins_before text position e = at_position text position (after (scheme_in (length text) text) whole) (whole_cut text) e

@@ -1,0 +1,72 @@
+-- The grammar of the text of schemes.
+use Rattle.std.specs.Prelude.{◌≡◌, ◌+◌, ◌-◌, ◌*◌, ◌<◌, ◌≤◌, ◌++◌, ◌&&◌, ◌⊎◌, ℕ, Bool, true, false, List, [], ◌∷◌, codes, length, nat_le, take, Result, Ok, Err}
+use Rattle.std.specs.List.{list_all}
+use Rattle.fl_encode.specs.declared.scheme.Packing.{Packing}
+use Rattle.fl_encode.specs.declared.scheme.Packing.TheVariants.{BestWidth, BestWidths, Width}
+use Rattle.fl_encode.specs.declared.scheme.Scheme.{Scheme}
+use Rattle.fl_encode.specs.declared.text.SchemeError.{SchemeError}
+use Rattle.fl_encode.specs.declared.text.SchemeError.TheVariants as errors
+use Rattle.fl_encode.specs.Shapes.{BitPacked, Constant, Delta, FoR, FoRChunked, FoRChunkedWrapped, FoRWrapped, Plain, Primitive, RLE, Shape, is_plain, shape}
+
+-- a decimal digit
+abbrev pub is_digit : ℕ → Bool
+is_digit byte = nat_le 48 byte && nat_le byte 57
+
+-- the number that digits say, behind those of another one
+abbrev pub number_of : ℕ → List ℕ → ℕ
+number_of before [] = before
+number_of before (digit ∷ digits) = number_of (10 * before + (digit - 48)) digits
+
+-- the text of a width: decimal digits, of which there is one, and the first ones may be zeros
+pub record IsWidthText (width : ℕ) (text : List ℕ) : Type 0 where
+  pub some : 0 < length text
+  pub digits : list_all is_digit text ≡ true
+  pub value : number_of 0 text ≡ width
+  pub fits : width ≤ 255
+
+-- the text of a packing: a word, and behind a colon the width where one is given
+abbrev pub IsPackingText : Packing → List ℕ → Type 0
+IsPackingText BestWidth text = text ≡ codes "bitpacked"
+IsPackingText (Width width) text = (digits : List ℕ) × IsWidthText width digits × (text ≡ codes "bitpacked:" ++ digits)
+IsPackingText BestWidths text = text ≡ codes "blocked"
+
+-- what stands behind a word with one child: nothing where it is plain, or the child in parentheses
+abbrev pub IsOneChild : Bool → (List ℕ → Type 0) → List ℕ → Type 0
+IsOneChild plain Is text = ((plain ≡ true) × (text ≡ [])) ⊎ ((child : List ℕ) × Is child × (text ≡ codes "(" ++ (child ++ codes ")")))
+
+-- the same of two children, with a comma between them
+abbrev pub AreTwoChildren : Bool → (List ℕ → Type 0) → (List ℕ → Type 0) → List ℕ → Type 0
+AreTwoChildren plain IsFirst IsSecond text =
+    ((plain ≡ true) × (text ≡ [])) ⊎ ((first : List ℕ) × (second : List ℕ) × IsFirst first × IsSecond second × (text ≡ codes "(" ++ (first ++ (codes "," ++ (second ++ codes ")")))))
+
+-- the same of three children
+abbrev pub AreThreeChildren : Bool → (List ℕ → Type 0) → (List ℕ → Type 0) → (List ℕ → Type 0) → List ℕ → Type 0
+AreThreeChildren plain IsFirst IsSecond IsThird text =
+    ((plain ≡ true) × (text ≡ [])) ⊎ ((first : List ℕ) × (second : List ℕ) × (third : List ℕ) × IsFirst first × IsSecond second × IsThird third × (text ≡ codes "(" ++ (first ++ (codes "," ++ (second ++ (codes "," ++ (third ++ codes ")")))))))
+
+-- the text says a scheme: a word, and behind it the children; an underscore is a plain child
+abbrev pub IsTextOf : Shape → List ℕ → Type 0
+IsTextOf Plain text = text ≡ codes "_"
+IsTextOf Primitive text = text ≡ codes "primitive"
+IsTextOf Constant text = text ≡ codes "constant"
+IsTextOf (BitPacked packing) text = IsPackingText packing text
+IsTextOf (FoR encoded) text = (children : List ℕ) × IsOneChild (is_plain encoded) (IsTextOf encoded) children × (text ≡ codes "for" ++ children)
+IsTextOf (FoRChunked encoded references) text = (children : List ℕ) × AreTwoChildren (is_plain encoded && is_plain references) (IsTextOf encoded) (IsTextOf references) children × (text ≡ codes "forc" ++ children)
+IsTextOf (FoRWrapped encoded) text = (children : List ℕ) × IsOneChild (is_plain encoded) (IsTextOf encoded) children × (text ≡ codes "forw" ++ children)
+IsTextOf (FoRChunkedWrapped encoded references) text = (children : List ℕ) × AreTwoChildren (is_plain encoded && is_plain references) (IsTextOf encoded) (IsTextOf references) children × (text ≡ codes "forcw" ++ children)
+IsTextOf (Delta bases deltas) text = (children : List ℕ) × AreTwoChildren (is_plain bases && is_plain deltas) (IsTextOf bases) (IsTextOf deltas) children × (text ≡ codes "delta" ++ children)
+IsTextOf (RLE values indices offsets) text = (children : List ℕ) × AreThreeChildren (is_plain values && (is_plain indices && is_plain offsets)) (IsTextOf values) (IsTextOf indices) (IsTextOf offsets) children × (text ≡ codes "rle" ++ children)
+
+-- the text of a scheme, which is no plain child
+abbrev pub IsSchemeText : Shape → List ℕ → Type 0
+IsSchemeText scheme text = IsTextOf scheme text × (is_plain scheme ≡ false)
+
+-- some scheme has a text that begins so
+abbrev pub BeginsScheme : List ℕ → Type 0
+BeginsScheme text = (scheme : Shape) × (more : List ℕ) × IsSchemeText scheme (text ++ more)
+
+-- a call answers a scheme of which this is the text; or where it is no scheme's, the position of a byte up to which it begins as some scheme's does; or memory ran out
+abbrev pub FollowsGrammar : List ℕ → Result Scheme SchemeError → Type 0
+FollowsGrammar text (Ok scheme) = IsSchemeText (shape scheme) text
+FollowsGrammar text (Err errors.OutOfMemory) = Unit {0}
+FollowsGrammar text (Err (errors.WrongByte position)) = ((scheme : Shape) → ¬ IsSchemeText scheme text) × BeginsScheme (take position text)

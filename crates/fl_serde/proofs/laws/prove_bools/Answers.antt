@@ -1,5 +1,0 @@
-use Rattle.fl_serde.proofs.PlainAgain.{bool_back}
-use Rattle.fl_serde.proofs.laws.prove_bools.Goals as goal
-
-pub returns : goal.returns
-returns c = record { reads = bool_back c.args.array.now c.validity-validity.ensures.covers }

@@ -1,0 +1,12 @@
+pub mod AnswerLaws
+pub mod BitmapLaws
+mod HandleSteps
+mod PairSteps
+pub mod ContainerLaws
+pub mod EncodeLaws
+pub mod NullLaws
+pub mod ReadLaws
+pub mod StatusLaws
+pub mod ValidityLaws
+pub mod ValueLaws
+pub mod CompressLaws

@@ -1,0 +1,42 @@
+-- How many items of a column are null.
+use Rattle.std.proofs.Common.{◌≡◌, ℕ, ℤ, ◌+◌, ◌<◌, List, [], ◌∷◌, zero, suc, length, get_or, count_by, Bool, true, false, not, Option, Some, None, cond, arith, ◌∙◌, ap, sym, refl}
+use Rattle.std.specs.Prelude.{is_none, is_some}
+use Rattle.std.proofs.lemmas.List.Sums.{sum_by-cons}
+use Rattle.fl_types.specs.declared.validity.Validity.{Validity}
+use Rattle.fl_types.specs.Validities.{is_valid_at, items_of}
+use Rattle.fl_column.specs.Columns.{Column}
+use Rattle.fl_column.proofs.ItemLaws.{get_or-items_of, length-items_of}
+use Rattle.fl_array.specs.Reads.{IsValidityOf}
+use Rattle.flcol_c.specs.Bitmaps.{null_total}
+use Rattle.flcol_c.specs.Reading.{nulls_in}
+use Rattle.flcol_c.proofs.ValidityLaws.{nulls_counted}
+
+counted : {A : Type 0} (x : Option A) (xs : List (Option A)) → count_by is_none (x ∷ xs) ≡ cond (is_none x) 1 0 + count_by is_none xs
+counted x xs = sum_by-cons (λ y. cond (is_none y) 1 0) x xs
+
+same_nulls : {A B : Type 0} (xs : List (Option A)) (ys : List (Option B)) → length xs ≡ length ys → ((i : ℕ) → i < length xs → is_none (get_or xs i None) ≡ is_none (get_or ys i None)) → count_by is_none xs ≡ count_by is_none ys
+same_nulls [] [] e h = refl
+same_nulls [] (y ∷ ys) e h = absurd (omega arith)
+same_nulls (x ∷ xs) [] e h = absurd (omega arith)
+same_nulls (x ∷ xs) (y ∷ ys) e h =
+    let first : ◌≡◌ {A = ℕ} (cond (is_none x) 1 0) (cond (is_none y) 1 0) = ap (λ b. cond b 1 0) (h 0 (omega arith)) in
+    let rest : count_by is_none xs ≡ count_by is_none ys = same_nulls xs ys (omega arith) (λ i below. h (suc i) (omega arith)) in
+    let here = counted x xs in
+    let there = counted y ys in
+    omega (arith, first, rest, here, there)
+
+no_item : {A : Type 0} (valid : Bool) (x : A) → is_none (cond valid (Some x) None) ≡ not valid
+no_item true x = refl
+no_item false x = refl
+
+not_there : {A : Type 0} (x : Option A) → not (is_some x) ≡ is_none x
+not_there None = refl
+not_there (Some x) = refl
+
+-- the nulls that a column's validity counts are the column's
+pub nulls_of_validity : (v : Validity) (c : Column) → IsValidityOf v c → null_total v (length c.items) ≡ nulls_in c
+nulls_of_validity v c h =
+    let long = length-items_of v c.items h.covered in
+    sym (nulls_counted v c.items h.covered)
+    ∙ same_nulls (items_of v c.items) c.items long (λ i below. let within : i < length c.items = omega (arith, long) in
+    ap is_none (get_or-items_of v c.items i None h.covered within) ∙ no_item (is_valid_at v i) (get_or c.items i None) ∙ (ap not (h.valid i within) ∙ not_there (get_or c.items i None)))

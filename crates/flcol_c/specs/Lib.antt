@@ -1,0 +1,14 @@
+pub mod Answering
+pub mod Bitmaps
+pub mod Containers
+pub mod Encoding
+pub mod Held
+pub mod Lending
+pub mod Looks
+pub mod Operations
+pub mod Owned
+pub mod Reading
+pub mod Statuses
+pub mod Taken
+pub mod Values
+pub mod Compressing

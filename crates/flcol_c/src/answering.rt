@@ -1,0 +1,137 @@
+//! Tests of items, answered by bitmaps.
+
+ghost use Rattle.std.specs.Prelude.{◌≡◌, IfSome, OnErr, OnOk, count_by, is_none, length};
+ghost use Rattle.fl_array.specs.Trees.{column};
+ghost use Rattle.fl_column.specs.Columns.{bools};
+ghost use Rattle.fl_column.specs.Questions.{holds, is_between};
+ghost use Rattle.flcol_c.specs.Answering.{AreAnswers, compare_fault, operator_of, options_of, strictness_of, test_fault};
+ghost use Rattle.flcol_c.specs.Bitmaps.{IsClearFrom, bitmap_len, bits_in, items_in, room_fault};
+ghost use Rattle.flcol_c.specs.Statuses.{Gives, fault_in};
+
+use crate::bitmaps::bitmap_len;
+use crate::fault::Fault;
+use crate::reading::is_of;
+use crate::validities::room_fault;
+use crate::values::write_answers;
+use fl_array::ArrayRef;
+use fl_column::{
+    BetweenOptions, BoolArray, CompareOperator, NativePType, Nullability, Scalar, StrictComparison,
+};
+use fl_ops::ArrayOps;
+use std::alloc::Global;
+
+/// The operator that a number names, if there is one.
+fn operator_of(number: u8) -> Option<CompareOperator>
+    ensures { result ≡ operator_of number }
+{
+    match number {
+        0 => Some(CompareOperator::Eq),
+        1 => Some(CompareOperator::NotEq),
+        2 => Some(CompareOperator::Gt),
+        3 => Some(CompareOperator::Gte),
+        4 => Some(CompareOperator::Lt),
+        5 => Some(CompareOperator::Lte),
+        _ => None,
+    }
+}
+
+/// A bound is left out where the number is not 0.
+fn strictness_of(number: u8) -> StrictComparison
+    ensures { result ≡ strictness_of number }
+{
+    if number == 0 {
+        StrictComparison::NonStrict
+    } else {
+        StrictComparison::Strict
+    }
+}
+
+/// Writes answers, and which of them are valid, where there is room for that bitmap.
+///
+/// # Errors
+/// `WrongLength` where the bytes are neither those of a bitmap nor none, `ValidityLength` where there is none and
+/// an answer is null.
+fn write_tested(answers: &BoolArray, bits: &mut [u8], validity: &mut [u8]) -> Result<(), Fault>
+    requires { length bits.old ≡ bitmap_len (length answers.now.bits) }
+    ensures fault { fault_in result ≡ room_fault (length validity.old) (length answers.now.bits) (count_by is_none (bools answers.now)) }
+    ensures items { OnOk result (bools answers.now ≡ items_in (bits_in bits.new (length answers.now.bits)) validity.new) }
+    ensures clear { OnOk result (IsClearFrom (length answers.now.bits) bits.new) }
+    ensures clear_valid { OnOk result (IsClearFrom (length answers.now.bits) validity.new) }
+    ensures unwritten { OnErr result ((bits.new ≡ bits.old) × (validity.new ≡ validity.old)) }
+{
+    let (len, valid) = (answers.len(), answers.validity());
+    if let Some(fault) = room_fault(validity.len(), valid, len) {
+        return Err(fault);
+    }
+    write_answers(answers, bits, validity);
+    Ok(())
+}
+
+/// Writes how each item compares with a constant, and which items are valid. Bits behind theirs are not set.
+///
+/// # Errors
+/// `BadOperator`; `WrongType` where the array is not of integers of this type; `WrongLength` where the bytes of the
+/// answers are not those of a bitmap, or the others neither those of one nor none; `ValidityLength` where there is
+/// none and an item is null.
+pub(crate) fn compare<T: NativePType>(
+    alloc: Global,
+    array: &ArrayRef,
+    operator: u8,
+    constant: T,
+    bits: &mut [u8],
+    validity: &mut [u8],
+) -> Result<(), Fault>
+    ensures compared { Gives (compare_fault T.PTYPE operator (length bits.old) (length validity.old) (column array.now)) (λ _. IfSome (operator_of operator) (λ op. AreAnswers (holds op (T.value constant)) (column array.now) bits.new validity.new)) result }
+    ensures clear { OnOk result (IsClearFrom (length (column array.now).items) bits.new) }
+    ensures clear_valid { OnOk result (IsClearFrom (length (column array.now).items) validity.new) }
+    ensures unwritten { OnErr result ((bits.new ≡ bits.old) × (validity.new ≡ validity.old)) }
+{
+    let Some(operator) = operator_of(operator) else {
+        return Err(Fault::BadOperator);
+    };
+    if !is_of::<T>(array) {
+        return Err(Fault::WrongType);
+    }
+    if bits.len() != bitmap_len(array.len()) {
+        return Err(Fault::WrongLength);
+    }
+    let constant = Scalar::primitive(constant.into_pvalue(), Nullability::NonNullable);
+    let answers = array.compare(alloc, operator, &constant)?;
+    let _count = answers.len();
+    write_tested(&answers, bits, validity)
+}
+
+/// Writes whether each item lies between two bounds, each left out where its number is not 0, and which items are
+/// valid. Bits behind theirs are not set.
+///
+/// # Errors
+/// As of `compare`, but for the operator.
+pub(crate) fn between<T: NativePType>(
+    alloc: Global,
+    array: &ArrayRef,
+    bounds: (T, T),
+    strict: (u8, u8),
+    bits: &mut [u8],
+    validity: &mut [u8],
+) -> Result<(), Fault>
+    ensures tested { Gives (test_fault T.PTYPE (length bits.old) (length validity.old) (column array.now)) (λ _. AreAnswers (is_between (options_of strict.0 strict.1) (T.value bounds.0) (T.value bounds.1)) (column array.now) bits.new validity.new) result }
+    ensures clear { OnOk result (IsClearFrom (length (column array.now).items) bits.new) }
+    ensures clear_valid { OnOk result (IsClearFrom (length (column array.now).items) validity.new) }
+    ensures unwritten { OnErr result ((bits.new ≡ bits.old) × (validity.new ≡ validity.old)) }
+{
+    if !is_of::<T>(array) {
+        return Err(Fault::WrongType);
+    }
+    if bits.len() != bitmap_len(array.len()) {
+        return Err(Fault::WrongLength);
+    }
+    let lower = Scalar::primitive(bounds.0.into_pvalue(), Nullability::NonNullable);
+    let upper = Scalar::primitive(bounds.1.into_pvalue(), Nullability::NonNullable);
+    let options = BetweenOptions {
+        lower_strict: strictness_of(strict.0),
+        upper_strict: strictness_of(strict.1),
+    };
+    let answers = array.between(alloc, &lower, &upper, &options)?;
+    let _count = answers.len();
+    write_tested(&answers, bits, validity)
+}

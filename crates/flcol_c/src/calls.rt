@@ -1,0 +1,9 @@
+//! The calls that C makes.
+
+pub mod encode;
+pub mod give_back;
+pub mod look;
+pub mod make;
+pub mod operate;
+pub mod questions;
+pub mod read;

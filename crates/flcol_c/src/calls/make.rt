@@ -1,0 +1,268 @@
+//! The calls that make an array of values.
+
+ghost use Rattle.std.specs.Prelude.{◌≡◌, ◌≢◌, None, Some, map, pos};
+ghost use Rattle.fl_types.specs.declared.dtype.PType.TheVariants.{I16, I32, I64, I8, U16, U32, U64, U8};
+ghost use Rattle.fl_array.specs.Trees.{Constant, Primitive};
+ghost use Rattle.flcol_c.specs.Operations.{repeated};
+ghost use Rattle.flcol_c.specs.Statuses.{IsStatusOf, refusal_in};
+ghost use Rattle.flcol_c.specs.Values.{from_values, plain_in};
+
+use crate::handle::ArrayHandle;
+use crate::typed;
+use std::alloc::Global;
+
+/// Makes a plain array of these values, of which those are valid whose bits are set; of no nullable type where there
+/// is no byte.
+#[unsafe(no_mangle)]
+pub extern "C" fn flcol_from_u8(
+    alloc: Global,
+    values: &[u8],
+    validity: &[u8],
+    out: &mut ArrayHandle,
+) -> i32
+    ensures status { IsStatusOf (refusal_in (from_values U8 (map pos values.now) validity.now)) result }
+    ensures made { result ≡ pos 0 → out.new.tree ≡ Some (Primitive (plain_in U8 (map pos values.now) validity.now)) }
+    ensures unmade { result ≢ pos 0 → out.new ≡ out.old }
+{
+    typed::from_values(alloc, values, validity, out)
+}
+
+/// Makes a plain array of these values, of which those are valid whose bits are set; of no nullable type where there
+/// is no byte.
+#[unsafe(no_mangle)]
+pub extern "C" fn flcol_from_u16(
+    alloc: Global,
+    values: &[u16],
+    validity: &[u8],
+    out: &mut ArrayHandle,
+) -> i32
+    ensures status { IsStatusOf (refusal_in (from_values U16 (map pos values.now) validity.now)) result }
+    ensures made { result ≡ pos 0 → out.new.tree ≡ Some (Primitive (plain_in U16 (map pos values.now) validity.now)) }
+    ensures unmade { result ≢ pos 0 → out.new ≡ out.old }
+{
+    typed::from_values(alloc, values, validity, out)
+}
+
+/// Makes a plain array of these values, of which those are valid whose bits are set; of no nullable type where there
+/// is no byte.
+#[unsafe(no_mangle)]
+pub extern "C" fn flcol_from_u32(
+    alloc: Global,
+    values: &[u32],
+    validity: &[u8],
+    out: &mut ArrayHandle,
+) -> i32
+    ensures status { IsStatusOf (refusal_in (from_values U32 (map pos values.now) validity.now)) result }
+    ensures made { result ≡ pos 0 → out.new.tree ≡ Some (Primitive (plain_in U32 (map pos values.now) validity.now)) }
+    ensures unmade { result ≢ pos 0 → out.new ≡ out.old }
+{
+    typed::from_values(alloc, values, validity, out)
+}
+
+/// Makes a plain array of these values, of which those are valid whose bits are set; of no nullable type where there
+/// is no byte.
+#[unsafe(no_mangle)]
+pub extern "C" fn flcol_from_u64(
+    alloc: Global,
+    values: &[u64],
+    validity: &[u8],
+    out: &mut ArrayHandle,
+) -> i32
+    ensures status { IsStatusOf (refusal_in (from_values U64 (map pos values.now) validity.now)) result }
+    ensures made { result ≡ pos 0 → out.new.tree ≡ Some (Primitive (plain_in U64 (map pos values.now) validity.now)) }
+    ensures unmade { result ≢ pos 0 → out.new ≡ out.old }
+{
+    typed::from_values(alloc, values, validity, out)
+}
+
+/// Makes a plain array of these values, of which those are valid whose bits are set; of no nullable type where there
+/// is no byte.
+#[unsafe(no_mangle)]
+pub extern "C" fn flcol_from_i8(
+    alloc: Global,
+    values: &[i8],
+    validity: &[u8],
+    out: &mut ArrayHandle,
+) -> i32
+    ensures status { IsStatusOf (refusal_in (from_values I8 values.now validity.now)) result }
+    ensures made { result ≡ pos 0 → out.new.tree ≡ Some (Primitive (plain_in I8 values.now validity.now)) }
+    ensures unmade { result ≢ pos 0 → out.new ≡ out.old }
+{
+    typed::from_values(alloc, values, validity, out)
+}
+
+/// Makes a plain array of these values, of which those are valid whose bits are set; of no nullable type where there
+/// is no byte.
+#[unsafe(no_mangle)]
+pub extern "C" fn flcol_from_i16(
+    alloc: Global,
+    values: &[i16],
+    validity: &[u8],
+    out: &mut ArrayHandle,
+) -> i32
+    ensures status { IsStatusOf (refusal_in (from_values I16 values.now validity.now)) result }
+    ensures made { result ≡ pos 0 → out.new.tree ≡ Some (Primitive (plain_in I16 values.now validity.now)) }
+    ensures unmade { result ≢ pos 0 → out.new ≡ out.old }
+{
+    typed::from_values(alloc, values, validity, out)
+}
+
+/// Makes a plain array of these values, of which those are valid whose bits are set; of no nullable type where there
+/// is no byte.
+#[unsafe(no_mangle)]
+pub extern "C" fn flcol_from_i32(
+    alloc: Global,
+    values: &[i32],
+    validity: &[u8],
+    out: &mut ArrayHandle,
+) -> i32
+    ensures status { IsStatusOf (refusal_in (from_values I32 values.now validity.now)) result }
+    ensures made { result ≡ pos 0 → out.new.tree ≡ Some (Primitive (plain_in I32 values.now validity.now)) }
+    ensures unmade { result ≢ pos 0 → out.new ≡ out.old }
+{
+    typed::from_values(alloc, values, validity, out)
+}
+
+/// Makes a plain array of these values, of which those are valid whose bits are set; of no nullable type where there
+/// is no byte.
+#[unsafe(no_mangle)]
+pub extern "C" fn flcol_from_i64(
+    alloc: Global,
+    values: &[i64],
+    validity: &[u8],
+    out: &mut ArrayHandle,
+) -> i32
+    ensures status { IsStatusOf (refusal_in (from_values I64 values.now validity.now)) result }
+    ensures made { result ≡ pos 0 → out.new.tree ≡ Some (Primitive (plain_in I64 values.now validity.now)) }
+    ensures unmade { result ≢ pos 0 → out.new ≡ out.old }
+{
+    typed::from_values(alloc, values, validity, out)
+}
+
+/// Makes a constant array of this many times a value, without nulls, or where `is_null` is not 0 a null.
+#[unsafe(no_mangle)]
+pub extern "C" fn flcol_constant_u8(
+    alloc: Global,
+    value: u8,
+    is_null: u8,
+    len: usize,
+    out: &mut ArrayHandle,
+) -> i32
+    ensures status { IsStatusOf None result }
+    ensures made { result ≡ pos 0 → out.new.tree ≡ Some (Constant (repeated U8 (pos value) is_null len)) }
+    ensures unmade { result ≢ pos 0 → out.new ≡ out.old }
+{
+    typed::constant(alloc, value, is_null, len, out)
+}
+
+/// Makes a constant array of this many times a value, without nulls, or where `is_null` is not 0 a null.
+#[unsafe(no_mangle)]
+pub extern "C" fn flcol_constant_u16(
+    alloc: Global,
+    value: u16,
+    is_null: u8,
+    len: usize,
+    out: &mut ArrayHandle,
+) -> i32
+    ensures status { IsStatusOf None result }
+    ensures made { result ≡ pos 0 → out.new.tree ≡ Some (Constant (repeated U16 (pos value) is_null len)) }
+    ensures unmade { result ≢ pos 0 → out.new ≡ out.old }
+{
+    typed::constant(alloc, value, is_null, len, out)
+}
+
+/// Makes a constant array of this many times a value, without nulls, or where `is_null` is not 0 a null.
+#[unsafe(no_mangle)]
+pub extern "C" fn flcol_constant_u32(
+    alloc: Global,
+    value: u32,
+    is_null: u8,
+    len: usize,
+    out: &mut ArrayHandle,
+) -> i32
+    ensures status { IsStatusOf None result }
+    ensures made { result ≡ pos 0 → out.new.tree ≡ Some (Constant (repeated U32 (pos value) is_null len)) }
+    ensures unmade { result ≢ pos 0 → out.new ≡ out.old }
+{
+    typed::constant(alloc, value, is_null, len, out)
+}
+
+/// Makes a constant array of this many times a value, without nulls, or where `is_null` is not 0 a null.
+#[unsafe(no_mangle)]
+pub extern "C" fn flcol_constant_u64(
+    alloc: Global,
+    value: u64,
+    is_null: u8,
+    len: usize,
+    out: &mut ArrayHandle,
+) -> i32
+    ensures status { IsStatusOf None result }
+    ensures made { result ≡ pos 0 → out.new.tree ≡ Some (Constant (repeated U64 (pos value) is_null len)) }
+    ensures unmade { result ≢ pos 0 → out.new ≡ out.old }
+{
+    typed::constant(alloc, value, is_null, len, out)
+}
+
+/// Makes a constant array of this many times a value, without nulls, or where `is_null` is not 0 a null.
+#[unsafe(no_mangle)]
+pub extern "C" fn flcol_constant_i8(
+    alloc: Global,
+    value: i8,
+    is_null: u8,
+    len: usize,
+    out: &mut ArrayHandle,
+) -> i32
+    ensures status { IsStatusOf None result }
+    ensures made { result ≡ pos 0 → out.new.tree ≡ Some (Constant (repeated I8 value is_null len)) }
+    ensures unmade { result ≢ pos 0 → out.new ≡ out.old }
+{
+    typed::constant(alloc, value, is_null, len, out)
+}
+
+/// Makes a constant array of this many times a value, without nulls, or where `is_null` is not 0 a null.
+#[unsafe(no_mangle)]
+pub extern "C" fn flcol_constant_i16(
+    alloc: Global,
+    value: i16,
+    is_null: u8,
+    len: usize,
+    out: &mut ArrayHandle,
+) -> i32
+    ensures status { IsStatusOf None result }
+    ensures made { result ≡ pos 0 → out.new.tree ≡ Some (Constant (repeated I16 value is_null len)) }
+    ensures unmade { result ≢ pos 0 → out.new ≡ out.old }
+{
+    typed::constant(alloc, value, is_null, len, out)
+}
+
+/// Makes a constant array of this many times a value, without nulls, or where `is_null` is not 0 a null.
+#[unsafe(no_mangle)]
+pub extern "C" fn flcol_constant_i32(
+    alloc: Global,
+    value: i32,
+    is_null: u8,
+    len: usize,
+    out: &mut ArrayHandle,
+) -> i32
+    ensures status { IsStatusOf None result }
+    ensures made { result ≡ pos 0 → out.new.tree ≡ Some (Constant (repeated I32 value is_null len)) }
+    ensures unmade { result ≢ pos 0 → out.new ≡ out.old }
+{
+    typed::constant(alloc, value, is_null, len, out)
+}
+
+/// Makes a constant array of this many times a value, without nulls, or where `is_null` is not 0 a null.
+#[unsafe(no_mangle)]
+pub extern "C" fn flcol_constant_i64(
+    alloc: Global,
+    value: i64,
+    is_null: u8,
+    len: usize,
+    out: &mut ArrayHandle,
+) -> i32
+    ensures status { IsStatusOf None result }
+    ensures made { result ≡ pos 0 → out.new.tree ≡ Some (Constant (repeated I64 value is_null len)) }
+    ensures unmade { result ≢ pos 0 → out.new ≡ out.old }
+{
+    typed::constant(alloc, value, is_null, len, out)
+}

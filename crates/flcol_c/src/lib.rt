@@ -1,0 +1,21 @@
+//! Columns for C: arrays that C holds by a word, and what can be asked of them. `include/flcol.h` declares the calls.
+#![tactic(auto)]
+
+mod answering;
+mod bitmaps;
+pub mod calls;
+mod compressing;
+mod containers;
+mod encoding;
+mod fault;
+pub mod handle;
+mod kept;
+mod looks;
+mod making;
+mod operations;
+pub mod ranges;
+mod reading;
+mod typed;
+pub mod unboxed;
+mod validities;
+mod values;

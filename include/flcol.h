@@ -1,0 +1,337 @@
+/* flcol: columns of nullable integers in light encodings, proved. C11 and C++17.
+ *
+ * Link with -lflcol, or with libflcol.a alone; `pkg-config --cflags --libs flcol` has the words.
+ *
+ *     const uint32_t prices[] = {1999, 2005, 2010, 1987};
+ *     flcol_array plain = FLCOL_EMPTY, packed = FLCOL_EMPTY;
+ *     uint8_t cheap;
+ *     if (flcol_from_u32(prices, 4, NULL, 0, &plain) == FLCOL_OK &&
+ *         flcol_encode(&plain, "for(bitpacked)", 14, &packed) == FLCOL_OK &&
+ *         flcol_compare_u32(&packed, FLCOL_LT, 2000, &cheap, 1, NULL, 0) == FLCOL_OK)
+ *         printf("%#x\n", cheap);
+ *     flcol_free(&plain);
+ *     flcol_free(&packed);
+ *
+ * prints 0x9: the first price and the last one are below 2000.
+ *
+ * An array is held by a `flcol_array`, one word. What C owes, since nothing can check it:
+ *   - each `flcol_array` starts as FLCOL_EMPTY, or in memory of zeros, and is passed by its address, which is never NULL;
+ *   - an array that is held is not copied to be kept twice, and its word is neither read nor written but by the calls;
+ *   - every pointer with a length points to that many elements; with the length 0 it may be NULL;
+ *   - what a call writes (`out`, results, buffers) overlaps nothing else that it is passed: one address is never passed
+ *     for two parameters;
+ *   - an array stays on the thread that made it, and so do the arrays made of it; reads are calls too.
+ *
+ * Each call but flcol_free and flcol_abi_version answers a status, 0 where it did what it is for. With any other status
+ * it has written nothing, and each array is as it was. The first status that applies in the order of a call's list is
+ * the answer. FLCOL_OUT_OF_MEMORY may come from any call that makes or decodes an array, and is in no list.
+ *
+ * A call with `out` makes a new array there, and frees the one that `out` held before.
+ *
+ * Bitmaps are Arrow's: bit i of a bitmap is bit i % 8 of its byte i / 8, the lowest first. They are passed with their
+ * length in bytes. In a validity bitmap a set bit is a valid item; no bytes at all (NULL, 0) say that no item is null.
+ */
+#ifndef FLCOL_H
+#define FLCOL_H
+
+#include <stddef.h>
+#include <stdint.h>
+
+#ifdef __cplusplus
+extern "C" {
+#endif
+
+/* The version of this interface. */
+#define FLCOL_ABI_VERSION 1
+
+/* An array on the heap, or none. */
+typedef struct flcol_array {
+    void *at;
+} flcol_array;
+
+#ifdef __cplusplus
+#define FLCOL_EMPTY (flcol_array{nullptr})
+#else
+#define FLCOL_EMPTY ((flcol_array){NULL})
+#endif
+
+/* The items from `start` to below `start + len`. */
+typedef struct flcol_range {
+    size_t start;
+    size_t len;
+} flcol_range;
+
+/* Statuses. 1 to 40 are the refusals of the library, 42 that of a container; from 100 on those of this interface. */
+enum {
+    FLCOL_OK = 0,
+    FLCOL_OUT_OF_MEMORY = 1,
+    FLCOL_NOT_INTEGER = 2,
+    FLCOL_NEGATIVE_VALUE = 3,
+    FLCOL_WIDTH_TOO_LARGE = 4,
+    FLCOL_ALL_BLOCKS_NATIVE = 5,
+    FLCOL_BLOCK_COUNT = 6,
+    FLCOL_OFFSET_TOO_LARGE = 7,
+    FLCOL_LENGTH_OVERFLOW = 8,
+    FLCOL_VALIDITY_LENGTH = 9,
+    FLCOL_PATCH_TYPE = 10,
+    FLCOL_PATCH_LENGTH = 11,
+    FLCOL_PATCH_CONTENT = 12,
+    FLCOL_PACKED_LENGTH = 13,
+    FLCOL_BLOCK_OFFSETS_TYPE = 14,
+    FLCOL_BLOCK_OFFSETS_COUNT = 15,
+    FLCOL_BLOCK_BOUNDARY = 16,
+    FLCOL_BLOCK_SPAN = 17,
+    FLCOL_TYPE_MISMATCH = 18,
+    FLCOL_NULL_REFERENCE = 19,
+    FLCOL_REFERENCE_COUNT = 20,
+    FLCOL_NO_MINIMUM = 21,
+    FLCOL_CHILD_NULLABLE = 22,
+    FLCOL_CHILD_LENGTH = 23,
+    FLCOL_RANGE_BEYOND_CHILD = 24,
+    FLCOL_RUN_INDEX_TYPE = 25,
+    FLCOL_RUN_OFFSETS = 26,
+    FLCOL_RUN_INDEX = 27,
+    FLCOL_TOO_MANY_WIDTHS = 28,
+    FLCOL_NOT_GLOBAL = 29,
+    FLCOL_INDEX_OUT_OF_BOUNDS = 30,
+    FLCOL_RANGE_OUT_OF_BOUNDS = 31,
+    FLCOL_MASK_LENGTH = 32,
+    FLCOL_CAST_NULL = 33,
+    FLCOL_CAST_OUT_OF_RANGE = 34,
+    FLCOL_UNKNOWN_ID = 35,
+    FLCOL_BAD_METADATA = 36,
+    FLCOL_UNKNOWN_TYPE = 37,
+    FLCOL_BUFFER_COUNT = 38,
+    FLCOL_CHILD_COUNT = 39,
+    FLCOL_CHILD_MISMATCH = 40,
+    FLCOL_BAD_CONTAINER = 42,
+    FLCOL_NO_ARRAY = 100,     /* a `flcol_array` that is read holds none */
+    FLCOL_WRONG_TYPE = 101,   /* the array is not of the integers that the call's name says */
+    FLCOL_WRONG_LENGTH = 102, /* a buffer has not the length that is needed */
+    FLCOL_BAD_SCHEME = 103,   /* the text says no scheme */
+    FLCOL_BAD_OPERATOR = 104  /* no operator has the number */
+};
+
+/* Types, by the numbers that containers have; with FLCOL_NULLABLE added items may be null. FLCOL_BOOL is the type of
+   some arrays that come out of containers, which no call here reads. */
+enum {
+    FLCOL_U8 = 0,
+    FLCOL_U16 = 1,
+    FLCOL_U32 = 2,
+    FLCOL_U64 = 3,
+    FLCOL_I8 = 4,
+    FLCOL_I16 = 5,
+    FLCOL_I32 = 6,
+    FLCOL_I64 = 7,
+    FLCOL_BOOL = 8,
+    FLCOL_NULLABLE = 16
+};
+
+/* Operators of comparisons, the item on the left. */
+enum {
+    FLCOL_EQ = 0,
+    FLCOL_NOT_EQ = 1,
+    FLCOL_GT = 2,
+    FLCOL_GTE = 3,
+    FLCOL_LT = 4,
+    FLCOL_LTE = 5
+};
+
+/* The version of the interface that the library has. */
+uint32_t flcol_abi_version(void);
+
+/* ---- Make ---- */
+
+/* A plain array of these values, of which those are null whose bits are not set. With no bytes of validity it is of a
+   type without nulls, else of a nullable one. Bytes of validity behind the needed ones are not looked at.
+   FLCOL_VALIDITY_LENGTH: the bitmap has fewer bits than there are values. */
+int32_t flcol_from_u8(const uint8_t *values, size_t len, const uint8_t *validity, size_t validity_len,
+                       flcol_array *out);
+int32_t flcol_from_u16(const uint16_t *values, size_t len, const uint8_t *validity, size_t validity_len,
+                       flcol_array *out);
+int32_t flcol_from_u32(const uint32_t *values, size_t len, const uint8_t *validity, size_t validity_len,
+                       flcol_array *out);
+int32_t flcol_from_u64(const uint64_t *values, size_t len, const uint8_t *validity, size_t validity_len,
+                       flcol_array *out);
+int32_t flcol_from_i8(const int8_t *values, size_t len, const uint8_t *validity, size_t validity_len,
+                       flcol_array *out);
+int32_t flcol_from_i16(const int16_t *values, size_t len, const uint8_t *validity, size_t validity_len,
+                       flcol_array *out);
+int32_t flcol_from_i32(const int32_t *values, size_t len, const uint8_t *validity, size_t validity_len,
+                       flcol_array *out);
+int32_t flcol_from_i64(const int64_t *values, size_t len, const uint8_t *validity, size_t validity_len,
+                       flcol_array *out);
+
+/* `len` times the same value, without nulls, or where `is_null` is not 0 a null, and then of a nullable type. It takes
+   the memory of one value. */
+int32_t flcol_constant_u8(uint8_t value, uint8_t is_null, size_t len, flcol_array *out);
+int32_t flcol_constant_u16(uint16_t value, uint8_t is_null, size_t len, flcol_array *out);
+int32_t flcol_constant_u32(uint32_t value, uint8_t is_null, size_t len, flcol_array *out);
+int32_t flcol_constant_u64(uint64_t value, uint8_t is_null, size_t len, flcol_array *out);
+int32_t flcol_constant_i8(int8_t value, uint8_t is_null, size_t len, flcol_array *out);
+int32_t flcol_constant_i16(int16_t value, uint8_t is_null, size_t len, flcol_array *out);
+int32_t flcol_constant_i32(int32_t value, uint8_t is_null, size_t len, flcol_array *out);
+int32_t flcol_constant_i64(int64_t value, uint8_t is_null, size_t len, flcol_array *out);
+
+/* The array of a container's bytes, which are copied.
+   FLCOL_BAD_CONTAINER: the bytes are none. Any of 2 to 40: its array is not sound. */
+int32_t flcol_deserialize(const uint8_t *bytes, size_t len, flcol_array *out);
+
+/* ---- Encode ---- */
+
+/* The same column by a scheme, such as `for(bitpacked)`; the text needs no 0 behind it. The words are `primitive`,
+   `constant`, `bitpacked`, `bitpacked:7`, `blocked`, `for`, `forc`, `delta`, `rle`, in parentheses the schemes of the
+   children, `_` for a plain one. A text from a stranger should be short: nesting has no limit.
+   FLCOL_NO_ARRAY. FLCOL_BAD_SCHEME. FLCOL_NOT_INTEGER: an array of booleans. Then the encoding's own refusal. */
+int32_t flcol_encode(flcol_array *array, const char *scheme, size_t scheme_len, flcol_array *out);
+
+/* The smallest array of the same column that any of the library's candidate schemes makes, the first of several.
+   FLCOL_NO_ARRAY. FLCOL_NOT_INTEGER. */
+int32_t flcol_compress(flcol_array *array, flcol_array *out);
+
+/* ---- Look ---- */
+
+/* How many items there are. FLCOL_NO_ARRAY. */
+int32_t flcol_len(flcol_array *array, size_t *len);
+
+/* The type: a number of a type, with FLCOL_NULLABLE added where items may be null. FLCOL_NO_ARRAY. */
+int32_t flcol_dtype(flcol_array *array, uint8_t *dtype);
+
+/* How many items are null. FLCOL_NO_ARRAY. */
+int32_t flcol_null_count(flcol_array *array, size_t *count);
+
+/* How many bytes all buffers of the array take when it is written, UINT64_MAX if there are more; metadata are not
+   counted. FLCOL_NO_ARRAY. */
+int32_t flcol_nbytes(flcol_array *array, uint64_t *bytes);
+
+/* 1 where all items are equal, a null to a null, else 0. FLCOL_NO_ARRAY. FLCOL_NOT_INTEGER. */
+int32_t flcol_is_constant(flcol_array *array, uint8_t *answer);
+
+/* 1 where no item is above the next or, where `strict` is not 0, each is below the next, else 0; a null is below every
+   integer. FLCOL_NO_ARRAY. FLCOL_NOT_INTEGER. */
+int32_t flcol_is_sorted(flcol_array *array, uint8_t strict, uint8_t *answer);
+
+/* ---- Read ---- */
+
+/* The values and which of them are valid. `len` is the array's length; `validity_len` is (len + 7) / 8, or 0 where no
+   item is null. A value under a null says nothing; bits behind the last item are 0.
+   FLCOL_NO_ARRAY. FLCOL_WRONG_TYPE. FLCOL_WRONG_LENGTH. FLCOL_VALIDITY_LENGTH: no bytes of validity, and an item is
+   null. */
+int32_t flcol_read_u8(flcol_array *array, uint8_t *values, size_t len, uint8_t *validity, size_t validity_len);
+int32_t flcol_read_u16(flcol_array *array, uint16_t *values, size_t len, uint8_t *validity, size_t validity_len);
+int32_t flcol_read_u32(flcol_array *array, uint32_t *values, size_t len, uint8_t *validity, size_t validity_len);
+int32_t flcol_read_u64(flcol_array *array, uint64_t *values, size_t len, uint8_t *validity, size_t validity_len);
+int32_t flcol_read_i8(flcol_array *array, int8_t *values, size_t len, uint8_t *validity, size_t validity_len);
+int32_t flcol_read_i16(flcol_array *array, int16_t *values, size_t len, uint8_t *validity, size_t validity_len);
+int32_t flcol_read_i32(flcol_array *array, int32_t *values, size_t len, uint8_t *validity, size_t validity_len);
+int32_t flcol_read_i64(flcol_array *array, int64_t *values, size_t len, uint8_t *validity, size_t validity_len);
+
+/* The item at an index: `*is_null` is 1 at a null, and `*value` 0 then; else 0.
+   FLCOL_NO_ARRAY. FLCOL_WRONG_TYPE. FLCOL_INDEX_OUT_OF_BOUNDS. */
+int32_t flcol_get_u8(flcol_array *array, size_t index, uint8_t *value, uint8_t *is_null);
+int32_t flcol_get_u16(flcol_array *array, size_t index, uint16_t *value, uint8_t *is_null);
+int32_t flcol_get_u32(flcol_array *array, size_t index, uint32_t *value, uint8_t *is_null);
+int32_t flcol_get_u64(flcol_array *array, size_t index, uint64_t *value, uint8_t *is_null);
+int32_t flcol_get_i8(flcol_array *array, size_t index, int8_t *value, uint8_t *is_null);
+int32_t flcol_get_i16(flcol_array *array, size_t index, int16_t *value, uint8_t *is_null);
+int32_t flcol_get_i32(flcol_array *array, size_t index, int32_t *value, uint8_t *is_null);
+int32_t flcol_get_i64(flcol_array *array, size_t index, int64_t *value, uint8_t *is_null);
+
+/* ---- Operate ---- */
+
+/* The items from `from` to below `to`, in the same encodings. FLCOL_NO_ARRAY. FLCOL_RANGE_OUT_OF_BOUNDS. */
+int32_t flcol_slice(flcol_array *array, size_t from, size_t to, flcol_array *out);
+
+/* The items at these indices, null where an index is null. An index under a null is not looked at.
+   FLCOL_NO_ARRAY. FLCOL_VALIDITY_LENGTH. FLCOL_NOT_INTEGER. FLCOL_INDEX_OUT_OF_BOUNDS. */
+int32_t flcol_take(flcol_array *array, const uint64_t *indices, size_t len, const uint8_t *validity,
+                   size_t validity_len, flcol_array *out);
+
+/* The items of the ranges, one range after another. A range without items is skipped wherever it starts.
+   FLCOL_NO_ARRAY. FLCOL_NOT_INTEGER. FLCOL_RANGE_OUT_OF_BOUNDS. FLCOL_LENGTH_OVERFLOW. */
+int32_t flcol_take_ranges(flcol_array *array, const flcol_range *ranges, size_t count, flcol_array *out);
+
+/* The items whose bits are set. `mask_len` is (n + 7) / 8 bytes for n items.
+   FLCOL_NO_ARRAY. FLCOL_MASK_LENGTH. FLCOL_NOT_INTEGER. */
+int32_t flcol_filter(flcol_array *array, const uint8_t *mask, size_t mask_len, flcol_array *out);
+
+/* The same integers in another type.
+   FLCOL_NO_ARRAY. FLCOL_UNKNOWN_TYPE. FLCOL_NOT_INTEGER. FLCOL_CAST_NULL. FLCOL_CAST_OUT_OF_RANGE. */
+int32_t flcol_cast(flcol_array *array, uint8_t dtype, flcol_array *out);
+
+/* The same array, with a boundary for each block wherever it is bit-packed at one width. FLCOL_NO_ARRAY. */
+int32_t flcol_to_blocked(flcol_array *array, flcol_array *out);
+
+/* How each item compares with a constant, a bit each, and which items are valid. `bits_len` is (n + 7) / 8 for n items,
+   `validity_len` the same, or 0 where no item is null. The bit at a null says nothing; bits behind the last are 0.
+   FLCOL_NO_ARRAY. FLCOL_BAD_OPERATOR. FLCOL_WRONG_TYPE. FLCOL_WRONG_LENGTH. FLCOL_VALIDITY_LENGTH: no bytes of
+   validity, and an item is null. */
+int32_t flcol_compare_u8(flcol_array *array, uint8_t op, uint8_t constant, uint8_t *bits, size_t bits_len,
+                          uint8_t *validity, size_t validity_len);
+int32_t flcol_compare_u16(flcol_array *array, uint8_t op, uint16_t constant, uint8_t *bits, size_t bits_len,
+                          uint8_t *validity, size_t validity_len);
+int32_t flcol_compare_u32(flcol_array *array, uint8_t op, uint32_t constant, uint8_t *bits, size_t bits_len,
+                          uint8_t *validity, size_t validity_len);
+int32_t flcol_compare_u64(flcol_array *array, uint8_t op, uint64_t constant, uint8_t *bits, size_t bits_len,
+                          uint8_t *validity, size_t validity_len);
+int32_t flcol_compare_i8(flcol_array *array, uint8_t op, int8_t constant, uint8_t *bits, size_t bits_len,
+                          uint8_t *validity, size_t validity_len);
+int32_t flcol_compare_i16(flcol_array *array, uint8_t op, int16_t constant, uint8_t *bits, size_t bits_len,
+                          uint8_t *validity, size_t validity_len);
+int32_t flcol_compare_i32(flcol_array *array, uint8_t op, int32_t constant, uint8_t *bits, size_t bits_len,
+                          uint8_t *validity, size_t validity_len);
+int32_t flcol_compare_i64(flcol_array *array, uint8_t op, int64_t constant, uint8_t *bits, size_t bits_len,
+                          uint8_t *validity, size_t validity_len);
+
+/* Whether each item lies between two bounds, in the same way. A bound is left out where its `strict` is not 0.
+   FLCOL_NO_ARRAY. FLCOL_WRONG_TYPE. FLCOL_WRONG_LENGTH. FLCOL_VALIDITY_LENGTH. */
+int32_t flcol_between_u8(flcol_array *array, uint8_t lower, uint8_t upper, uint8_t lower_strict, uint8_t upper_strict,
+                          uint8_t *bits, size_t bits_len, uint8_t *validity, size_t validity_len);
+int32_t flcol_between_u16(flcol_array *array, uint16_t lower, uint16_t upper, uint8_t lower_strict, uint8_t upper_strict,
+                          uint8_t *bits, size_t bits_len, uint8_t *validity, size_t validity_len);
+int32_t flcol_between_u32(flcol_array *array, uint32_t lower, uint32_t upper, uint8_t lower_strict, uint8_t upper_strict,
+                          uint8_t *bits, size_t bits_len, uint8_t *validity, size_t validity_len);
+int32_t flcol_between_u64(flcol_array *array, uint64_t lower, uint64_t upper, uint8_t lower_strict, uint8_t upper_strict,
+                          uint8_t *bits, size_t bits_len, uint8_t *validity, size_t validity_len);
+int32_t flcol_between_i8(flcol_array *array, int8_t lower, int8_t upper, uint8_t lower_strict, uint8_t upper_strict,
+                          uint8_t *bits, size_t bits_len, uint8_t *validity, size_t validity_len);
+int32_t flcol_between_i16(flcol_array *array, int16_t lower, int16_t upper, uint8_t lower_strict, uint8_t upper_strict,
+                          uint8_t *bits, size_t bits_len, uint8_t *validity, size_t validity_len);
+int32_t flcol_between_i32(flcol_array *array, int32_t lower, int32_t upper, uint8_t lower_strict, uint8_t upper_strict,
+                          uint8_t *bits, size_t bits_len, uint8_t *validity, size_t validity_len);
+int32_t flcol_between_i64(flcol_array *array, int64_t lower, int64_t upper, uint8_t lower_strict, uint8_t upper_strict,
+                          uint8_t *bits, size_t bits_len, uint8_t *validity, size_t validity_len);
+
+/* ---- Give back ---- */
+
+/* How many bytes flcol_serialize writes. FLCOL_NO_ARRAY. FLCOL_BAD_CONTAINER: the array has no container, as where more
+   than sixteen arrays stand in one another. */
+int32_t flcol_serialized_len(flcol_array *array, size_t *len);
+
+/* The array as a container, in exactly that many bytes. FLCOL_NO_ARRAY. FLCOL_BAD_CONTAINER. FLCOL_WRONG_LENGTH. */
+int32_t flcol_serialize(flcol_array *array, uint8_t *bytes, size_t len);
+
+/* Frees the array, if one is held, which is none from then on. */
+void flcol_free(flcol_array *array);
+
+/* The name of a status, as `OutOfMemory`. */
+static inline const char *flcol_status_name(int32_t status) {
+    static const char *const names[] = {
+        "Ok", "OutOfMemory", "NotInteger", "NegativeValue", "WidthTooLarge", "AllBlocksNative", "BlockCount",
+        "OffsetTooLarge", "LengthOverflow", "ValidityLength", "PatchType", "PatchLength", "PatchContent", "PackedLength",
+        "BlockOffsetsType", "BlockOffsetsCount", "BlockBoundary", "BlockSpan", "TypeMismatch", "NullReference",
+        "ReferenceCount", "NoMinimum", "ChildNullable", "ChildLength", "RangeBeyondChild", "RunIndexType", "RunOffsets",
+        "RunIndex", "TooManyWidths", "NotGlobal", "IndexOutOfBounds", "RangeOutOfBounds", "MaskLength", "CastNull",
+        "CastOutOfRange", "UnknownId", "BadMetadata", "UnknownType", "BufferCount", "ChildCount", "ChildMismatch"};
+    static const char *const own[] = {"NoArray", "WrongType", "WrongLength", "BadScheme", "BadOperator"};
+    if (status >= 0 && status <= 40) return names[status];
+    if (status == FLCOL_BAD_CONTAINER) return "BadContainer";
+    if (status >= 100 && status <= 104) return own[status - 100];
+    return "Unknown";
+}
+
+#ifdef __cplusplus
+}
+#endif
+
+#endif
