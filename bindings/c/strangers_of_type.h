@@ -1,0 +1,32 @@
+/* Questions to an array of a container from a stranger, for one type of items (each_type.h). */
+
+/* An array of this type answers all calls alike, or finds no memory. */
+static void FN(ask)(flcol_array *array, size_t n) {
+    ITEM *values = (ITEM *)malloc((n + 1) * sizeof(ITEM)), value = 0;
+    uint8_t *valid = (uint8_t *)malloc(n / 8 + 1), *bits = (uint8_t *)malloc(n / 8 + 1), is_null = 0;
+    size_t bytes = (n + 7) / 8;
+    flcol_array part = {NULL};
+    CHECK(values != NULL && valid != NULL && bits != NULL);
+    int is_read = answers(CALL(read)(array, values, n, valid, bytes));
+    int is_compared = is_read && answers(CALL(compare)(array, FLCOL_GTE, 3, bits, bytes, valid, bytes));
+    for (size_t i = 0; i < n && is_compared; i += n / 3 + 1) {
+        if (!answers(CALL(get)(array, i, &value, &is_null))) continue;
+        CHECK(is_null == !bit(valid, i) && (is_null || (value == values[i] && bit(bits, i) == (value >= 3))));
+    }
+    if (answers(flcol_slice(array, n / 3, n, &part))) answers(CALL(read)(&part, values, n - n / 3, valid, (n - n / 3 + 7) / 8));
+    free(values), free(valid), free(bits), flcol_free(&part);
+}
+
+/* Containers of this type, in each encoding. */
+static void FN(change_all)(void) {
+    static const ITEM items[] = {7, 7, 9, 120, 9, 3, 3};
+    static const uint8_t validity[] = {0x77};
+    flcol_array plain = {NULL}, encoded = {NULL};
+    for (size_t s = 0; s < 2 * SCHEME_COUNT; s++) {
+        CHECK(CALL(from)(items, 7, validity, s % 2, &plain) == FLCOL_OK);
+        int32_t status = encode(&plain, SCHEMES[s / 2], &encoded);
+        CHECK(status == FLCOL_OK || cannot_keep(status));
+        if (status == FLCOL_OK) change_each_byte(&encoded);
+    }
+    flcol_free(&plain), flcol_free(&encoded);
+}

@@ -1,0 +1,151 @@
+"""Looks at files of columns, compresses and decodes them.
+
+    python3 -m flcol inspect FILE..
+    python3 -m flcol compress [--type u32] [--scheme 'for(bitpacked)'] IN OUT
+    python3 -m flcol decode IN OUT
+    python3 -m flcol copy [--type i64] [--scheme 'for(bitpacked)'] [--chunk 1000000] IN
+
+A file is a container, a .npy file of one dimension, or text with an integer or `null` in each line, which needs a type.
+What is decoded is text, or a .npy file where its name ends so. `copy` writes a line for each chunk of a column, as COPY of
+PostgreSQL reads it: its number, a tab, and its container in hexadecimal digits. `-` is standard input or output.
+"""
+from __future__ import annotations
+
+import argparse
+import sys
+import time
+from contextlib import contextmanager
+from typing import BinaryIO, Iterator, Optional
+
+from . import Array, Error, __version__
+from ._files import BadFile, Tell, pieces, read, writer
+
+
+@contextmanager
+def progress(what: str) -> Iterator[Tell]:
+    """A bar on the terminal for what takes longer than a second, which is wiped out at the end."""
+    begun, drawn = time.monotonic(), 0.0
+
+    def tell(done: int, whole: int) -> None:
+        nonlocal drawn
+        now = time.monotonic()
+        if sys.stderr.isatty() and now - begun > 1 and (now - drawn > 0.1 or done == whole):
+            drawn = now
+            filled = 30 * done // max(1, whole)
+            print(f"\r{what:9} [{'#' * filled:30}] {100 * done // max(1, whole):3} %", end="", file=sys.stderr, flush=True)
+
+    try:
+        yield tell
+    finally:
+        if drawn:
+            print("\r\033[K", end="", file=sys.stderr, flush=True)
+
+
+@contextmanager
+def opened(name: str, mode: str) -> Iterator[BinaryIO]:
+    """A file, or a standard stream for `-`."""
+    if name == "-":
+        yield sys.stdin.buffer if "r" in mode else sys.stdout.buffer
+    else:
+        with open(name, mode) as file:
+            yield file  # type: ignore[misc]
+
+
+def column_of(name: str, dtype: Optional[str]) -> Array:
+    with opened(name, "rb") as file, progress("reading") as tell:
+        return read(file, dtype, tell)
+
+
+def inspect(words: argparse.Namespace) -> None:
+    """Says what each file holds."""
+    for name in words.files:
+        column = column_of(name, words.type)
+        items, taken = len(column), column.nbytes
+        each = f", {8 * taken / items:.2f} bits an item" if items else ""
+        print(f"{name}: {items} items of {column.dtype}, {column.null_count} null, {taken} bytes{each}")
+
+
+def encoded(column: Array, scheme: Optional[str]) -> Array:
+    """The column by a scheme, or by the one of the fewest bytes."""
+    return column.encode(scheme) if scheme else column.compress()
+
+
+def compress(words: argparse.Namespace) -> None:
+    """Writes a column as a container."""
+    column = encoded(column_of(words.source, words.type), words.scheme)
+    with opened(words.target, "wb") as file, progress("writing") as tell:
+        container = memoryview(bytes(column))
+        for start in range(0, len(container), 1 << 24):
+            file.write(container[start : start + (1 << 24)])
+            tell(min(start + (1 << 24), len(container)), len(container))
+
+
+def decode(words: argparse.Namespace) -> None:
+    """Writes the items of a container."""
+    column = column_of(words.source, None)
+    write = writer(column, words.target)
+    with opened(words.target, "wb") as file, progress("writing") as tell:
+        write(column, file, tell)
+
+
+def copy(words: argparse.Namespace) -> None:
+    """Writes a line for each chunk of a column."""
+    with opened(words.source, "rb") as file, progress("reading") as tell:
+        for number, chunk in enumerate(pieces(file, words.type, words.chunk, tell)):
+            container = bytes(encoded(chunk, words.scheme))
+            sys.stdout.write(f"{number}\t\\\\x{container.hex()}\n")
+        sys.stdout.flush()
+
+
+def count(word: str) -> int:
+    """A number of items, 1 or more."""
+    number = int(word)
+    if number < 1:
+        raise ValueError
+    return number
+
+
+def parser() -> argparse.ArgumentParser:
+    """The words of a command line."""
+    lines = argparse.RawDescriptionHelpFormatter
+    whole = argparse.ArgumentParser("python3 -m flcol", description=__doc__, formatter_class=lines)
+    whole.add_argument("--version", action="version", version=f"flcol {__version__}")
+    commands = whole.add_subparsers(metavar="COMMAND", required=True)
+
+    looks = commands.add_parser("inspect", help="say what files hold")
+    looks.add_argument("files", nargs="+", metavar="FILE")
+    looks.set_defaults(run=inspect)
+
+    makes = commands.add_parser("compress", help="write a column as a container")
+    makes.set_defaults(run=compress)
+
+    copies = commands.add_parser("copy", help="write a line for each chunk of a column, as COPY reads it")
+    copies.add_argument("--chunk", type=count, default=1_000_000, help="how many items a chunk has")
+    copies.set_defaults(run=copy)
+
+    reads = commands.add_parser("decode", help="write the items of a container as text or .npy")
+    reads.set_defaults(run=decode)
+
+    for command in (makes, copies, reads):
+        command.add_argument("source", metavar="IN")
+    for command in (makes, reads):
+        command.add_argument("target", metavar="OUT")
+    for command in (makes, copies):
+        command.add_argument("--scheme", help="the tree of encodings; that of the fewest bytes if it is left out")
+    for command in (looks, makes, copies):
+        command.add_argument("--type", help="the type of lines of text, u8 to u64 or i8 to i64, with a ? behind for nulls")
+    return whole
+
+
+def main() -> int:
+    words = parser().parse_args()
+    try:
+        words.run(words)
+    except (Error, BadFile, OSError, TypeError, MemoryError) as error:
+        print(f"flcol: {error}", file=sys.stderr)
+        return 1
+    return 0
+
+
+if __name__ == "__main__":
+    sys.exit(main())

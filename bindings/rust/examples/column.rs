@@ -1,0 +1,85 @@
+//! Columns of text to containers and back, with the words of the program `flcol`:
+//!
+//!     column encode i32? 'for(bitpacked)' < lines > container
+//!     column decode < container > lines
+
+use flcol::{Array, DType, Item, PType};
+use std::error::Error;
+use std::fmt::{Display, Write as _};
+use std::io::{self, Read, Write};
+use std::str::FromStr;
+
+type Outcome<T> = Result<T, Box<dyn Error>>;
+
+/// Calls a function at the type that a name says.
+macro_rules! at_type {
+    ($ptype:expr, $call:ident($($argument:expr),*)) => {
+        match $ptype {
+            PType::U8 => $call::<u8>($($argument),*),
+            PType::U16 => $call::<u16>($($argument),*),
+            PType::U32 => $call::<u32>($($argument),*),
+            PType::U64 => $call::<u64>($($argument),*),
+            PType::I8 => $call::<i8>($($argument),*),
+            PType::I16 => $call::<i16>($($argument),*),
+            PType::I32 => $call::<i32>($($argument),*),
+            PType::I64 => $call::<i64>($($argument),*),
+            PType::Bool => Err("an array of booleans".into()),
+        }
+    };
+}
+
+/// The array of lines of decimal digits, or `null` where items may be null.
+fn parse<T: Item + FromStr>(lines: &str, nullable: bool) -> Outcome<Array>
+where
+    T::Err: Error + 'static,
+{
+    let item = |line: &str| match line {
+        "null" if nullable => Ok(None),
+        digits => digits.parse().map(Some),
+    };
+    let items = lines.lines().map(item).collect::<Result<Vec<Option<T>>, T::Err>>()?;
+    if nullable {
+        return Ok(Array::from_options(&items)?);
+    }
+    Ok(Array::new(&items.into_iter().flatten().collect::<Vec<T>>())?)
+}
+
+fn print<T: Item + Display>(array: &Array) -> Outcome<String> {
+    let mut lines = String::new();
+    for item in array.iter::<T>() {
+        match item? {
+            Some(value) => writeln!(lines, "{value}")?,
+            None => lines.push_str("null\n"),
+        }
+    }
+    Ok(lines)
+}
+
+fn dtype(word: &str) -> Outcome<DType> {
+    use PType::*;
+    let name = word.trim_end_matches('?');
+    let known = [U8, U16, U32, U64, I8, I16, I32, I64].into_iter().find(|it| DType::from(*it).to_string() == name);
+    Ok(DType { ptype: known.ok_or("no such type")?, nullable: word.ends_with('?') })
+}
+
+fn run(words: &[String]) -> Outcome<Vec<u8>> {
+    let mut input = Vec::new();
+    io::stdin().read_to_end(&mut input)?;
+    match words.iter().map(String::as_str).collect::<Vec<_>>()[..] {
+        ["encode", word, scheme] => {
+            let (dtype, lines) = (dtype(word)?, String::from_utf8(input)?);
+            let array = at_type!(dtype.ptype, parse(&lines, dtype.nullable))?;
+            Ok(array.encode(scheme)?.to_bytes()?)
+        }
+        ["decode"] => {
+            let array = Array::from_bytes(&input)?;
+            Ok(at_type!(array.dtype().ptype, print(&array))?.into_bytes())
+        }
+        _ => Err("usage: column encode TYPE SCHEME | column decode".into()),
+    }
+}
+
+fn main() -> Outcome<()> {
+    let words: Vec<String> = std::env::args().skip(1).collect();
+    Ok(io::stdout().write_all(&run(&words)?)?)
+}
