@@ -1,0 +1,12 @@
+SELECT flcol_len(items), flcol_get(items, 3), flcol_count(items, '<', 3), flcol_between(items, 1, 2), flcol_inspect(items) FROM columns WHERE k < 3;
+SELECT sum(item) FROM columns, flcol_unnest(items) item WHERE k < 9;
+SELECT flcol_unnest(items) FROM columns WHERE k < 3 LIMIT 2;
+SELECT flcol_len(flcol_slice(items, 0, 1)) FROM columns WHERE k < 9;
+SELECT flcol_len(flcol_agg(x)), flcol_len(flcol_agg(k)), flcol_len(flcol_agg(i::smallint)) FROM plain WHERE k < 9;
+SELECT flcol_get(items, -1) FROM columns;
+SELECT flcol_slice(items, 2, 1) FROM columns;
+SELECT flcol_agg(x, 'zip') FROM plain;
+SELECT 1 / (item - item) FROM columns, flcol_unnest(items) item;
+SELECT '\x00'::flcol;
+SELECT tried(bytes) FROM hostile WHERE name IN ('plain', 'framed') AND how <> 'cut';
+SELECT 'all was asked' AS answer;

@@ -1,0 +1,228 @@
+/* Columns that are kept: one item, items in their order, counting. */
+#include "column.h"
+
+#include <string.h>
+
+/* ---- The eight types ---- */
+
+/* The calls of flcol.h that have a type in their names, with integers of 64 bits in place of its own. */
+struct integer_type {
+    int64_t least;
+    int64_t greatest; /* of u64 that of i64, above which no constant is */
+    int32_t (*item)(const void *values, size_t index, int64_t *value);
+    int32_t (*get)(flcol_array *array, size_t index, struct item *item);
+    int32_t (*read)(flcol_array *array, void *values, size_t len, uint8_t *validity, size_t validity_len);
+    int32_t (*compare)(flcol_array *array, uint8_t op, int64_t constant, uint8_t *bits, size_t bits_len,
+                       uint8_t *validity, size_t validity_len);
+    int32_t (*between)(flcol_array *array, int64_t lower, int64_t upper, uint8_t *bits, size_t bits_len,
+                       uint8_t *validity, size_t validity_len);
+};
+
+#define DEFINE_TYPE(T, C)                                                                                             \
+    static int32_t item_##T(const void *values, size_t index, int64_t *value) {                                       \
+        const C item = ((const C *)values)[index];                                                                    \
+        const uint64_t magnitude = (uint64_t)item;                                                                    \
+        if (item > 0 && magnitude > INT64_MAX) return FLCOL_CAST_OUT_OF_RANGE;                                        \
+        *value = (int64_t)item;                                                                                       \
+        return FLCOL_OK;                                                                                              \
+    }                                                                                                                 \
+    static int32_t get_##T(flcol_array *array, size_t index, struct item *item) {                                     \
+        C value;                                                                                                      \
+        uint8_t is_null;                                                                                              \
+        const int32_t status = flcol_get_##T(array, index, &value, &is_null);                                         \
+        if (status != FLCOL_OK) return status;                                                                        \
+        item->is_null = is_null;                                                                                      \
+        return item_##T(&value, 0, &item->value);                                                                     \
+    }                                                                                                                 \
+    static int32_t read_##T(flcol_array *array, void *values, size_t len, uint8_t *validity, size_t validity_len) {   \
+        return flcol_read_##T(array, values, len, validity, validity_len);                                            \
+    }                                                                                                                 \
+    static int32_t compare_##T(flcol_array *array, uint8_t op, int64_t constant, uint8_t *bits, size_t bits_len,      \
+                               uint8_t *validity, size_t validity_len) {                                              \
+        return flcol_compare_##T(array, op, (C)constant, bits, bits_len, validity, validity_len);                     \
+    }                                                                                                                 \
+    static int32_t between_##T(flcol_array *array, int64_t lower, int64_t upper, uint8_t *bits, size_t bits_len,      \
+                               uint8_t *validity, size_t validity_len) {                                              \
+        return flcol_between_##T(array, (C)lower, (C)upper, 0, 0, bits, bits_len, validity, validity_len);            \
+    }
+
+DEFINE_TYPE(u8, uint8_t)
+DEFINE_TYPE(u16, uint16_t)
+DEFINE_TYPE(u32, uint32_t)
+DEFINE_TYPE(u64, uint64_t)
+DEFINE_TYPE(i8, int8_t)
+DEFINE_TYPE(i16, int16_t)
+DEFINE_TYPE(i32, int32_t)
+DEFINE_TYPE(i64, int64_t)
+
+#define TYPE_OF(T, LEAST, GREATEST) {LEAST, GREATEST, item_##T, get_##T, read_##T, compare_##T, between_##T}
+
+static const struct integer_type types[] = {
+    [FLCOL_U8] = TYPE_OF(u8, 0, UINT8_MAX),           [FLCOL_U16] = TYPE_OF(u16, 0, UINT16_MAX),
+    [FLCOL_U32] = TYPE_OF(u32, 0, UINT32_MAX),        [FLCOL_U64] = TYPE_OF(u64, 0, INT64_MAX),
+    [FLCOL_I8] = TYPE_OF(i8, INT8_MIN, INT8_MAX),     [FLCOL_I16] = TYPE_OF(i16, INT16_MIN, INT16_MAX),
+    [FLCOL_I32] = TYPE_OF(i32, INT32_MIN, INT32_MAX), [FLCOL_I64] = TYPE_OF(i64, INT64_MIN, INT64_MAX),
+};
+
+static size_t smaller(size_t a, size_t b) {
+    return a < b ? a : b;
+}
+
+/* The bytes of a bitmap. */
+static size_t bitmap_bytes(size_t len) {
+    return (len + 7) / 8;
+}
+
+/* ---- Columns that are kept ---- */
+
+/* Looks at the array that was read, and takes it for a column of integers. */
+static int32_t take_parts(struct column *column) {
+    uint8_t dtype = 0;
+    int32_t status = flcol_len(&column->array, &column->len);
+    if (status == FLCOL_OK) status = flcol_dtype(&column->array, &dtype);
+    if (status != FLCOL_OK) return status;
+    column->is_nullable = (dtype & FLCOL_NULLABLE) != 0;
+    column->type = dtype % FLCOL_NULLABLE;
+    if (column->type > FLCOL_I64) return FLCOL_NOT_INTEGER;
+    return column->len > COLUMN_ITEMS ? FLCOL_LENGTH_OVERFLOW : FLCOL_OK;
+}
+
+int32_t column_open(struct column *column, const void *bytes, size_t len) {
+    column->array = FLCOL_EMPTY;
+    int32_t status = flcol_deserialize(bytes, len, &column->array);
+    if (status == FLCOL_OK) status = take_parts(column);
+    if (status != FLCOL_OK) column_close(column);
+    return status;
+}
+
+void column_close(struct column *column) {
+    flcol_free(&column->array);
+}
+
+int32_t column_get(struct column *column, int64_t index, struct item *item) {
+    if (index < 0) return FLCOL_INDEX_OUT_OF_BOUNDS;
+    return types[column->type].get(&column->array, (size_t)index, item);
+}
+
+int32_t column_slice(struct column *column, int64_t from, int64_t to, flcol_array *out) {
+    if (from < 0 || to < 0) return FLCOL_RANGE_OUT_OF_BOUNDS;
+    return flcol_slice(&column->array, (size_t)from, (size_t)to, out);
+}
+
+/* ---- Items in their order ---- */
+
+/* The items of a column from `from` on, as many as a window has, or as there are. */
+static int32_t part_of(struct column *column, size_t from, flcol_array *part, size_t *len) {
+    *len = smaller(COLUMN_WINDOW, column->len - from);
+    return flcol_slice(&column->array, from, from + *len, part);
+}
+
+static int32_t move_window(struct column *column, struct window *window, size_t from) {
+    flcol_array part = FLCOL_EMPTY;
+    size_t len = 0;
+    int32_t status = part_of(column, from, &part, &len);
+    window->len = 0;
+    if (status == FLCOL_OK) {
+        uint8_t *validity = column->is_nullable ? window->validity : NULL;
+        status = types[column->type].read(&part, window->values, len, validity, validity ? bitmap_bytes(len) : 0);
+    }
+    if (status == FLCOL_OK) {
+        window->from = from;
+        window->len = len;
+    }
+    flcol_free(&part);
+    return status;
+}
+
+int32_t column_item(struct column *column, struct window *window, size_t index, struct item *item) {
+    if (index - window->from >= window->len) {
+        const int32_t status = move_window(column, window, index - index % COLUMN_WINDOW);
+        if (status != FLCOL_OK) return status;
+    }
+    const size_t at = index - window->from;
+    item->is_null = column->is_nullable && !(window->validity[at / 8] >> at % 8 & 1);
+    return item->is_null ? FLCOL_OK : types[column->type].item(window->values, at, &item->value);
+}
+
+/* ---- Counting ---- */
+
+int32_t operator_of(const char *text, size_t len, uint8_t *op) {
+    static const struct {
+        const char *text;
+        uint8_t op;
+    } operators[] = {{"=", FLCOL_EQ}, {"<>", FLCOL_NOT_EQ}, {"!=", FLCOL_NOT_EQ}, {">", FLCOL_GT},
+                     {">=", FLCOL_GTE}, {"<", FLCOL_LT},    {"<=", FLCOL_LTE}};
+    for (size_t i = 0; i < sizeof operators / sizeof *operators; i++) {
+        if (strlen(operators[i].text) != len || memcmp(operators[i].text, text, len) != 0) continue;
+        *op = operators[i].op;
+        return FLCOL_OK;
+    }
+    return FLCOL_BAD_OPERATOR;
+}
+
+/* Whether each integer of a type compares in the same way with a constant, and how. */
+static bool is_decided(const struct integer_type *type, uint8_t op, int64_t constant, bool *answer) {
+    const bool is_above = constant > type->greatest;
+    if (!is_above && constant >= type->least) return false;
+    *answer = op == FLCOL_NOT_EQ || (is_above ? op == FLCOL_LT || op == FLCOL_LTE : op == FLCOL_GT || op == FLCOL_GTE);
+    return true;
+}
+
+static int32_t count_valid(flcol_array *part, size_t len, int64_t *count) {
+    size_t nulls = 0;
+    const int32_t status = flcol_null_count(part, &nulls);
+    if (status == FLCOL_OK) *count += (int64_t)(len - nulls);
+    return status;
+}
+
+/* How many bits are set in both of two bitmaps, or in the one. */
+static int64_t count_bits(const uint8_t *bits, const uint8_t *validity, size_t bytes) {
+    int64_t count = 0;
+    for (size_t i = 0; i < bytes; i += 8) {
+        uint64_t word = 0, valid = UINT64_MAX;
+        const size_t taken = smaller(8, bytes - i);
+        memcpy(&word, bits + i, taken);
+        if (validity != NULL) memcpy(&valid, validity + i, taken);
+        count += __builtin_popcountll(word & valid);
+    }
+    return count;
+}
+
+/* Adds how many of a part's items meet a condition whose constants are of the type. */
+static int32_t count_part(struct column *column, flcol_array *part, size_t len, const struct condition *condition,
+                          int64_t *count) {
+    uint8_t bits[COLUMN_WINDOW / 8], valid[COLUMN_WINDOW / 8];
+    uint8_t *validity = column->is_nullable ? valid : NULL;
+    const size_t bytes = bitmap_bytes(len), validity_bytes = validity != NULL ? bytes : 0;
+    const struct integer_type *type = &types[column->type];
+    const int32_t status =
+        condition->is_between
+            ? type->between(part, condition->lower, condition->upper, bits, bytes, validity, validity_bytes)
+            : type->compare(part, condition->op, condition->constant, bits, bytes, validity, validity_bytes);
+    if (status == FLCOL_OK) *count += count_bits(bits, validity, bytes);
+    return status;
+}
+
+/* Adds how many of a part's items meet a condition. */
+static int32_t count_in(struct column *column, flcol_array *part, size_t len, struct condition condition,
+                        int64_t *count) {
+    const struct integer_type *type = &types[column->type];
+    bool is_met;
+    if (condition.is_between) {
+        if (condition.lower < type->least) condition.lower = type->least;
+        if (condition.upper > type->greatest) condition.upper = type->greatest;
+        if (condition.lower > condition.upper) return FLCOL_OK;
+    } else if (is_decided(type, condition.op, condition.constant, &is_met)) {
+        return is_met ? count_valid(part, len, count) : FLCOL_OK;
+    }
+    return count_part(column, part, len, &condition, count);
+}
+
+int32_t column_count(struct column *column, size_t from, const struct condition *condition, int64_t *count) {
+    flcol_array part = FLCOL_EMPTY;
+    size_t len = 0;
+    int32_t status = part_of(column, from, &part, &len);
+    if (status == FLCOL_OK) status = count_in(column, &part, len, *condition, count);
+    flcol_free(&part);
+    return status;
+}

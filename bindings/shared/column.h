@@ -1,0 +1,126 @@
+/* A column as an engine of SQL asks it: each item is null or an integer of 64 bits, whatever the array's own type is.
+ *
+ * Nothing here knows an engine. A call that answers a status does so as those of flcol.h do: 0 where it did what it is
+ * for, else the first refusal. What a call holds while it works it has given back when it answers.
+ */
+#ifndef FLCOL_COLUMN_H
+#define FLCOL_COLUMN_H
+
+#include <stdbool.h>
+#include <stddef.h>
+#include <stdint.h>
+
+#include "flcol.h"
+
+enum {
+    COLUMN_WINDOW = 64 * 1024, /* how many items are read, or compared, at a time */
+    COLUMN_SCHEME = 256        /* how many bytes the text of a scheme has at most: nesting takes the stack */
+};
+
+/* How many items a value stands for at most. A few bytes can say any number. */
+#define COLUMN_ITEMS ((size_t)1 << 28)
+
+/* A null, or an integer. */
+struct item {
+    int64_t value;
+    bool is_null;
+};
+
+/* ---- Columns that are kept ---- */
+
+/* An array of integers. One of zeros holds none. */
+struct column {
+    flcol_array array;
+    size_t len;
+    uint8_t type; /* FLCOL_U8 to FLCOL_I64 */
+    bool is_nullable;
+};
+
+/* The column of a container's bytes, which are copied.
+   FLCOL_BAD_CONTAINER, any of 2 to 40: as flcol_deserialize. FLCOL_NOT_INTEGER: a column of booleans.
+   FLCOL_LENGTH_OVERFLOW: more than COLUMN_ITEMS items. */
+int32_t column_open(struct column *column, const void *bytes, size_t len);
+
+/* Gives the array back, if one is held. */
+void column_close(struct column *column);
+
+/* The item at an index. FLCOL_INDEX_OUT_OF_BOUNDS. FLCOL_CAST_OUT_OF_RANGE: it is above 2^63-1. */
+int32_t column_get(struct column *column, int64_t index, struct item *item);
+
+/* The items from `from` to below `to`, in the same encodings. FLCOL_RANGE_OUT_OF_BOUNDS. */
+int32_t column_slice(struct column *column, int64_t from, int64_t to, flcol_array *out);
+
+/* Writes the type of a column, the encodings of its container, which it was opened from, the number of items, and how
+   many bits of the container each takes; the answer is the text's length. Where `text` is NULL nothing is written. */
+size_t column_describe(const struct column *column, const uint8_t *container, size_t len, char *text);
+
+/* ---- Items in their order ---- */
+
+/* A window of a column's items, which may be used for one column only. It starts with `from` and `len` 0. */
+struct window {
+    size_t from;
+    size_t len;
+    uint64_t values[COLUMN_WINDOW]; /* of the column's own type */
+    uint8_t validity[COLUMN_WINDOW / 8];
+};
+
+/* The item at an index below the column's length. The window is read anew where it hasn't that item.
+   FLCOL_CAST_OUT_OF_RANGE: it is above 2^63-1. */
+int32_t column_item(struct column *column, struct window *window, size_t index, struct item *item);
+
+/* ---- Counting ---- */
+
+/* What items are counted: those that compare so with a constant, or lie between two bounds, which belong to it. */
+struct condition {
+    bool is_between;
+    uint8_t op;
+    int64_t constant;
+    int64_t lower;
+    int64_t upper;
+};
+
+/* The operator of the text `=`, `<>`, `!=`, `>`, `>=`, `<` or `<=`. FLCOL_BAD_OPERATOR. */
+int32_t operator_of(const char *text, size_t len, uint8_t *op);
+
+/* Adds to `count` how many of the COLUMN_WINDOW items from `from` on, or of as many as there are, meet a condition. No
+   null does. */
+int32_t column_count(struct column *column, size_t from, const struct condition *condition, int64_t *count);
+
+/* ---- Making a column ---- */
+
+/* Gives memory of `size` bytes in place of `memory`, or NULL. */
+typedef void *resize_fn(void *owner, void *memory, size_t size);
+
+/* Items that are gathered to be encoded. One of zeros but for `type`, `resize` and `owner` has none. */
+struct builder {
+    uint8_t type; /* FLCOL_I16, FLCOL_I32 or FLCOL_I64, of which each value is */
+    resize_fn *resize;
+    void *owner; /* handed to `resize` */
+    size_t len;
+    size_t capacity;
+    size_t null_count;
+    void *values;
+    uint8_t *validity;
+    char *scheme; /* NULL: of a few schemes the one with which the column takes the fewest bytes */
+    size_t scheme_len;
+};
+
+/* Sets the scheme. FLCOL_BAD_SCHEME: the text is longer than COLUMN_SCHEME. */
+int32_t builder_set_scheme(struct builder *builder, const char *text, size_t len);
+
+/* Adds an item. */
+int32_t builder_push(struct builder *builder, struct item item);
+
+/* Adds items: values of the builder's type, and a bit for each that is not null. */
+int32_t builder_append(struct builder *builder, const void *values, const uint8_t *validity, size_t len);
+
+/* The bytes that `len` values take. */
+size_t builder_value_bytes(const struct builder *builder, size_t len);
+
+/* The items as an array of the scheme. What flcol_encode refuses. */
+int32_t builder_encode(const struct builder *builder, flcol_array *out);
+
+/* Gives memory back by `resize` with the size 0. */
+void builder_close(struct builder *builder);
+
+#endif

@@ -1,0 +1,197 @@
+/* Functions of a column that is kept as a blob. */
+#include "functions.h"
+
+#include <limits.h>
+#include <string.h>
+
+/* ---- What a function is passed, and answers ---- */
+
+int32_t open_value(struct column *column, sqlite3_value *value) {
+    if (sqlite3_value_type(value) != SQLITE_BLOB) return FLCOL_BAD_CONTAINER;
+    const void *bytes = sqlite3_value_blob(value);
+    return column_open(column, bytes, (size_t)sqlite3_value_bytes(value));
+}
+
+void refuse(sqlite3_context *context, int32_t status) {
+    if (status == FLCOL_OUT_OF_MEMORY) {
+        sqlite3_result_error_nomem(context);
+        return;
+    }
+    char *message = sqlite3_mprintf("flcol: %s", flcol_status_name(status));
+    if (message == NULL) {
+        sqlite3_result_error_nomem(context);
+        return;
+    }
+    sqlite3_result_error(context, message, -1);
+    sqlite3_free(message);
+}
+
+/* Writes an array into memory of SQLite. */
+static int32_t serialize(flcol_array *array, uint8_t **bytes, size_t *len) {
+    int32_t status = flcol_serialized_len(array, len);
+    if (status != FLCOL_OK) return status;
+    *bytes = sqlite3_malloc64(*len);
+    if (*bytes == NULL) return FLCOL_OUT_OF_MEMORY;
+    status = flcol_serialize(array, *bytes, *len);
+    if (status != FLCOL_OK) sqlite3_free(*bytes);
+    return status;
+}
+
+void answer_array(sqlite3_context *context, int32_t status, flcol_array *array) {
+    uint8_t *bytes = NULL;
+    size_t len = 0;
+    if (status == FLCOL_OK) status = serialize(array, &bytes, &len);
+    flcol_free(array);
+    if (status == FLCOL_OK) {
+        sqlite3_result_blob64(context, bytes, len, sqlite3_free);
+    } else {
+        refuse(context, status);
+    }
+}
+
+static void answer_item(sqlite3_context *context, struct item item) {
+    if (item.is_null) {
+        sqlite3_result_null(context);
+    } else {
+        sqlite3_result_int64(context, item.value);
+    }
+}
+
+/* An integer, which no other type is turned into. */
+static int32_t integer_value(sqlite3_value *value, int64_t *integer) {
+    if (sqlite3_value_type(value) != SQLITE_INTEGER) return FLCOL_NOT_INTEGER;
+    *integer = sqlite3_value_int64(value);
+    return FLCOL_OK;
+}
+
+/* ---- The column of a call ---- */
+
+static void drop_column(void *column) {
+    column_close(column);
+    sqlite3_free(column);
+}
+
+/* Opens the column of a call's first value, which is kept until `drop_column`. */
+static int32_t new_column(sqlite3_value *value, struct column **column) {
+    *column = sqlite3_malloc(sizeof **column);
+    if (*column == NULL) return FLCOL_OUT_OF_MEMORY;
+    const int32_t status = open_value(*column, value);
+    if (status != FLCOL_OK) sqlite3_free(*column);
+    return status;
+}
+
+/* What a function does with the column of its first value. */
+typedef int32_t column_fn(sqlite3_context *context, struct column *column, sqlite3_value **values);
+
+static bool has_null(int count, sqlite3_value **values) {
+    for (int i = 0; i < count; i++)
+        if (sqlite3_value_type(values[i]) == SQLITE_NULL) return true;
+    return false;
+}
+
+/* Calls a function with the column of its first value; with a null the answer is null. Where the blob is the same in
+   each row of a statement, SQLite keeps its column from one row to the next. */
+static void with_column(sqlite3_context *context, int count, sqlite3_value **values, column_fn *function) {
+    if (has_null(count, values)) return;
+    struct column *column = sqlite3_get_auxdata(context, 0);
+    const bool is_kept = column != NULL;
+    int32_t status = is_kept ? FLCOL_OK : new_column(values[0], &column);
+    if (status == FLCOL_OK) {
+        status = function(context, column, values);
+        if (!is_kept) sqlite3_set_auxdata(context, 0, column, drop_column);
+    }
+    if (status != FLCOL_OK) refuse(context, status);
+}
+
+/* ---- The functions ---- */
+
+static int32_t answer_len(sqlite3_context *context, struct column *column, sqlite3_value **values) {
+    (void)values;
+    sqlite3_result_int64(context, (sqlite3_int64)column->len);
+    return FLCOL_OK;
+}
+
+static int32_t answer_get(sqlite3_context *context, struct column *column, sqlite3_value **values) {
+    int64_t index = 0;
+    struct item item = {0};
+    int32_t status = integer_value(values[1], &index);
+    if (status == FLCOL_OK) status = column_get(column, index, &item);
+    if (status == FLCOL_OK) answer_item(context, item);
+    return status;
+}
+
+static int32_t answer_slice(sqlite3_context *context, struct column *column, sqlite3_value **values) {
+    int64_t from = 0, to = 0;
+    flcol_array part = FLCOL_EMPTY;
+    int32_t status = integer_value(values[1], &from);
+    if (status == FLCOL_OK) status = integer_value(values[2], &to);
+    if (status == FLCOL_OK) status = column_slice(column, from, to, &part);
+    if (status == FLCOL_OK) answer_array(context, status, &part);
+    return status;
+}
+
+static int32_t answer_condition(sqlite3_context *context, struct column *column, const struct condition *condition) {
+    int64_t count = 0;
+    for (size_t from = 0; from < column->len; from += COLUMN_WINDOW) {
+        const int32_t status = column_count(column, from, condition, &count);
+        if (status != FLCOL_OK) return status;
+    }
+    sqlite3_result_int64(context, count);
+    return FLCOL_OK;
+}
+
+static int32_t answer_count(sqlite3_context *context, struct column *column, sqlite3_value **values) {
+    struct condition condition = {.is_between = false};
+    const char *text = (const char *)sqlite3_value_text(values[1]);
+    if (text == NULL) return FLCOL_OUT_OF_MEMORY;
+    int32_t status = operator_of(text, (size_t)sqlite3_value_bytes(values[1]), &condition.op);
+    if (status == FLCOL_OK) status = integer_value(values[2], &condition.constant);
+    return status == FLCOL_OK ? answer_condition(context, column, &condition) : status;
+}
+
+static int32_t answer_between(sqlite3_context *context, struct column *column, sqlite3_value **values) {
+    struct condition condition = {.is_between = true};
+    int32_t status = integer_value(values[1], &condition.lower);
+    if (status == FLCOL_OK) status = integer_value(values[2], &condition.upper);
+    return status == FLCOL_OK ? answer_condition(context, column, &condition) : status;
+}
+
+static int32_t answer_inspect(sqlite3_context *context, struct column *column, sqlite3_value **values) {
+    const uint8_t *container = sqlite3_value_blob(values[0]);
+    const size_t container_len = (size_t)sqlite3_value_bytes(values[0]);
+    const size_t len = column_describe(column, container, container_len, NULL);
+    char *text = sqlite3_malloc64(len);
+    if (text == NULL) return FLCOL_OUT_OF_MEMORY;
+    column_describe(column, container, container_len, text);
+    sqlite3_result_text64(context, text, len, sqlite3_free, SQLITE_UTF8);
+    return FLCOL_OK;
+}
+
+#define DEFINE_FUNCTION(NAME)                                                                  \
+    static void flcol_##NAME##_sql(sqlite3_context *context, int count, sqlite3_value **values) { \
+        with_column(context, count, values, answer_##NAME);                                    \
+    }
+
+DEFINE_FUNCTION(len)
+DEFINE_FUNCTION(get)
+DEFINE_FUNCTION(slice)
+DEFINE_FUNCTION(count)
+DEFINE_FUNCTION(between)
+DEFINE_FUNCTION(inspect)
+
+int add_functions(sqlite3 *db) {
+    static const struct {
+        const char *name;
+        int count;
+        void (*function)(sqlite3_context *, int, sqlite3_value **);
+    } functions[] = {{"flcol_len", 1, flcol_len_sql},         {"flcol_get", 2, flcol_get_sql},
+                     {"flcol_slice", 3, flcol_slice_sql},     {"flcol_count", 3, flcol_count_sql},
+                     {"flcol_between", 3, flcol_between_sql}, {"flcol_inspect", 1, flcol_inspect_sql}};
+    const int flags = SQLITE_UTF8 | SQLITE_DETERMINISTIC | SQLITE_INNOCUOUS;
+    for (size_t i = 0; i < sizeof functions / sizeof *functions; i++) {
+        const int code = sqlite3_create_function_v2(db, functions[i].name, functions[i].count, flags, NULL,
+                                                    functions[i].function, NULL, NULL, NULL);
+        if (code != SQLITE_OK) return code;
+    }
+    return SQLITE_OK;
+}

@@ -1,0 +1,278 @@
+"""The extension against SQLite's own table of the same items, on hostile blobs, and its errors.
+
+FLCOL_EXTENSION is the extension; statuses of the library come as `flcol: NAME`.
+"""
+import os
+import pathlib
+import random
+import re
+import sqlite3
+import sys
+import unittest
+
+sys.path.insert(0, str(pathlib.Path(__file__).resolve().parent.parent / "shared"))
+import containers  # noqa: E402
+
+EXTENSION = os.environ["FLCOL_EXTENSION"]
+OPERATORS = ("=", "<>", "!=", "<", "<=", ">", ">=")
+SCHEMES = ("primitive", "delta", "rle", "for(bitpacked)", "for(blocked)", "forc(bitpacked,_)", "delta(_,for(bitpacked))",
+           "rle(for(bitpacked),bitpacked,_)")  # fmt: skip
+EXTREMES = (-(2**63), -1, 0, 2**63 - 1)
+REFUSAL = re.compile(r"flcol: [A-Z][A-Za-z]+\Z")
+
+
+def connect():
+    base = sqlite3.connect(":memory:")
+    base.enable_load_extension(True)
+    base.load_extension(EXTENSION)
+    return base
+
+
+class Case(unittest.TestCase):
+    def setUp(self):
+        self.base = connect()
+
+    def tearDown(self):
+        self.base.close()
+
+    def ask(self, statement, *values):
+        """The first cell of a statement's answer."""
+        return self.base.execute(statement, values).fetchone()[0]
+
+    def refused(self, name, statement, *values):
+        """The statement's error is the refusal, and the session goes on."""
+        with self.assertRaisesRegex(sqlite3.OperationalError, rf"\A{name}\Z"):
+            self.base.execute(statement, values).fetchall()
+        self.assertEqual(self.ask("SELECT flcol_len(flcol(1))"), 1)
+
+
+class Columns(Case):
+    """Random columns beside a table of their items."""
+
+    def setUp(self):
+        super().setUp()
+        self.base.execute("CREATE TABLE plain(i INTEGER PRIMARY KEY, x INTEGER)")
+        self.chance = random.Random(7)
+
+    def fill(self, items):
+        self.base.execute("DELETE FROM plain")
+        self.base.executemany("INSERT INTO plain VALUES (?, ?)", enumerate(items))
+
+    def constants(self, items):
+        valid = [item for item in items if item is not None] or [0]
+        picked = [self.chance.choice(valid) for _ in range(3)]
+        return sorted({*EXTREMES, *picked, min(max(picked[0] + 1, -(2**63)), 2**63 - 1)})
+
+    def look(self, blob, items):
+        """Each function of a column answers as the table does."""
+        self.assertEqual(self.ask("SELECT flcol_len(?)", blob), len(items))
+        rows = self.base.execute('SELECT "index", value FROM flcol_each(?)', (blob,)).fetchall()
+        self.assertEqual(rows, self.base.execute("SELECT i, x FROM plain ORDER BY i").fetchall())
+        for index in {0, len(items) - 1, self.chance.randrange(len(items))}:
+            self.assertEqual(self.ask("SELECT flcol_get(?, ?)", blob, index), items[index])
+
+    def count(self, blob, items):
+        constants = self.constants(items)
+        for constant in constants:
+            for op in OPERATORS:
+                plain = self.ask(f"SELECT count(*) FROM plain WHERE x {op} ?", constant)
+                self.assertEqual(self.ask("SELECT flcol_count(?, ?, ?)", blob, op, constant), plain, (op, constant))
+        for lower in constants:
+            for upper in constants:
+                plain = self.ask("SELECT count(*) FROM plain WHERE x BETWEEN ? AND ?", lower, upper)
+                self.assertEqual(self.ask("SELECT flcol_between(?, ?, ?)", blob, lower, upper), plain, (lower, upper))
+
+    def cut(self, blob, items):
+        start, end = sorted(self.chance.randrange(len(items) + 1) for _ in range(2))
+        for start, end in ((start, end), (0, len(items)), (end, end)):
+            part = self.ask("SELECT flcol_slice(?, ?, ?)", blob, start, end)
+            self.assertEqual([it for it, in self.base.execute("SELECT value FROM flcol_each(?)", (part,))], items[start:end])
+
+    def test_compressed_columns_answer_as_tables(self):
+        for kind, items in containers.random_columns():
+            with self.subTest(kind=kind, length=len(items)):
+                self.fill(items)
+                blob = self.ask("SELECT flcol(x) FROM (SELECT x FROM plain ORDER BY i)")
+                self.look(blob, items)
+                self.count(blob, items)
+                self.cut(blob, items)
+
+    def test_columns_of_each_scheme_answer_as_tables(self):
+        for kind, items in containers.random_columns(seed=2):
+            if len(items) not in (7, 1025, 3000) or set(items) == {None}:
+                continue
+            self.fill(items)
+            for scheme in SCHEMES:
+                if kind == "any" and "for" in scheme:
+                    continue  # differences of 2^63 and more are negative as integers of 64 bits, and not packed
+                with self.subTest(kind=kind, length=len(items), scheme=scheme):
+                    blob = self.ask("SELECT flcol(x, ?) FROM (SELECT x FROM plain ORDER BY i)", scheme)
+                    self.look(blob, items)
+                    self.count(blob, items)
+                    self.cut(blob, items)
+
+    def test_each_type_compares_with_any_constant(self):
+        for name in containers.TYPES:
+            least, greatest = containers.bounds(name)
+            items = [least, greatest, None, 0, 1] + [self.chance.randint(least, greatest) for _ in range(50)]
+            for item in [it for it in items if it is not None and it > 2**63 - 1]:
+                items[items.index(item)] = 2**63 - 1
+            with self.subTest(type=name):
+                self.fill(items)
+                blob = containers.plain(name, items)
+                self.look(blob, items)
+                self.count(blob, items + [max(-(2**63), least - 1), min(2**63 - 1, greatest + 1)])
+
+    def test_groups_have_columns_of_their_own(self):
+        self.fill([at % 10 for at in range(5000)])
+        lengths = self.base.execute("SELECT flcol_len(flcol(x)), count(*) FROM plain GROUP BY x % 3").fetchall()
+        self.assertTrue(all(left == right for left, right in lengths) and len(lengths) == 3)
+
+    def test_a_column_is_asked_for_each_row(self):
+        """A blob of a column of a table differs from row to row; one of a statement is kept."""
+        self.base.execute("CREATE TABLE chunks(k INTEGER PRIMARY KEY, items BLOB)")
+        for key in range(20):
+            self.base.execute("INSERT INTO chunks VALUES (?, ?)", (key, containers.plain("u16", [key] * (key + 1))))
+        rows = self.base.execute("SELECT k, flcol_len(items), flcol_get(items, k) FROM chunks").fetchall()
+        self.assertEqual(rows, [(key, key + 1, key) for key in range(20)])
+        blob = containers.plain("i32", list(range(20)))
+        rows = self.base.execute("SELECT flcol_get(?, k) FROM chunks", (blob,)).fetchall()
+        self.assertEqual(rows, [(key,) for key in range(20)])
+
+    def test_items_are_joined(self):
+        self.fill([5, None, 7])
+        joined = 'SELECT i, value FROM plain, flcol_each((SELECT flcol(x) FROM (SELECT x FROM plain ORDER BY i))) ON "index" = i'
+        self.assertEqual(self.base.execute(joined).fetchall(), [(0, 5), (1, None), (2, 7)])
+        nested = "SELECT count(*) FROM flcol_each(?1) a, flcol_each(?1) b"
+        self.assertEqual(self.ask(nested, containers.PACKED), 9)
+        self.assertEqual(self.ask('SELECT value FROM flcol_each(?) ORDER BY "index" DESC', containers.PACKED), 3)
+
+
+    def test_indices_narrow_the_rows(self):
+        items = [at * at % 101 for at in range(70_000)]
+        blob = containers.plain("i32", items)
+        self.fill(items)
+        for condition in ('"index" = 66000', '"index" > 69990', '"index" >= -5 AND "index" < 3', '"index" BETWEEN 100 AND 102',
+                          '"index" = -1', '"index" = 70000', "\"index\" = '7'", '"index" > 69998.5', 'rowid = 3', '"index" = 2.5',
+                          '"index" IS NULL', '"index" < -9223372036854775807', '"index" > 5 AND "index" = 3', '"index" IN (4, 2)'):  # fmt: skip
+            with self.subTest(condition):
+                rows = self.base.execute(f'SELECT "index", value FROM flcol_each(?) WHERE {condition} ORDER BY 1', (blob,)).fetchall()
+                kept = condition.replace('"index"', "i").replace("rowid", "i")
+                self.assertEqual(rows, self.base.execute(f"SELECT i, x FROM plain WHERE {kept} ORDER BY 1").fetchall())
+
+
+class Worked(Case):
+    """Containers of docs/CONTAINER.md, and what strangers make of them."""
+
+    def each(self, blob):
+        return [value for value, in self.base.execute("SELECT value FROM flcol_each(?)", (blob,))]
+
+    def test_worked_containers_are_read(self):
+        for name, (blob, items) in containers.WORKED.items():
+            with self.subTest(name):
+                self.assertEqual(self.each(blob), items)
+
+    def test_inspect_says_scheme_and_bits(self):
+        self.assertEqual(self.ask("SELECT flcol_inspect(?)", containers.PACKED), "u32 bitpacked:2, 3 items, 813.33 bits an item")
+        self.assertEqual(self.ask("SELECT flcol_inspect(?)", containers.plain("i8", [])), "i8 primitive, 0 items")
+
+    def try_all(self, blob):
+        """Asks everything of a blob, and counts the answers that are a refusal; nothing else may be one."""
+        asked = ("flcol_len(?1)", "flcol_inspect(?1)", "flcol_get(?1, 0)", "flcol_slice(?1, 0, 1)", "flcol_count(?1, '<', 2)",
+                 "flcol_between(?1, 1, 2)", "(SELECT count(value) FROM (SELECT value FROM flcol_each(?1) LIMIT 9))")  # fmt: skip
+        refused = 0
+        for function in asked:
+            try:
+                self.base.execute(f"SELECT {function}", (blob,)).fetchall()
+            except (sqlite3.OperationalError, MemoryError) as error:
+                self.assertTrue(isinstance(error, MemoryError) or REFUSAL.match(str(error)), error)
+                refused += 1
+        return refused
+
+    def hostile(self):
+        encoded = [self.ask("SELECT flcol(value, ?) FROM flcol_each(?)", scheme, containers.plain("i64", [3, 3, 4, None, 2]))
+                   for scheme in ("delta(_,for(bitpacked))", "rle(for(bitpacked),bitpacked,_)")]  # fmt: skip
+        return [blob for blob, _ in containers.WORKED.values()] + encoded
+
+    def test_each_cut_is_refused(self):
+        for blob in self.hostile():
+            for cut in containers.cuts(blob)[:: max(1, len(blob) // 400)]:
+                self.refused("flcol: BadContainer", "SELECT flcol_len(?)", cut)
+
+    def test_each_changed_byte_is_answered_or_refused(self):
+        for blob in self.hostile():
+            for changed in list(containers.changes(blob))[:: max(1, len(blob) // 400)]:
+                self.try_all(changed)
+        self.assertEqual(self.try_all(containers.PACKED), 0)
+
+
+class Errors(Case):
+    """Each error's message; the session goes on."""
+
+    def test_no_container(self):
+        for value in (b"", b"FLC1", "text", 3, 2.5):
+            self.refused("flcol: BadContainer", "SELECT flcol_len(?)", value)
+            self.refused("flcol: BadContainer", "SELECT * FROM flcol_each(?)", value)
+        self.refused("flcol: BadContainer", "SELECT flcol_len(?)", containers.PACKED + b"\0")
+
+    def test_an_array_that_is_not_sound(self):
+        wide = containers.PACKED.replace(b"\x08\x02\x01", b"\x08\x21\x01")
+        self.refused("flcol: WidthTooLarge", "SELECT flcol_len(?)", wide)
+        self.refused("flcol: UnknownId", "SELECT flcol_len(?)", containers.PACKED.replace(b"packed", b"stored"))
+        self.refused("flcol: NotInteger", "SELECT flcol_len(?)", b"FLC1" + containers.bools([1, 0]))
+        self.refused("flcol: LengthOverflow", "SELECT flcol_len(?)", containers.constant("u8", 3, 2**28 + 1))
+
+    def test_a_few_bytes_stand_for_many_items(self):
+        self.assertEqual(self.ask("SELECT flcol_count(?, '=', 3)", containers.constant("u8", 3, 2**28)), 2**28)
+
+    def test_indices_and_ranges(self):
+        for index in (-1, 3, 2**63 - 1):
+            self.refused("flcol: IndexOutOfBounds", "SELECT flcol_get(?, ?)", containers.PACKED, index)
+        for start, end in ((-1, 2), (2, 1), (0, 4), (0, -1), (4, 4)):
+            self.refused("flcol: RangeOutOfBounds", "SELECT flcol_slice(?, ?, ?)", containers.PACKED, start, end)
+
+    def test_other_types_than_integers(self):
+        for value in ("3", 3.0, b"3"):
+            self.refused("flcol: NotInteger", "SELECT flcol(?)", value)
+            self.refused("flcol: NotInteger", "SELECT flcol_get(?, ?)", containers.PACKED, value)
+            self.refused("flcol: NotInteger", "SELECT flcol_slice(?, 0, ?)", containers.PACKED, value)
+            self.refused("flcol: NotInteger", "SELECT flcol_count(?, '<', ?)", containers.PACKED, value)
+            self.refused("flcol: NotInteger", "SELECT flcol_between(?, ?, 1)", containers.PACKED, value)
+
+    def test_operators_and_schemes(self):
+        for text in ("", "==", "<<", " <", "lt"):
+            self.refused("flcol: BadOperator", "SELECT flcol_count(?, ?, 1)", containers.PACKED, text)
+        for text in ("", "zip", "for(", "for(bitpacked", "for(" * 64 + ")" * 64, "x" * 100_000):
+            self.refused("flcol: BadScheme", "SELECT flcol(1, ?)", text)
+        self.refused("flcol: NegativeValue", "SELECT flcol(-1, 'bitpacked')")
+        self.refused("flcol: NoMinimum", "SELECT flcol(NULL, 'for(bitpacked)')")
+
+    def test_items_above_64_bits_signed(self):
+        blob = containers.plain("u64", [1, 2**63])
+        self.assertEqual(self.ask("SELECT flcol_get(?, 0)", blob), 1)
+        self.refused("flcol: CastOutOfRange", "SELECT flcol_get(?, 1)", blob)
+        self.refused("flcol: CastOutOfRange", "SELECT * FROM flcol_each(?)", blob)
+        self.assertEqual(self.ask("SELECT flcol_count(?, '>', 1)", blob), 1)
+
+    def test_a_table_of_no_container(self):
+        self.refused("flcol: NoArray", "SELECT * FROM flcol_each")
+
+    def test_nulls_are_passed_on(self):
+        for function in ("flcol_len(NULL)", "flcol_get(NULL, 1)", "flcol_count(?, NULL, 1)", "flcol_slice(?, 0, NULL)"):
+            values = (containers.PACKED,) if "?" in function else ()
+            self.assertIsNone(self.ask(f"SELECT {function}", *values))
+        self.assertIsNone(self.ask("SELECT flcol(1) WHERE 0"))
+        self.assertEqual(self.base.execute("SELECT * FROM flcol_each(NULL)").fetchall(), [])
+        self.assertEqual(self.ask("SELECT flcol(1, NULL)"), self.ask("SELECT flcol(1)"))
+
+    def test_little_memory(self):
+        """Where SQLite may take no more, a statement ends with its own error."""
+        self.base.execute("PRAGMA hard_heap_limit = 3000000")
+        numbers = "WITH RECURSIVE n(i) AS (SELECT 0 UNION ALL SELECT i + 1 FROM n WHERE i < 999999)"
+        with self.assertRaises((sqlite3.OperationalError, MemoryError)):
+            self.base.execute(f"{numbers} SELECT flcol(i) FROM n").fetchall()
+        self.assertEqual(self.ask("SELECT flcol_len(flcol(1))"), 1)
+
+
+if __name__ == "__main__":
+    unittest.main()
