@@ -7,6 +7,8 @@ use baseline::kernels::k32;
 use std::hint::black_box;
 
 const WIDTH: usize = 10;
+/// What is added to the items of ten bits, where they are the differences of a FoR array.
+const REFERENCE: u32 = 1_000_000;
 
 /// `u32`s of ten bits, of which every `patch_every`-th has all bits.
 fn ten_bits(len: usize, patch_every: usize) -> Vec<u32> {
@@ -62,6 +64,10 @@ fn encoded(megabytes: usize) {
             println!("| {name} | {} | {} | {:.1} |", milliseconds(ours), milliseconds(other), other / ours);
         }
         println!("\nThe comparison kernel on the packed words alone: {} ms", milliseconds(kernel(&items, 500)));
+        let sums: Vec<u32> = items.iter().map(|x| x.saturating_add(REFERENCE)).collect();
+        let over = Array { encoding: Encoding::PackedFoR, items: &sums, ..array };
+        let (ours, child) = (over.ask(Question::Compare, &[u64::from(REFERENCE) + 500]), array.ask(Question::Compare, &[500]));
+        println!("FoR over it: compare {} ms, {:.2} times the bit-packed array alone; decode {} ms", milliseconds(ours), ours / child, milliseconds(over.decode()));
         let per_read = 1e9 / places.len() as f64;
         let (reads, stored) = (array.ask(Question::Reads, &places) * per_read, array.ask(Question::StoredReads, &places) * per_read);
         println!("A read: {reads:.0} ns; unpack_single: {stored:.0} ns; a binary search of the patches: {:.0} ns", searches(&items, &places) * per_read);
