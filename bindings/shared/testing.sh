@@ -1,4 +1,5 @@
 # To be sourced, by a script that sets `here` to the top of the repository: counts what passed and failed.
+. "$here/bindings/shared/provide.sh"
 
 passed=0 failed=0 left_out=()
 
@@ -34,9 +35,7 @@ judge_unittest() {
 # needs PACKAGE TEST..: whether a test holds, after Debian's package was installed where it didn't.
 needs() {
   "${@:2}" >/dev/null 2>&1 && return
-  [ "$(id -u)" = 0 ] && command -v apt-get >/dev/null && {
-    apt-get install -y -qq "$1" || { apt-get update -qq && apt-get install -y -qq "$1"; }
-  } >/dev/null 2>&1
+  provide "$1"
   "${@:2}" >/dev/null 2>&1 || { left_out+=("$1 is not there") && return 1; }
 }
 
