@@ -20,7 +20,8 @@
  *   - every pointer with a length points to that many elements; with the length 0 it may be NULL;
  *   - what a call writes (`out`, results, buffers) overlaps nothing else that it is passed: one address is never passed
  *     for two parameters;
- *   - an array stays on the thread that made it, and so do the arrays made of it; reads are calls too.
+ *   - one call at a time works on an array, reads too. An array may be passed to another thread, by what orders the two:
+ *     a lock, the start or the end of a thread. Arrays made of one another may be used by different threads.
  *
  * Each call but flcol_free and flcol_abi_version answers a status, 0 where it did what it is for. With any other status
  * it has written nothing, and each array is as it was. The first status that applies in the order of a call's list is
@@ -180,8 +181,8 @@ int32_t flcol_deserialize(const uint8_t *bytes, size_t len, flcol_array *out);
 /* ---- Encode ---- */
 
 /* The same column by a scheme, such as `for(bitpacked)`; the text needs no 0 behind it. The words are `primitive`,
-   `constant`, `bitpacked`, `bitpacked:7`, `blocked`, `for`, `forc`, `delta`, `rle`, in parentheses the schemes of the
-   children, `_` for a plain one. A text from a stranger should be short: nesting has no limit.
+   `constant`, `bitpacked`, `bitpacked:7`, `blocked`, `for`, `forc`, `forw`, `forcw`, `delta`, `rle`, in parentheses the
+   schemes of the children, `_` for a plain one. A text from a stranger should be short: nesting has no limit.
    FLCOL_NO_ARRAY. FLCOL_BAD_SCHEME. FLCOL_NOT_INTEGER: an array of booleans. Then the encoding's own refusal. */
 int32_t flcol_encode(flcol_array *array, const char *scheme, size_t scheme_len, flcol_array *out);
 
@@ -203,6 +204,14 @@ int32_t flcol_null_count(flcol_array *array, size_t *count);
 /* How many bytes all buffers of the array take when it is written, UINT64_MAX if there are more; metadata are not
    counted. FLCOL_NO_ARRAY. */
 int32_t flcol_nbytes(flcol_array *array, uint64_t *bytes);
+
+/* How many bytes flcol_scheme writes. FLCOL_NO_ARRAY. FLCOL_NOT_INTEGER: no scheme makes booleans. */
+int32_t flcol_scheme_len(flcol_array *array, size_t *len);
+
+/* What the array is, as the text of a scheme, in exactly that many bytes, with no 0 behind it: `for(bitpacked:7)`. The
+   words are those of flcol_encode, but that a width is always said, that `forw` and `forcw` are read as `for` and `forc`,
+   and that `forc` is `for` where one reference serves all chunks. FLCOL_NO_ARRAY. FLCOL_NOT_INTEGER. FLCOL_WRONG_LENGTH. */
+int32_t flcol_scheme(flcol_array *array, char *text, size_t len);
 
 /* 1 where all items are equal, a null to a null, else 0. FLCOL_NO_ARRAY. FLCOL_NOT_INTEGER. */
 int32_t flcol_is_constant(flcol_array *array, uint8_t *answer);
@@ -301,6 +310,77 @@ int32_t flcol_between_i32(flcol_array *array, int32_t lower, int32_t upper, uint
                           uint8_t *bits, size_t bits_len, uint8_t *validity, size_t validity_len);
 int32_t flcol_between_i64(flcol_array *array, int64_t lower, int64_t upper, uint8_t lower_strict, uint8_t upper_strict,
                           uint8_t *bits, size_t bits_len, uint8_t *validity, size_t validity_len);
+
+/* ---- Blocks ---- */
+
+/* For stores with a format of their own: the kernels over whole blocks of 1024 items, which allocate nothing and hold no
+   array. A word has T bits: 8, 16, 32 or 64, as the call's name says; a block has L = 1024 / T lanes (128, 64, 32, 16).
+   `blocks` and the other counts of that name are of blocks, and every other length of words. Items with a sign are
+   passed by a cast of their pointer: the kernels see their bits.
+
+   The item at row r of lane l stands at position l + 128 * (r % 8) + 16 * order[r / 8] of its block, where order is
+   {0, 4, 2, 6, 1, 5, 3, 7}. Packed words of a block at a width: bit b of that item is bit (r * width + b) % T of the word
+   (r * width + b) / T * L + l, which makes width * L words a block. At width 0 there are none, and all items are 0. */
+
+/* Packs the low `width` bits of each item, block after block; the bits above are not looked at.
+   FLCOL_WIDTH_TOO_LARGE: the width is above T. FLCOL_WRONG_LENGTH: `packed_len` is not blocks * width * L. */
+int32_t flcol_pack_u8(size_t width, const uint8_t *items, size_t blocks, uint8_t *packed, size_t packed_len);
+int32_t flcol_pack_u16(size_t width, const uint16_t *items, size_t blocks, uint16_t *packed, size_t packed_len);
+int32_t flcol_pack_u32(size_t width, const uint32_t *items, size_t blocks, uint32_t *packed, size_t packed_len);
+int32_t flcol_pack_u64(size_t width, const uint64_t *items, size_t blocks, uint64_t *packed, size_t packed_len);
+
+/* Writes the items of packed blocks, with their bits from `width` on 0. The statuses of flcol_pack. */
+int32_t flcol_unpack_u8(size_t width, const uint8_t *packed, size_t packed_len, uint8_t *items, size_t blocks);
+int32_t flcol_unpack_u16(size_t width, const uint16_t *packed, size_t packed_len, uint16_t *items, size_t blocks);
+int32_t flcol_unpack_u32(size_t width, const uint32_t *packed, size_t packed_len, uint32_t *items, size_t blocks);
+int32_t flcol_unpack_u64(size_t width, const uint64_t *packed, size_t packed_len, uint64_t *items, size_t blocks);
+
+/* The same, with a reference added to each item, modulo 2 to the T. */
+int32_t flcol_unfor_pack_u8(size_t width, const uint8_t *packed, size_t packed_len, uint8_t reference, uint8_t *items,
+                             size_t blocks);
+int32_t flcol_unfor_pack_u16(size_t width, const uint16_t *packed, size_t packed_len, uint16_t reference, uint16_t *items,
+                             size_t blocks);
+int32_t flcol_unfor_pack_u32(size_t width, const uint32_t *packed, size_t packed_len, uint32_t reference, uint32_t *items,
+                             size_t blocks);
+int32_t flcol_unfor_pack_u64(size_t width, const uint64_t *packed, size_t packed_len, uint64_t reference, uint64_t *items,
+                             size_t blocks);
+
+/* Moves the items of each block to the rows at which deltas are taken: L segments of T items that follow each other
+   become the lanes, item r of a segment the item at row r. Segment l starts at 64 * (l % 16) + 8 * order[l / 16].
+   FLCOL_WRONG_LENGTH: `stored_blocks` is not `blocks`. */
+int32_t flcol_transpose_u8(const uint8_t *items, size_t blocks, uint8_t *stored, size_t stored_blocks);
+int32_t flcol_transpose_u16(const uint16_t *items, size_t blocks, uint16_t *stored, size_t stored_blocks);
+int32_t flcol_transpose_u32(const uint32_t *items, size_t blocks, uint32_t *stored, size_t stored_blocks);
+int32_t flcol_transpose_u64(const uint64_t *items, size_t blocks, uint64_t *stored, size_t stored_blocks);
+
+/* Moves the items of each block back. FLCOL_WRONG_LENGTH: `blocks` is not `stored_blocks`. */
+int32_t flcol_untranspose_u8(const uint8_t *stored, size_t stored_blocks, uint8_t *items, size_t blocks);
+int32_t flcol_untranspose_u16(const uint16_t *stored, size_t stored_blocks, uint16_t *items, size_t blocks);
+int32_t flcol_untranspose_u32(const uint32_t *stored, size_t stored_blocks, uint32_t *items, size_t blocks);
+int32_t flcol_untranspose_u64(const uint64_t *stored, size_t stored_blocks, uint64_t *items, size_t blocks);
+
+/* The difference of each item from the one a row before in its lane, modulo 2 to the T; at row 0 from the lane's base.
+   There are L bases for each block. The items are stored as flcol_transpose leaves them, where neighbours are to be
+   subtracted. FLCOL_WRONG_LENGTH: `bases_len` is not blocks * L, or `delta_blocks` is not `blocks`. */
+int32_t flcol_delta_u8(const uint8_t *items, size_t blocks, const uint8_t *bases, size_t bases_len, uint8_t *deltas,
+                        size_t delta_blocks);
+int32_t flcol_delta_u16(const uint16_t *items, size_t blocks, const uint16_t *bases, size_t bases_len, uint16_t *deltas,
+                        size_t delta_blocks);
+int32_t flcol_delta_u32(const uint32_t *items, size_t blocks, const uint32_t *bases, size_t bases_len, uint32_t *deltas,
+                        size_t delta_blocks);
+int32_t flcol_delta_u64(const uint64_t *items, size_t blocks, const uint64_t *bases, size_t bases_len, uint64_t *deltas,
+                        size_t delta_blocks);
+
+/* The items of such differences: at each row the lane's base and the differences up to it, modulo 2 to the T.
+   FLCOL_WRONG_LENGTH: `bases_len` is not delta_blocks * L, or `blocks` is not `delta_blocks`. */
+int32_t flcol_undelta_u8(const uint8_t *deltas, size_t delta_blocks, const uint8_t *bases, size_t bases_len, uint8_t *items,
+                          size_t blocks);
+int32_t flcol_undelta_u16(const uint16_t *deltas, size_t delta_blocks, const uint16_t *bases, size_t bases_len, uint16_t *items,
+                          size_t blocks);
+int32_t flcol_undelta_u32(const uint32_t *deltas, size_t delta_blocks, const uint32_t *bases, size_t bases_len, uint32_t *items,
+                          size_t blocks);
+int32_t flcol_undelta_u64(const uint64_t *deltas, size_t delta_blocks, const uint64_t *bases, size_t bases_len, uint64_t *items,
+                          size_t blocks);
 
 /* ---- Give back ---- */
 

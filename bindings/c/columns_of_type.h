@@ -61,6 +61,8 @@ static void FN(reads)(flcol_array *array, const ITEM *items, const uint8_t *vali
     memset(valid, UNWRITTEN, sizeof valid);
     CHECK(CALL(read)(array, values, n + 1, valid, bytes) == FLCOL_WRONG_LENGTH);
     CHECK(CALL(read)(array, values, n, valid, bytes + 1) == FLCOL_WRONG_LENGTH);
+    if (n > 0) CHECK(CALL(read)(array, values, n - 1, valid, bytes) == FLCOL_WRONG_LENGTH);
+    if (n > 8) CHECK(CALL(read)(array, values, n, valid, bytes - 1) == FLCOL_WRONG_LENGTH);
     CHECK(flcol_null_count(array, &nulls) == FLCOL_OK);
     if (nulls) CHECK(CALL(read)(array, values, n, NULL, 0) == FLCOL_VALIDITY_LENGTH);
     CHECK(unwritten(values, sizeof values) && unwritten(valid, sizeof valid));
@@ -126,6 +128,7 @@ static void FN(chooses)(flcol_array *array, const ITEM *items, const uint8_t *va
     CHECK(flcol_filter(array, mask, (n + 7) / 8, &out) == FLCOL_OK);
     FN(has)(&out, chosen, valid, count), held = out.at;
     CHECK(flcol_filter(array, mask, (n + 7) / 8 + 1, &out) == FLCOL_MASK_LENGTH && out.at == held);
+    if (n > 0) CHECK(flcol_filter(array, mask, (n - 1) / 8, &out) == FLCOL_MASK_LENGTH && out.at == held);
     flcol_free(&out);
 }
 
@@ -156,6 +159,8 @@ static void FN(answers)(flcol_array *array, const ITEM *items, const uint8_t *va
     CHECK(CALL(compare)(array, 6, 7, bits, bytes, valid, bytes) == FLCOL_BAD_OPERATOR);
     CHECK(CALL(compare)(array, FLCOL_EQ, 7, bits, bytes + 1, valid, bytes) == FLCOL_WRONG_LENGTH);
     CHECK(CALL(between)(array, 3, 30, 0, 0, bits, bytes, valid, bytes + 1) == FLCOL_WRONG_LENGTH);
+    if (n > 8) CHECK(CALL(compare)(array, FLCOL_EQ, 7, bits, bytes - 1, valid, bytes) == FLCOL_WRONG_LENGTH);
+    if (n > 8) CHECK(CALL(between)(array, 3, 30, 0, 0, bits, bytes, valid, bytes - 1) == FLCOL_WRONG_LENGTH);
     if (nulls) CHECK(CALL(between)(array, 3, 30, 0, 0, bits, bytes, NULL, 0) == FLCOL_VALIDITY_LENGTH);
     if (nulls) CHECK(CALL(compare)(array, FLCOL_LT, 7, bits, bytes, NULL, 0) == FLCOL_VALIDITY_LENGTH);
     CHECK(unwritten(bits, sizeof bits) && unwritten(valid, sizeof valid));
@@ -190,9 +195,25 @@ static void FN(changes_form)(flcol_array *array, const ITEM *items, const uint8_
     flcol_free(&out);
 }
 
+/* The array says what it is; where its column can be encoded so, that array says the same. */
+static void FN(says)(flcol_array *array) {
+    flcol_array again = {NULL};
+    size_t len = 0, same = 0;
+    char text[200], said[200];
+    CHECK(flcol_scheme_len(array, &len) == FLCOL_OK && len <= sizeof text && flcol_scheme(array, text, len) == FLCOL_OK);
+    int32_t status = flcol_encode(array, text, len, &again);
+    CHECK(status == FLCOL_OK || cannot_keep(status));
+    if (status == FLCOL_OK) {
+        CHECK(flcol_scheme_len(&again, &same) == FLCOL_OK && same == len);
+        CHECK(flcol_scheme(&again, said, len) == FLCOL_OK && memcmp(said, text, len) == 0);
+    }
+    flcol_free(&again);
+}
+
 static void FN(every_call)(flcol_array *array, const ITEM *items, const uint8_t *validity, size_t n) {
     FN(has)(array, items, validity, n);
     FN(looks)(array, items, validity, n);
+    FN(says)(array);
     FN(reads)(array, items, validity, n);
     FN(chooses)(array, items, validity, n);
     FN(answers)(array, items, validity, n);

@@ -42,7 +42,7 @@ void __wrap_free(void *old) {
 
 static flcol_array array = {NULL}, out = {NULL};
 static uint8_t validity[ITEM_BYTES], bits[ITEM_BYTES], container[60000], written[60000];
-static size_t container_len;
+static size_t container_len, scheme_len;
 static uint64_t indices[ITEMS];
 static const flcol_range ranges[] = {{9, 900}, {0, 1100}};
 

@@ -26,6 +26,8 @@ static int32_t FN(attempt)(int call) {
     case 16: return flcol_to_blocked(&array, &out);
     case 17: return CALL(compare)(&array, FLCOL_LT, 20, bits, ITEM_BYTES, written, ITEM_BYTES);
     case 18: return CALL(between)(&array, 3, 20, 0, 1, bits, ITEM_BYTES, written, ITEM_BYTES);
+    case 19: return flcol_scheme_len(&array, &number);
+    case 20: return flcol_scheme(&array, (char *)written, scheme_len);
     default: return LAST_CALL;
     }
 }
@@ -74,7 +76,7 @@ static void FN(refuses)(void) {
     for (size_t s = 0; s < SCHEME_COUNT; s++) {
         FN(encoded_in_turn)(&plain, SCHEMES[s]);
         CHECK(flcol_serialized_len(&array, &container_len) == FLCOL_OK && container_len <= sizeof container);
-        CHECK(flcol_serialize(&array, container, container_len) == FLCOL_OK);
+        CHECK(flcol_serialize(&array, container, container_len) == FLCOL_OK && flcol_scheme_len(&array, &scheme_len) == FLCOL_OK);
         for (int call = 0; FN(attempt)(call) != LAST_CALL; call++) FN(refused_in_turn)(call);
         FN(is_as_before)();
     }

@@ -42,6 +42,7 @@ static void ask(const uint8_t *bytes, size_t len) {
         ASK[dtype % FLCOL_NULLABLE](&array, n);
         CHECK(!answers(flcol_null_count(&array, &more)) || more <= n);
         CHECK(!answers(flcol_is_sorted(&array, 0, &answer)) || answer <= 1);
+        CHECK(!answers(flcol_scheme_len(&array, &more)) || more >= 3);
         answers(flcol_to_blocked(&array, &again));
     }
     flcol_free(&array), flcol_free(&again);

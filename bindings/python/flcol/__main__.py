@@ -62,7 +62,8 @@ def inspect(words: argparse.Namespace) -> None:
         column = column_of(name, words.type)
         items, taken = len(column), column.nbytes
         each = f", {8 * taken / items:.2f} bits an item" if items else ""
-        print(f"{name}: {items} items of {column.dtype}, {column.null_count} null, {taken} bytes{each}")
+        scheme = "" if column.dtype.startswith("bool") else f", {column.scheme}"
+        print(f"{name}: {items} items of {column.dtype}, {column.null_count} null, {taken} bytes{each}{scheme}")
 
 
 def encoded(column: Array, scheme: Optional[str]) -> Array:

@@ -3,7 +3,7 @@ from __future__ import annotations
 
 import operator
 from array import array as list_of_numbers
-from ctypes import byref, c_size_t, c_uint8, c_uint64
+from ctypes import byref, c_size_t, c_uint8, c_uint64, create_string_buffer
 from typing import Any, Iterable, Iterator, Optional
 
 from ._bools import BoolArray
@@ -68,9 +68,22 @@ class Array:
         """Whether no item is above the next, or each is below it; a null is below every integer."""
         return bool(self._ask("is_sorted", c_uint8, strict))
 
+    @property
+    def scheme(self) -> str:
+        """What the array is, as the text of a scheme: the words of ``encode``, with each width.
+
+        ``forw`` and ``forcw`` are read as ``for`` and ``forc``, and ``forc`` is ``for`` where one reference serves all
+        chunks. Booleans have none.
+        """
+        text = create_string_buffer(self._ask("scheme_len", c_size_t))
+        self._call("scheme", text, len(text))
+        return text.raw.decode("ascii")
+
     def __repr__(self) -> str:
+        is_integers = self._number % NULLABLE < len(TYPES)
+        scheme = f", {self.scheme}" if is_integers else ""
         bits = f", {8 * self.nbytes / self._len:.2f} bits an item" if self._len else ""
-        return f"<flcol.Array {self.dtype}, {self._len} items{bits}>"
+        return f"<flcol.Array {self.dtype}, {self._len} items{scheme}{bits}>"
 
     # Reading
 

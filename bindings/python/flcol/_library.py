@@ -61,6 +61,8 @@ _CALLS: dict[str, list[Any]] = {
     "len": [_ARRAY, _COUNT],
     "dtype": [_ARRAY, _BYTE],
     "null_count": [_ARRAY, _COUNT],
+    "scheme_len": [_ARRAY, _COUNT],
+    "scheme": [_ARRAY, *_BUFFER],
     "compress": [_ARRAY, _ARRAY],
     "nbytes": [_ARRAY, POINTER(c_uint64)],
     "is_constant": [_ARRAY, _BYTE],

@@ -40,7 +40,7 @@ class Command(unittest.TestCase):
         (self.folder / "column").write_bytes(container)
         status, told, said = run("inspect", self.folder / "column")
         self.assertEqual((status, said), (0, ""))
-        self.assertRegex(told.decode(), r"column: 30000 items of i64\?, 4286 null, \d+ bytes, [\d.]+ bits an item\n")
+        self.assertRegex(told.decode(), r"column: 30000 items of i64\?, 4286 null, \d+ bytes, [\d.]+ bits an item, [a-z0-9:(),_]+\n")
 
     def test_npy(self):
         for dtype in ("u1", "u2", "u4", "u8", "i1", "i2", "i4", "i8"):

@@ -24,7 +24,8 @@ class Columns(unittest.TestCase):
                 self.assertEqual(list(encoded), items)
                 self.assertEqual(len(encoded), len(items))
                 self.assertEqual(encoded.null_count, items.count(None))
-                self.assertEqual(flcol.frombytes(bytes(encoded)).to_list(), items)
+                again = flcol.frombytes(bytes(encoded))
+                self.assertEqual((again.to_list(), again.scheme), (items, encoded.scheme))
                 self.assertLess(encoded.nbytes, len(bytes(encoded)))
 
     def test_single_items(self):
@@ -162,9 +163,23 @@ class Whole(unittest.TestCase):
 
     def test_text_and_copies(self):
         a = flcol.array([1, 2, 3], dtype="u8")
-        self.assertRegex(repr(a), r"^<flcol.Array u8, 3 items, [\d.]+ bits an item>$")
+        self.assertEqual(repr(a), "<flcol.Array u8, 3 items, primitive, 8.00 bits an item>")
         self.assertEqual(copy.copy(a).to_list(), [1, 2, 3])
         self.assertEqual(pickle.loads(pickle.dumps(a)).to_list(), [1, 2, 3])
+
+    def test_schemes(self):
+        plain = flcol.array([-4, 3, 3, 3], dtype="i32")
+        for scheme, shown in (
+            ("primitive", "primitive"), ("forc", "for"), ("forw", "for"), ("for(bitpacked:3)", "for(bitpacked:3)"),
+            ("delta(for(bitpacked:3),_)", "delta(for(bitpacked:3),_)"), ("rle(for,bitpacked:1,_)", "rle(for,bitpacked:1,_)"),
+        ):  # fmt: skip
+            self.assertEqual(plain.encode(scheme).scheme, shown)
+        booleans = flcol.frombytes(b"FLC1\x0bvortex.bool\x08\x03" + bytes(11) + b"\x01\x01" + bytes(7) + b"\x05\x00")
+        self.assertEqual(repr(booleans), "<flcol.Array bool, 3 items, 2.67 bits an item>")
+        for call in (lambda: booleans.scheme, booleans.compress, booleans.is_constant):
+            with self.assertRaises(flcol.Error) as refused:
+                call()
+            self.assertEqual(refused.exception.name, "NotInteger")
 
     def test_threads_share_an_array(self):
         items = items_of("u32", 3000, True)

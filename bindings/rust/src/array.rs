@@ -25,6 +25,8 @@ extern "C" {
     fn flcol_dtype(array: *mut Handle, dtype: *mut u8) -> i32;
     fn flcol_compress(array: *mut Handle, out: *mut Handle) -> i32;
     fn flcol_nbytes(array: *mut Handle, bytes: *mut u64) -> i32;
+    fn flcol_scheme_len(array: *mut Handle, len: *mut usize) -> i32;
+    fn flcol_scheme(array: *mut Handle, text: *mut u8, len: usize) -> i32;
     fn flcol_null_count(array: *mut Handle, count: *mut usize) -> i32;
     fn flcol_is_constant(array: *mut Handle, answer: *mut u8) -> i32;
     fn flcol_is_sorted(array: *mut Handle, strict: u8, answer: *mut u8) -> i32;
@@ -69,15 +71,27 @@ struct ItemRange {
 /// # Ok::<(), flcol::Error>(())
 /// ```
 ///
-/// An array stays on the thread that made it, since arrays that are made of it share what is packed:
+/// An array may go to another thread, also away from arrays that share what is packed with it. Two threads can't ask one
+/// array at the same time:
+///
+/// ```
+/// let array = flcol::Array::new(&[1_u8, 2, 3])?.encode("bitpacked")?;
+/// let part = array.slice(1..)?;
+/// let read = std::thread::spawn(move || part.to_vec::<u8>());
+/// assert_eq!((array.get::<u8>(0)?, read.join().unwrap()?), (Some(1), vec![2, 3]));
+/// # Ok::<(), flcol::Error>(())
+/// ```
 ///
 /// ```compile_fail
 /// let array = flcol::Array::new(&[1_u8, 2, 3]).unwrap();
-/// std::thread::spawn(move || array.len());
+/// std::thread::scope(|scope| scope.spawn(|| array.len()).join().unwrap());
 /// ```
 pub struct Array {
     handle: UnsafeCell<Handle>,
 }
+
+// SAFETY: the library proves it of the handle, and each call has the array alone, since an `Array` is not `Sync`.
+unsafe impl Send for Array {}
 
 impl Drop for Array {
     fn drop(&mut self) {
@@ -196,6 +210,26 @@ impl Array {
     pub fn dtype(&self) -> DType {
         let number = self.ask(|array, dtype| unsafe { flcol_dtype(array, dtype) });
         number.and_then(DType::of).expect("an array has a type")
+    }
+
+    /// What the array is, as the text of a scheme: the words of [`Array::encode`], but that a width is always said, that
+    /// `forw` and `forcw` are read as `for` and `forc`, and that `forc` is `for` where one reference serves all chunks.
+    /// It is printed so too.
+    ///
+    /// ```
+    /// # use flcol::Array;
+    /// let array = Array::new(&[40_u32, 41, 47])?.encode("forw(bitpacked)")?;
+    /// assert_eq!(array.scheme()?, "for(bitpacked:3)");
+    /// assert_eq!(array.to_string(), array.scheme()?);
+    /// # Ok::<(), flcol::Error>(())
+    /// ```
+    ///
+    /// # Errors
+    /// `NotInteger`, `OutOfMemory`.
+    pub fn scheme(&self) -> Result<String, Error> {
+        let mut text = vec![0; self.ask(|array, len| unsafe { flcol_scheme_len(array, len) })?];
+        check(unsafe { flcol_scheme(self.word(), text.as_mut_ptr(), text.len()) })?;
+        Ok(String::from_utf8(text).expect("a scheme is ASCII"))
     }
 
     /// How many items are null.
@@ -443,6 +477,17 @@ fn at_least_one_byte(bytes: &[u8]) -> &[u8] {
         &[0]
     } else {
         bytes
+    }
+}
+
+/// The scheme, or `bool` of booleans, which no scheme makes.
+impl fmt::Display for Array {
+    fn fmt(&self, f: &mut fmt::Formatter<'_>) -> fmt::Result {
+        match self.scheme() {
+            Ok(scheme) => f.pad(&scheme),
+            Err(Error::NotInteger) => f.pad("bool"),
+            Err(_) => Err(fmt::Error),
+        }
     }
 }
 

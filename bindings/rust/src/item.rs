@@ -61,17 +61,19 @@ pub trait Item: Copy + Default + PartialOrd + calls::Calls + 'static {
 }
 
 /// Writes for each method of `Calls` the one that hands its arguments to the call of `flcol.h`.
-macro_rules! calls {
+macro_rules! linked {
     ($item:ident, $($call:ident($($name:ident: $type:ty),*);)+) => {
         $(unsafe fn $call($($name: $type),*) -> i32 {
             extern "C" {
                 #[link_name = concat!("flcol_", stringify!($call), "_", stringify!($item))]
-                fn linked($($name: $type),*) -> i32;
+                fn call($($name: $type),*) -> i32;
             }
-            linked($($name),*)
+            call($($name),*)
         })+
     };
 }
+
+pub(crate) use linked;
 
 macro_rules! items {
     ($($item:ident $ptype:ident),+) => {
@@ -82,7 +84,7 @@ macro_rules! items {
         }
 
         impl calls::Calls for $item {
-            calls! {
+            linked! {
                 $item,
                 from(values: *const $item, len: usize, validity: *const u8, validity_len: usize, out: *mut Handle);
                 constant(value: $item, is_null: u8, len: usize, out: *mut Handle);

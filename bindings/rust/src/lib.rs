@@ -27,6 +27,7 @@
 mod answers;
 mod array;
 mod bitmap;
+pub mod blocks;
 mod error;
 mod item;
 mod iter;

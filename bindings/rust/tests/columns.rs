@@ -63,6 +63,7 @@ fn reads<T: Item + TryFrom<u64> + Debug>() {
             assert_eq!(array.get::<T>(index), Ok(items[index]));
         }
         let again = Array::from_bytes(&array.to_bytes().unwrap()).unwrap();
+        assert_eq!(again.scheme(), array.scheme());
         assert_eq!(again.to_options::<T>().unwrap(), items);
     });
 }
@@ -150,6 +151,17 @@ fn wrong_calls_are_refused_and_change_nothing() {
 }
 
 #[test]
+fn booleans_of_a_container() {
+    let bytes = b"FLC1\x0bvortex.bool\x08\x03\0\0\0\0\0\0\0\0\0\0\0\x01\x01\0\0\0\0\0\0\0\x05\0";
+    let array = Array::from_bytes(bytes).unwrap();
+    assert_eq!((array.len(), array.dtype(), array.to_string()), (3, PType::Bool.into(), "bool".into()));
+    assert_eq!((array.scheme(), array.is_constant()), (Err(Error::NotInteger), Err(Error::NotInteger)));
+    assert_eq!(array.compress().unwrap_err(), Error::NotInteger);
+    assert_eq!(array.to_vec::<u8>(), Err(Error::WrongType));
+    assert_eq!(array.to_bytes().unwrap(), bytes);
+}
+
+#[test]
 fn constants_and_order() {
     let sevens = Array::constant(Some(7_i64), 3).unwrap();
     assert_eq!((sevens.to_vec::<i64>().unwrap(), sevens.is_constant()), (vec![7, 7, 7], Ok(true)));
@@ -162,6 +174,10 @@ fn constants_and_order() {
 fn arrays_and_errors_are_printed() {
     let array = Array::new(&[1_u32, 2, 3]).unwrap();
     assert_eq!(format!("{array:?}"), "Array(u32, 3)");
+    assert_eq!(
+        (array.to_string(), array.encode("rle(for,bitpacked,_)").unwrap().to_string()),
+        ("primitive".into(), "rle(for,bitpacked:2,_)".into())
+    );
     assert_eq!(Error::MaskLength.to_string(), "the mask is not as long as the array");
     assert_eq!((Error::MaskLength.number(), Error::BadContainer.number()), (32, 42));
 }

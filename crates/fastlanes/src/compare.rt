@@ -28,7 +28,6 @@ fn compare_lanes<W: FastLanes, F: Fn(W, W) -> bool>(
     ensures one { (j : ℕ) → j < 16 → W.lane result j ≡ bit_value (is_bit_set (W.lane result j) r) * 2 ^ r }
     ensures set { (j : ℕ) → j < 16 → IsAnswer W.pattern (F.post cmp.now) rhs (W.lane row j) (is_bit_set (W.lane result j) r) }
 {
-    W::prove_in_memory();
     let mut words = W::to_words(row);
     for j in 0..16usize {
         words[j] = W::zero().with_bit(r, cmp(words[j], rhs));
@@ -209,7 +208,6 @@ fn write_group<W: FastLanes>(answers: Simd<W, 16>, g: usize, bytes: &mut [u8; 12
     ensures put { (j : ℕ) → j < 16 → word_at W.T bytes.new (16 * g + j) ≡ W.lane answers j }
     ensures others { (k : ℕ) → k < 16 * g → word_at W.T bytes.new k ≡ word_at W.T bytes.old k }
 {
-    W::prove_in_memory();
     let words = W::to_words(answers);
     for j in 0..16usize {
         words[j].put_word(bytes, 16 * g + j);
@@ -231,7 +229,6 @@ fn compare_groups<
     requires callable { F.IsAlwaysCallable cmp.now }
     ensures set { (r l : ℕ) → r < W.T → l < W.LANES → IsAnswer W.pattern (F.post cmp.now) rhs (item_of_row W.T W.LANES width (S.word words.now) r l) (is_bit_set (word_at W.T bytes.new l) r) }
 {
-    W::prove_in_memory();
     for g in 0..lanes::<W>() / 16 {
         write_group::<W>(
             compare_group::<W, S, F, WIDTH_BASE, WIDTH_STEP>(width, words, cmp, rhs, g),

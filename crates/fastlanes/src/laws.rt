@@ -5,7 +5,7 @@ pub mod kernels;
 pub mod round_trips;
 
 ghost use Rattle.std.specs.Prelude.{◌≡◌, ◌≢◌, ℕ, ◌+◌, ◌-◌, ◌*◌, ◌/◌, ◌%◌, ◌^◌, ◌<◌, ◌≤◌, length};
-ghost use Rattle.fastlanes.specs.Layout.{place, row_of, lane_of, segment, segment_row, segment_lane, Packed, word_at, unpacked_item};
+ghost use Rattle.fastlanes.specs.Layout.{place, row_of, lane_of, segment, segment_row, segment_lane, Packed, pattern_at, word_at, unpacked_item};
 
 use crate::words::FastLanes;
 
@@ -30,6 +30,23 @@ pub fn sum_and_difference<W: FastLanes>(x: W, y: W) -> (W, W)
     ensures difference_undone { (p q : ℕ) → p < 2 ^ W.T → q < 2 ^ W.T → ((p + (2 ^ W.T - q)) % 2 ^ W.T + q) % 2 ^ W.T ≡ p }
 {
     (x.wrapping_sum(y), x.wrapping_difference(y))
+}
+
+/// The pattern of a word is below 2 to the number of bits.
+#[inline(always)]
+pub fn word_is_in_range<W: FastLanes>(word: W)
+    ensures { W.pattern word < 2 ^ W.T }
+{
+    let _number = word.to_u64();
+}
+
+/// The pattern of each word of a slice is below 2 to the number of bits.
+pub fn words_are_in_range<W: FastLanes>(words: &[W])
+    ensures { (i : ℕ) → i < length words.now → pattern_at W.pattern words.now i < 2 ^ W.T }
+{
+    for i in 0..words.len() {
+        word_is_in_range(words[i]);
+    }
 }
 
 /// Rows and lanes map one to one onto the positions of a block.

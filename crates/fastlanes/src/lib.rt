@@ -10,7 +10,7 @@ pub mod deltas;
 pub mod laws;
 pub mod layout;
 pub mod packing;
-pub mod proof_support;
+pub(crate) mod proof_support;
 pub mod runs;
 pub mod single_items;
 pub(crate) mod storage;

@@ -2,21 +2,10 @@
 //! about its arguments, and a call brings that fact into the caller's proof.
 #![tactic(auto)]
 
-ghost use Rattle.std.specs.Prelude.{◌≡◌, ℕ, ◌^◌, ◌<◌, ◌≤◌, length, slice_index};
-ghost use Rattle.fastlanes.specs.Layout.{pattern_at};
+ghost use Rattle.std.specs.Prelude.{◌≡◌, ℕ, ◌<◌, ◌≤◌, length, slice_index};
 
 use crate::counts::Work;
 use crate::layout::FL_CHUNK_SIZE;
-use crate::words::FastLanes;
-
-/// The pattern of each word of a slice is below 2 to the number of bits.
-pub fn prove_all_in_range<W: FastLanes>(words: &[W])
-    ensures { (i : ℕ) → i < length words.now → pattern_at W.pattern words.now i < 2 ^ W.T }
-{
-    for i in 0..words.len() {
-        words[i].prove_in_range();
-    }
-}
 
 /// A block has 1024 items.
 #[inline(always)]

@@ -6,6 +6,7 @@ ghost use Rattle.fastlanes.specs.Layout.{place, row_of, lane_of, Packed, word_at
 ghost use Rattle.fastlanes.specs.SingleItems.{words_at, words_of_items};
 
 use crate::counts::Work;
+use crate::laws::word_is_in_range;
 use crate::layout::row;
 use crate::proof_support::prove_count_fits;
 use crate::widths::{bits, lanes, row_start};
@@ -39,7 +40,7 @@ fn word_of_bytes<W: FastLanes>(width: usize, bytes: &[u8], k: usize, l: usize, w
 {
     work.add_word();
     let word = W::word(bytes, k * lanes::<W>() + l);
-    word.prove_in_range();
+    word_is_in_range(word);
     word
 }
 
@@ -87,7 +88,7 @@ fn word_of_words<W: FastLanes>(width: usize, words: &[W], k: usize, l: usize, wo
 {
     work.add_word();
     let word = words[k * lanes::<W>() + l];
-    word.prove_in_range();
+    word_is_in_range(word);
     word
 }
 

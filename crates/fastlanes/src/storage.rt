@@ -69,7 +69,6 @@ impl<W: FastLanes> Storage<W> for AsBytes {
 
     #[inline(always)]
     fn load(units: &[u8], at: usize) -> Simd<W, 16> {
-        W::prove_in_memory();
         let mut words = [W::zero(); 16];
         read_sixteen(units, at, &mut words);
         W::load(&words, 0)
@@ -81,7 +80,6 @@ impl<W: FastLanes> Storage<W> for AsBytes {
         ensures lanes { (j : ℕ) → j < 16 → word_at W.T units.new (at + j) ≡ W.lane vector j }
         ensures others { (i : ℕ) → (i < at) ⊎ (at + 16 ≤ i) → word_at W.T units.new i ≡ word_at W.T units.old i }
     {
-        W::prove_in_memory();
         let words = W::to_words(vector);
         for j in 0..16usize {
             words[j].put_word(units, at + j);

@@ -6,6 +6,7 @@ ghost use Rattle.fastlanes.specs.Layout.{place, pattern_at, unpacked_item, word_
 ghost use Rattle.fastlanes.specs.Rows.{WritesRows, IsGroup, IsReference, item_of_row, item_with_reference};
 
 use crate::counts::Work;
+use crate::laws::word_is_in_range;
 use crate::layout::{FL_CHUNK_SIZE, pos};
 use crate::proof_support::prove_whole_block;
 use crate::storage::{AsBytes, AsWords, Storage};
@@ -247,8 +248,7 @@ fn unpack_groups<
     requires reference { ADDS_REFERENCE ≡ false → W.pattern reference ≡ 0 }
     ensures items { (i : ℕ) → i < 1024 → pattern_at W.pattern items.new i ≡ (unpacked_item W.T W.LANES width (S.word words.now) i + W.pattern reference) % 2 ^ W.T }
 {
-    reference.prove_in_range();
-    W::prove_in_memory();
+    word_is_in_range(reference);
     if width == 0 {
         fill(reference, items);
         return;

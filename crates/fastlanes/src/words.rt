@@ -1,7 +1,7 @@
 //! The words that a block is packed into.
-ghost use Rattle.std.specs.Prelude.{◌≡◌, ◌≢◌, ◌⊎◌, ℕ, ◌+◌, ◌-◌, ◌*◌, ◌/◌, ◌%◌, ◌^◌, ◌<◌, ◌≤◌, length, slice_index, bit_and, bit_or, nat_eq};
+ghost use Rattle.std.specs.Prelude.{◌≡◌, ◌≢◌, ◌⊎◌, ℕ, ◌+◌, ◌-◌, ◌*◌, ◌/◌, ◌%◌, ◌^◌, ◌<◌, ◌≤◌, length, slice_index, bit_and, bit_or, nat_eq, nat_le};
 ghost use Rattle.std.specs.Mem.{type_size};
-ghost use Rattle.std.proofs.Common.{lit≤};
+ghost use Rattle.std.proofs.Common.{lit≤, refl};
 ghost use Rattle.fastlanes.specs.Layout.{word_at, pattern_at, bit_value, IsWordWidth, bits_8, bits_16, bits_32, bits_64};
 
 use crate::widths::low_bits;
@@ -70,9 +70,19 @@ pub trait FastLanes: Copy {
     fn same(self, other: Self) -> bool
         ensures { result ≡ nat_eq (pattern self) (pattern other) };
 
-    /// A word's pattern is below 2 to the number of bits. The call does nothing when it runs.
-    fn prove_in_range(self)
-        ensures { pattern self < 2 ^ T };
+    /// Whether the pattern is at most that of the other word.
+    fn at_most(self, other: Self) -> bool
+        ensures { result ≡ nat_le (pattern self) (pattern other) };
+
+    /// The word's number, which is below 2 to the number of bits.
+    fn to_u64(self) -> u64
+        ensures number { result ≡ pattern self }
+        ensures range { pattern self < 2 ^ T };
+
+    /// The word of a number.
+    fn from_u64(number: u64) -> Self
+        requires { number < 2 ^ T }
+        ensures { pattern result ≡ number };
 
     /// The patterns of the sixteen words of a vector.
     ghost lane: { List Self → ℕ → ℕ };
@@ -129,10 +139,6 @@ pub trait FastLanes: Copy {
     fn sub(vector: Simd<Self, 16>, other: Simd<Self, 16>) -> Simd<Self, 16>
         ensures lanes { (j : ℕ) → j < 16 → lane result j ≡ (lane vector j + (2 ^ T - lane other j)) % 2 ^ T };
 
-    /// A word takes at most eight bytes, so that arrays of words fit in memory. The call does nothing when it runs.
-    fn prove_in_memory()
-        ensures { type_size Self.row ≤ 8 };
-
     /// A word has 8, 16, 32 or 64 bits, and a block 1024 items.
     ghost shape: { IsWordWidth T LANES };
 
@@ -140,8 +146,14 @@ pub trait FastLanes: Copy {
 
     ghost few_lanes: { LANES ≤ 128 };
 
+    /// A word takes at most eight bytes, so that arrays of words fit in memory.
+    ghost few_bytes: { type_size Self.row ≤ 8 };
+
     /// Words with the same pattern are equal.
     ghost one_word: { (x y : Self) → pattern x ≡ pattern y → x ≡ y };
+
+    /// Each number below 2 to the number of bits is the pattern of a word.
+    ghost each_number: { (n : ℕ) → n < 2 ^ T → (x : Self) × (pattern x ≡ n) };
 }
 
 impl FastLanes for u8 {
@@ -195,9 +207,18 @@ impl FastLanes for u8 {
         self == other
     }
 
-    fn prove_in_range(self) {}
+    #[inline(always)]
+    fn at_most(self, other: Self) -> bool {
+        self <= other
+    }
 
-    fn prove_in_memory() {}
+    fn to_u64(self) -> u64 {
+        self as u64
+    }
+
+    fn from_u64(number: u64) -> Self {
+        number as u8
+    }
 
     ghost lane = { λ v j. slice_index v j };
 
@@ -286,7 +307,11 @@ impl FastLanes for u8 {
 
     ghost few_lanes = { lit≤ tt };
 
+    ghost few_bytes = { lit≤ tt };
+
     ghost one_word = { λ x y e. e };
+
+    ghost each_number = { λ n h. (n, refl) };
 }
 
 impl FastLanes for u16 {
@@ -344,9 +369,18 @@ impl FastLanes for u16 {
         self == other
     }
 
-    fn prove_in_range(self) {}
+    #[inline(always)]
+    fn at_most(self, other: Self) -> bool {
+        self <= other
+    }
 
-    fn prove_in_memory() {}
+    fn to_u64(self) -> u64 {
+        self as u64
+    }
+
+    fn from_u64(number: u64) -> Self {
+        number as u16
+    }
 
     ghost lane = { λ v j. slice_index v j };
 
@@ -435,7 +469,11 @@ impl FastLanes for u16 {
 
     ghost few_lanes = { lit≤ tt };
 
+    ghost few_bytes = { lit≤ tt };
+
     ghost one_word = { λ x y e. e };
+
+    ghost each_number = { λ n h. (n, refl) };
 }
 
 impl FastLanes for u32 {
@@ -494,9 +532,18 @@ impl FastLanes for u32 {
         self == other
     }
 
-    fn prove_in_range(self) {}
+    #[inline(always)]
+    fn at_most(self, other: Self) -> bool {
+        self <= other
+    }
 
-    fn prove_in_memory() {}
+    fn to_u64(self) -> u64 {
+        self as u64
+    }
+
+    fn from_u64(number: u64) -> Self {
+        number as u32
+    }
 
     ghost lane = { λ v j. slice_index v j };
 
@@ -585,7 +632,11 @@ impl FastLanes for u32 {
 
     ghost few_lanes = { lit≤ tt };
 
+    ghost few_bytes = { lit≤ tt };
+
     ghost one_word = { λ x y e. e };
+
+    ghost each_number = { λ n h. (n, refl) };
 }
 
 impl FastLanes for u64 {
@@ -651,9 +702,18 @@ impl FastLanes for u64 {
         self == other
     }
 
-    fn prove_in_range(self) {}
+    #[inline(always)]
+    fn at_most(self, other: Self) -> bool {
+        self <= other
+    }
 
-    fn prove_in_memory() {}
+    fn to_u64(self) -> u64 {
+        self
+    }
+
+    fn from_u64(number: u64) -> Self {
+        number
+    }
 
     ghost lane = { λ v j. slice_index v j };
 
@@ -742,5 +802,9 @@ impl FastLanes for u64 {
 
     ghost few_lanes = { lit≤ tt };
 
+    ghost few_bytes = { lit≤ tt };
+
     ghost one_word = { λ x y e. e };
+
+    ghost each_number = { λ n h. (n, refl) };
 }

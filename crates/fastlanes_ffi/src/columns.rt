@@ -141,7 +141,6 @@ pub(crate) fn decode_column<T: BitPacked>(width: u8, packed: &[u8], items: &mut 
     if width > T::PTYPE.bit_width() {
         return 0;
     }
-    T::prove_fits_in_memory();
     let mut scratch = [T::zero(); FL_CHUNK_SIZE];
     let len = items.len();
     let Ok(mut chunks) = UnpackedChunks::try_new_with_strategy(

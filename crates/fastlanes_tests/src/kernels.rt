@@ -81,7 +81,6 @@ fn item_of_block(block: usize, p: usize) -> u64 {
 
 /// A block of zeros, of ones, or of squares.
 fn block_of<W: FastLanes>(block: usize) -> [W; FL_CHUNK_SIZE] {
-    W::prove_in_memory();
     let mut items = [W::zero(); FL_CHUNK_SIZE];
     for p in 0..FL_CHUNK_SIZE {
         items[p] = word(item_of_block(block, p));
@@ -113,7 +112,6 @@ fn packs_as_by_bits<W: FastLanes>(
     requires fits { length packed.old ≤ 1024 }
     ensures { length packed.new ≡ width * W.LANES }
 {
-    W::prove_in_memory();
     let mut by_bits = [W::zero(); FL_CHUNK_SIZE];
     pack(width, items, packed);
     let by_bits = &mut by_bits[..packed.len()];
@@ -126,7 +124,6 @@ fn unpacks_as_by_bits<W: FastLanes>(width: usize, packed: &[W]) -> bool
     requires width { width ≤ W.T }
     requires size { length packed.now ≡ width * W.LANES }
 {
-    W::prove_in_memory();
     let mut unpacked = [W::zero(); FL_CHUNK_SIZE];
     let mut by_bits = [W::zero(); FL_CHUNK_SIZE];
     unpack(width, packed, &mut unpacked, &mut Work::new());
@@ -136,7 +133,6 @@ fn unpacks_as_by_bits<W: FastLanes>(width: usize, packed: &[W]) -> bool
 
 /// Packs and unpacks a block at each width, in vectors and bit by bit.
 fn agree_at_each_width<W: FastLanes>(items: &[W; FL_CHUNK_SIZE]) -> bool {
-    W::prove_in_memory();
     let mut packed = [W::zero(); FL_CHUNK_SIZE];
     for width in 0..W::T + 1 {
         let packed = &mut packed[..block_size::<W>(width)];
@@ -149,7 +145,6 @@ fn agree_at_each_width<W: FastLanes>(items: &[W; FL_CHUNK_SIZE]) -> bool {
 
 /// The same for a block of zeros, of ones, and of squares.
 fn old_and_new_agree<W: FastLanes>() -> bool {
-    W::prove_in_memory();
     for block in 0..3usize {
         if !agree_at_each_width::<W>(&block_of(block)) {
             return false;
@@ -196,7 +191,6 @@ fn packs_words_as_bytes<W: FastLanes>(width: usize, packed: &mut [W], bytes: &mu
     ensures words { length packed.new ≡ width * W.LANES }
     ensures bytes { length bytes.new ≡ 128 * width }
 {
-    W::prove_in_memory();
     let items = block_of::<W>(2);
     pack(width, &items, packed);
     pack_bytes(width, &items, bytes);
@@ -209,7 +203,6 @@ fn unpacks_words_as_bytes<W: FastLanes>(width: usize, packed: &[W], bytes: &[u8]
     requires words { length packed.now ≡ width * W.LANES }
     requires bytes { length bytes.now ≡ 128 * width }
 {
-    W::prove_in_memory();
     let mut unpacked = [W::zero(); FL_CHUNK_SIZE];
     let mut from_bytes = [W::zero(); FL_CHUNK_SIZE];
     let mut work = Work::new();
@@ -220,7 +213,6 @@ fn unpacks_words_as_bytes<W: FastLanes>(width: usize, packed: &[W], bytes: &[u8]
 
 /// Packs and unpacks a block at each width, as words and as their bytes.
 fn words_and_bytes_agree<W: FastLanes>() -> bool {
-    W::prove_in_memory();
     let mut packed = [W::zero(); FL_CHUNK_SIZE];
     let mut bytes = [0u8; 8 * FL_CHUNK_SIZE];
     for width in 0..W::T + 1 {
@@ -245,7 +237,6 @@ fn words_and_bytes_agree_on_narrow_words(rt: HostRuntime) {
 
 /// Items `p` modulo 7.
 fn remainders<W: FastLanes>() -> [W; FL_CHUNK_SIZE] {
-    W::prove_in_memory();
     let mut items = [W::zero(); FL_CHUNK_SIZE];
     for p in 0..FL_CHUNK_SIZE {
         items[p] = word((p % 7) as u64);
@@ -268,7 +259,6 @@ fn sums_are_read<W: FastLanes>(packed: &[W]) -> bool
     requires width { 3 ≤ W.T }
     requires size { length packed.now ≡ 3 * W.LANES }
 {
-    W::prove_in_memory();
     let mut summed = [W::zero(); FL_CHUNK_SIZE];
     unfor_pack(3, packed, word(10), &mut summed, &mut Work::new());
     are_remainders_and_10(&summed)
@@ -279,7 +269,6 @@ fn indices_are_read<W: FastLanes>(packed: &[W]) -> bool
     requires width { 3 ≤ W.T }
     requires size { length packed.now ≡ 3 * W.LANES }
 {
-    W::prove_in_memory();
     let mut work = Work::new();
     let mut taken = [W::zero(); 3];
     unpack_indices(3, packed, &[1023, 0, 1023], &mut taken, &mut work);
@@ -320,7 +309,6 @@ fn items_are_compared<W: FastLanes>(packed: &[W]) -> bool
 fn packed_items_are_read<W: FastLanes>() -> bool
     requires { 3 ≤ W.T }
 {
-    W::prove_in_memory();
     let mut packed = [W::zero(); FL_CHUNK_SIZE];
     let packed = &mut packed[..block_size::<W>(3)];
     pack(3, &remainders(), packed);
@@ -334,7 +322,6 @@ fn are_moved<W: FastLanes>(stored: &[W; FL_CHUNK_SIZE], items: &[W; FL_CHUNK_SIZ
 
 /// The items through the transposition and back.
 fn places_come_back<W: FastLanes>(items: &[W; FL_CHUNK_SIZE]) -> bool {
-    W::prove_in_memory();
     let mut stored = [W::zero(); FL_CHUNK_SIZE];
     let mut back = [W::zero(); FL_CHUNK_SIZE];
     transpose(items, &mut stored);
@@ -344,7 +331,6 @@ fn places_come_back<W: FastLanes>(items: &[W; FL_CHUNK_SIZE]) -> bool {
 
 /// Bases that count up.
 fn counted<W: FastLanes>() -> [W; FL_CHUNK_SIZE] {
-    W::prove_in_memory();
     let mut bases = [W::zero(); FL_CHUNK_SIZE];
     for l in 0..FL_CHUNK_SIZE {
         bases[l] = word(l as u64);
@@ -356,7 +342,6 @@ fn counted<W: FastLanes>() -> [W; FL_CHUNK_SIZE] {
 fn deltas_come_back<W: FastLanes>(items: &[W; FL_CHUNK_SIZE]) -> bool
     requires { 1 ≤ W.T }
 {
-    W::prove_in_memory();
     let bases = counted::<W>();
     let mut deltas = [W::zero(); FL_CHUNK_SIZE];
     let mut back = [W::zero(); FL_CHUNK_SIZE];
@@ -368,7 +353,6 @@ fn deltas_come_back<W: FastLanes>(items: &[W; FL_CHUNK_SIZE]) -> bool
 fn sums_come_back<W: FastLanes>(items: &[W; FL_CHUNK_SIZE]) -> bool
     requires { 1 ≤ W.T }
 {
-    W::prove_in_memory();
     let bases = counted::<W>();
     let mut sums = [W::zero(); FL_CHUNK_SIZE];
     let mut back = [W::zero(); FL_CHUNK_SIZE];
@@ -378,7 +362,6 @@ fn sums_come_back<W: FastLanes>(items: &[W; FL_CHUNK_SIZE]) -> bool
 
 /// The items through the runs and back.
 fn runs_come_back<W: FastLanes>(items: &[W; FL_CHUNK_SIZE]) -> bool {
-    W::prove_in_memory();
     let mut values = [W::zero(); FL_CHUNK_SIZE];
     let mut indices = [0u16; FL_CHUNK_SIZE];
     let mut back = [W::zero(); FL_CHUNK_SIZE];
@@ -388,7 +371,6 @@ fn runs_come_back<W: FastLanes>(items: &[W; FL_CHUNK_SIZE]) -> bool {
 
 /// Squares from 1 on, of which three stand in a row.
 fn squares<W: FastLanes>() -> [W; FL_CHUNK_SIZE] {
-    W::prove_in_memory();
     let mut items = [W::zero(); FL_CHUNK_SIZE];
     for p in 0..FL_CHUNK_SIZE {
         items[p] = word(item_of_block(2, p / 3 + 1));
@@ -400,7 +382,6 @@ fn squares<W: FastLanes>() -> [W; FL_CHUNK_SIZE] {
 fn blocks_come_back<W: FastLanes>() -> bool
     requires { 1 ≤ W.T }
 {
-    W::prove_in_memory();
     let items = squares::<W>();
     places_come_back(&items)
         && deltas_come_back(&items)

@@ -108,7 +108,6 @@ fn item_of(p: usize) -> u64 {
 
 /// A block of items that use all their bits.
 fn wide_items<W: FastLanes>() -> [W; FL_CHUNK_SIZE] {
-    W::prove_in_memory();
     let mut items = [W::zero(); FL_CHUNK_SIZE];
     for p in 0..FL_CHUNK_SIZE {
         items[p] = word(item_of(p));
@@ -146,7 +145,6 @@ fn items_are_read<W: FastLanes>(width: usize, mask: u64, words: &mut [W], bytes:
     requires words { length words.old ≡ width * W.LANES }
     requires bytes { length bytes.old ≡ 128 * width }
 {
-    W::prove_in_memory();
     packed_bytes(width, &wide_items(), words, bytes);
     let mut unpacked = [W::zero(); FL_CHUNK_SIZE];
     unpack(width, words, &mut unpacked, &mut Work::new());

@@ -1,5 +1,5 @@
 -- Columns that are judged before they make a run-length encoded array.
-use Rattle.std.proofs.Common.{◌≡◌, ◌*◌, ◌/◌, ◌%◌, ℕ, length, true, None, Ok, IsTrue, ap, arith, sym, ◌∙◌, refl}
+use Rattle.std.proofs.Common.{◌≡◌, ◌*◌, ℕ, length, true, None, Ok, IsTrue, ap, arith, sym, ◌∙◌, refl}
 use Rattle.std.specs.Prelude.{Result}
 use Rattle.fl_types.specs.declared.dtype.DType.{DType}
 use Rattle.fl_types.specs.declared.dtype.DType.TheVariants as dtypes

@@ -1,10 +1,8 @@
 -- What packing makes is a bit-packed array.
-use Rattle.std.proofs.Common.{◌≡◌, Ok, Err, None, Some, Option, IsErrAnd, List, ℕ, ap, refl, ◌∙◌}
-use Rattle.std.specs.Prelude.{Result, replicate}
-use Rattle.std.proofs.lemmas.Result.{err_from_is_err_and}
+use Rattle.std.proofs.Common.{◌≡◌, Ok, Err, None, Some, Option, IsErrAnd, List, ℕ, ap, ◌∙◌}
+use Rattle.std.specs.Prelude.{Result}
 use Rattle.fl_types.specs.declared.error.FastLanesError.{FastLanesError}
-use Rattle.fl_types.specs.Refusals.{Answers}
-use Rattle.fl_column.specs.Columns.{Column, PrimitiveParts, column_of_primitive}
+use Rattle.fl_column.specs.Columns.{PrimitiveParts}
 use Rattle.fl_bitpacking.specs.Blocks.{boundaries_of, boundary_array, boundary_blocks}
 use Rattle.fl_bitpacking.specs.Columns.{BitPackedParts, column_of_packed}
 use Rattle.fl_bitpacking.specs.Encoders.{AnswersUnless}

@@ -1,5 +1,5 @@
 -- Run offsets that are all equal: no chunk but the last one has a run value.
-use Rattle.std.proofs.Common.{◌≡◌, ◌==◌, ◌||◌, ◌&&◌, ◌-◌, ◌+◌, ℕ, ◌<◌, ◌≤◌, true, false, Some, None, List, length, replicate, get_or, nat_le, nat_lt, pos, refl, ap, sym, ◌∙◌, arith}
+use Rattle.std.proofs.Common.{◌≡◌, ◌==◌, ◌||◌, ◌&&◌, ◌-◌, ℕ, ◌<◌, true, false, Some, None, List, length, replicate, get_or, nat_le, nat_lt, pos, refl, ap, sym, ◌∙◌, arith}
 use Rattle.std.specs.Prelude.{unsigned_abs, unwrap_or}
 use Rattle.std.specs.List.{range_with_len}
 use Rattle.std.proofs.lemmas.Bool.{lt-ltb}

@@ -1,16 +1,14 @@
 -- References that fit items fit others of the same integer type.
-use Rattle.std.proofs.Common.{◌≡◌, ◌∙◌, ℕ, length, None, Some, Option, refl, ap, sym}
+use Rattle.std.proofs.Common.{◌≡◌, length, Some, Option, refl, ap}
 use Rattle.std.specs.Prelude.{is_some}
 use Rattle.fl_types.specs.declared.dtype.DType.{DType}
 use Rattle.fl_types.specs.declared.dtype.DType.TheVariants as dtypes
 use Rattle.fl_types.specs.declared.dtype.PType.{PType}
-use Rattle.fl_types.specs.declared.error.FastLanesError.{FastLanesError}
 use Rattle.fl_types.specs.Types.{has_ptype, integer_type, is_integer, same_type}
 use Rattle.fl_types.specs.Values.{ScalarParts}
 use Rattle.fl_column.specs.Columns.{Column}
-use Rattle.fl_array.specs.FoRArrays.{ChunkReferences, FoRReferencesParts, GlobalReference, for_refusal, reference_count_refusal, reference_refusal, reference_type_refusal}
+use Rattle.fl_array.specs.FoRArrays.{ChunkReferences, FoRReferencesParts, GlobalReference, for_refusal}
 use Rattle.fl_array.specs.Trees.{column}
-use Rattle.fl_bitpacking.specs.Refusals.{otherwise}
 
 type_there : (p q : PType) → (let some : Option PType = Some p in some) ≡ Some q → p ≡ q
 type_there p q h = cc

@@ -1,39 +1,38 @@
 -- Arrays in which the integer type stays, and nulls may stand or not.
-use Rattle.std.proofs.Common.{◌≡◌, ◌∙◌, ℕ, ◌+◌, ◌<◌, ◌*◌, ◌==◌, Bool, true, false, cond, not, List, length, get_or, Option, Some, None, Result, Ok, refl, ap, sym, subst, arith}
-use Rattle.std.specs.Prelude.{◌||◌, ℤ, is_none, is_some, nat_lt, if◌then◌else◌}
+use Rattle.std.proofs.Common.{◌≡◌, ◌∙◌, ℕ, ◌+◌, ◌*◌, ◌==◌, true, false, cond, not, List, length, Option, Some, None, Result, Ok, refl, ap, sym, subst}
+use Rattle.std.specs.Prelude.{◌||◌, ℤ, is_none, nat_lt, if◌then◌else◌}
 use Rattle.std.specs.List.{list_any}
 use Rattle.fl_types.specs.declared.dtype.DType.{DType}
 use Rattle.fl_types.specs.declared.dtype.DType.TheVariants as dtypes
 use Rattle.fl_types.specs.declared.dtype.Nullability.{Nullability}
 use Rattle.fl_types.specs.declared.dtype.Nullability.TheVariants.{NonNullable, Nullable}
-use Rattle.fl_types.specs.declared.dtype.PType.{PType}
 use Rattle.fl_types.specs.declared.error.FastLanesError.{FastLanesError}
-use Rattle.fl_types.specs.declared.error.FastLanesError.TheVariants.{BlockOffsetsCount, BlockOffsetsType, ChildLength, ChildNullable, NotInteger, OffsetTooLarge, PackedLength, RangeBeyondChild, RunIndexType, WidthTooLarge}
+use Rattle.fl_types.specs.declared.error.FastLanesError.TheVariants.{PackedLength, WidthTooLarge}
 use Rattle.fl_types.specs.declared.validity.Validity.{Validity}
 use Rattle.fl_types.specs.declared.validity.Validity.TheVariants as valid
 use Rattle.fl_types.specs.Integers.{bits_of_type}
 use Rattle.fl_types.specs.Types.{can_be_null, integer_type, is_integer, is_nullable}
-use Rattle.fl_types.specs.Validities.{covers, is_valid_at, nullability_of}
+use Rattle.fl_types.specs.Validities.{is_valid_at, nullability_of}
 use Rattle.fl_types.proofs.BitLists.{same_tables}
-use Rattle.fl_column.specs.Columns.{Column, integers_in, numbers_of, ptype_of_column}
+use Rattle.fl_column.specs.Columns.{Column, integers_in, ptype_of_column}
 use Rattle.fl_column.specs.Selections.{any_null}
 use Rattle.fl_codec.specs.DeltaRefusals.{delta_children_refusal, delta_refusal}
 use Rattle.fl_codec.specs.Deltas.{delta_integer}
-use Rattle.fl_codec.specs.RunRefusals.{is_run_index_dtype, rle_numbers_refusal, rle_refusal, rle_types_refusal}
+use Rattle.fl_codec.specs.RunRefusals.{is_run_index_dtype, rle_refusal, rle_types_refusal}
 use Rattle.fl_codec.proofs.DeltaSlices.{deltas}
 use Rattle.fl_codec.proofs.FirstRefusals.{neither}
 use Rattle.fl_codec.proofs.RunTypes.{have_types}
 use Rattle.fl_bitpacking.specs.Blocks.{global_blocks}
 use Rattle.fl_bitpacking.specs.Casts.{cast_packed, cast_validity}
 use Rattle.fl_bitpacking.specs.Columns.{BitPackedParts, block_count, column_of_packed}
-use Rattle.fl_bitpacking.specs.Refusals.{AreConsistent, global_refusal, otherwise, positions_refusal, validity_and_patches_refusal}
+use Rattle.fl_bitpacking.specs.Refusals.{AreConsistent, global_refusal, otherwise, positions_refusal}
 use Rattle.fl_bitpacking.proofs.NullLaws.{consistent_cast, covers_cast, nullability_cast, packed_cast, packed_null, valid_cast}
 use Rattle.fl_bitpacking.proofs.SoundParts.{are_global, no_validity_and_patches_refusal}
 use Rattle.fl_array.specs.BitPackedArrays.{BitPackedArrayParts, GlobalWidth, blocks_of_widths, refusal_of_bitpacked, tree_of_bitpacked}
 use Rattle.fl_array.specs.DeltaArrays.{DeltaArrayParts, refusal_of_delta, tree_of_delta}
 use Rattle.fl_array.specs.DeltaCasts.{cast_delta}
 use Rattle.fl_array.specs.RLEArrays.{RLEArrayParts, refusal_of_rle}
-use Rattle.fl_array.specs.Trees.{BitPackedGlobal, Delta, Tree, column, column_of_delta}
+use Rattle.fl_array.specs.Trees.{BitPackedGlobal, Delta, Tree, column}
 use Rattle.fl_array.proofs.BitPackedLaws.{bitpacked_column}
 
 -- ---- bit-packed

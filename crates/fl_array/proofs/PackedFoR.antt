@@ -1,5 +1,5 @@
 -- FoR arrays over bit-packed ones: the references are integers of the packed type, and their sums the column.
-use Rattle.std.proofs.Common.{◌≡◌, ◌≤◌, ◌+◌, ◌/◌, ℕ, ℤ, pos, length, arith, ap, sym, ◌∙◌, Ok, None, Option, Some, List, true}
+use Rattle.std.proofs.Common.{◌≡◌, ◌≤◌, ℕ, ℤ, pos, length, arith, ap, sym, ◌∙◌, Ok, None, Option, Some, List, true}
 use Rattle.std.specs.Prelude.{is_some, unwrap_or}
 use Rattle.fl_types.specs.declared.dtype.PType.{PType}
 use Rattle.fl_types.specs.declared.dtype.Nullability.TheVariants.{NonNullable}
@@ -62,13 +62,18 @@ references_enough a p references q n refused same packed offset plain slots item
     let count = s.count in
     omega arith
 
-pub references_sums : (a : FoRArrayParts) (p : BitPackedArrayParts) (references : Tree) (q : PrimitiveParts) → refusal_of_for a ≡ None → ChunkReferences references (offset_of_references a.references) ≡ a.references → tree_of_bitpacked p ≡ a.encoded
-    → p.parts.offset ≡ offset_of_references a.references → Ok (column_of_primitive q) ≡ integer_column (column references) → chunked_for q.slots p.parts.offset (column (tree_of_bitpacked p)) ≡ column (tree_of_for a)
-references_sums a p references q refused same packed offset plain =
+pub references_slots : (a : FoRArrayParts) (references : Tree) (q : PrimitiveParts) → refusal_of_for a ≡ None → ChunkReferences references (offset_of_references a.references) ≡ a.references → Ok (column_of_primitive q) ≡ integer_column (column references)
+    → q.slots ≡ integers_in (column references)
+references_slots a references q refused same plain =
     let s = has_references a references (offset_of_references a.references) refused same in
     let read = references_read a references q refused same plain in
     let non_nullable : nullability_of q.validity ≡ NonNullable = non_nullable_is (nullability_of q.validity) (ap (λ (c : Column). is_nullable c.dtype) read ∙ s.non_nullable) in
-    let slots : q.slots ≡ integers_in (column references) = sym (non_nullable_slots q non_nullable) ∙ ap integers_in read in
+    sym (non_nullable_slots q non_nullable) ∙ ap integers_in read
+
+pub references_sums : (a : FoRArrayParts) (p : BitPackedArrayParts) (references : Tree) (q : PrimitiveParts) → refusal_of_for a ≡ None → ChunkReferences references (offset_of_references a.references) ≡ a.references → tree_of_bitpacked p ≡ a.encoded
+    → p.parts.offset ≡ offset_of_references a.references → Ok (column_of_primitive q) ≡ integer_column (column references) → chunked_for q.slots p.parts.offset (column (tree_of_bitpacked p)) ≡ column (tree_of_for a)
+references_sums a p references q refused same packed offset plain =
+    let slots = references_slots a references q refused same plain in
     ap (λ (t : Tree). chunked_for q.slots p.parts.offset (column t)) packed
     ∙ (ap (λ n. chunked_for q.slots n (column a.encoded)) offset
     ∙ (ap (λ (r : List ℤ). chunked_for r (offset_of_references a.references) (column a.encoded)) slots ∙ sym (chunked_column a references (offset_of_references a.references) same)))

@@ -1,7 +1,6 @@
 -- The items of each kind of column lie in the range of its type.
-use Rattle.std.proofs.Common.{◌≡◌, ◌∙◌, ℕ, ℤ, pos, zero, suc, ◌+◌, ◌<◌, ◌/◌, ◌%◌, ◌+ℤ◌, Bool, true, false, cond, List, [], ◌∷◌, length, map, get_or, replicate, Option, Some, None, refl, ap, sym, arith}
-use Rattle.std.specs.Prelude.{◌&&◌, ◌||◌, IfSome, is_some, Result, Ok, Err, option_map, unwrap_or, unsigned_abs, if◌then◌else◌}
-use Rattle.fl_types.specs.declared.error.FastLanesError.{FastLanesError}
+use Rattle.std.proofs.Common.{◌≡◌, ◌∙◌, ℕ, ℤ, pos, zero, suc, ◌+◌, ◌/◌, ◌+ℤ◌, Bool, true, false, cond, List, [], ◌∷◌, length, map, get_or, replicate, Option, Some, None, refl, ap, sym, arith}
+use Rattle.std.specs.Prelude.{◌&&◌, ◌||◌, IfSome, is_some, Ok, Err, option_map, unwrap_or, unsigned_abs, if◌then◌else◌}
 use Rattle.fl_types.specs.declared.error.FastLanesError.TheVariants.{NotInteger}
 use Rattle.std.specs.List.{list_all}
 use Rattle.std.proofs.lemmas.Bool.Decides.{Decides-int_eq}
@@ -19,7 +18,7 @@ use Rattle.fl_types.specs.Validities.{is_valid_at, nullability_of}
 use Rattle.fl_types.specs.Values.{bool_number, fits_in}
 use Rattle.fl_column.specs.Columns.{BoolParts, Column, PrimitiveParts, bools, column_of_bools, column_of_primitive, integers_in, is_column, numbers_of, option_all, ptype_of_column}
 use Rattle.fl_column.proofs.ListLaws.{all_from, and_first, and_second, and_true}
-use Rattle.fl_patches.specs.PatchMaps.{PatchesParts, patched_in, rank_of}
+use Rattle.fl_patches.specs.PatchMaps.{PatchesParts, patched_in}
 use Rattle.fl_codec.specs.Deltas.{block_integer, delta_column, delta_integer}
 use Rattle.fl_codec.specs.RunColumns.{chunk_start, run_item}
 use Rattle.fl_bitpacking.specs.Blocks.{Blocks, block_item, item_of_blocks}
@@ -27,10 +26,9 @@ use Rattle.fl_bitpacking.specs.Columns.{BitPackedParts, column_of_packed, packed
 use Rattle.fl_bitpacking.proofs.Tables.{get_or-table, length-table}
 use Rattle.fl_codec.specs.FoRColumns.{chunked_for, global_for, plus_reference}
 use Rattle.fl_codec.proofs.FoRRoundTrips.{wrap-wrap_left}
-use Rattle.fl_codec.proofs.FoRSlices.{length-chunked}
 use Rattle.fl_array.specs.Ranges.{items_fit}
 use Rattle.fl_array.specs.Reads.{integer_column}
-use Rattle.fl_array.specs.Trees.{Tree, column, column_of_rle}
+use Rattle.fl_array.specs.Trees.{Tree, column}
 use Rattle.fl_array.specs.BitPackedArrays.{BitPackedArrayParts, blocks_of_widths, tree_of_bitpacked}
 use Rattle.fl_array.specs.DeltaArrays.{DeltaArrayParts, tree_of_delta}
 use Rattle.fl_array.specs.FoRArrays.{ChunkReferences, FoRArrayParts, FoRReferencesParts, GlobalReference, for_tree, refusal_of_for, tree_of_for}

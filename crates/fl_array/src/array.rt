@@ -27,9 +27,9 @@ ghost use Rattle.fl_array.specs.WellFormed.{is_well_formed};
 use crate::bitpacking::{BitPackedArray, BitWidthsView};
 use crate::delta::DeltaArray;
 use crate::for_::{FoRArray, FoRReferences};
+use crate::proof_support::{prove_bools, prove_constant, prove_primitive};
 use crate::rle::RLEArray;
 use crate::validities::{bool_validity, constant_validity, primitive_validity};
-use crate::well_formed::{prove_bools, prove_constant, prove_primitive};
 use fastlanes::Work;
 use fl_column::{
     BoolArray, ConstantArray, DType, FastLanesError, PrimitiveArray, Scalar, Validity,
@@ -181,7 +181,7 @@ impl ArrayRef {
     }
 
     /// The parts of the array, and of each array in it, pass the checks of its constructor.
-    pub fn prove_well_formed(&self)
+    pub(crate) fn prove_well_formed(&self)
         ensures { IsTrue (is_well_formed self.now) }
     {
         match &self.node {

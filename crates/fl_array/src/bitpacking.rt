@@ -34,6 +34,7 @@ use crate::numbers::number_of_scalar;
 use bytes::Bytes;
 use fastlanes::Work;
 use fl_bitpacking::bitpack_decompress::PackedColumn;
+use fl_bitpacking::laws::parts_are_consistent;
 use fl_bitpacking::packed_data::PackedData;
 use fl_bitpacking::refusals::{
     block_offsets_refusal, blocked_refusal, constant_boundaries_refusal, global_refusal,
@@ -166,7 +167,7 @@ impl BitPacked {
         ensures widths { widths_of_owned result.bit_widths ≡ array.widths }
     {
         let BitPackedArray { parts, widths } = array;
-        parts.prove_well_formed();
+        parts_are_consistent(&parts);
         let (offset, len) = (parts.offset() as u16, parts.len());
         let (packed, validity, patches) = parts.into_owned();
         BitPackedDataParts {
@@ -389,7 +390,7 @@ impl BitPackedArray {
     }
 
     /// The parts pass the checks of the constructors.
-    pub fn prove_well_formed(&self)
+    pub(crate) fn prove_well_formed(&self)
         ensures { refusal_of_bitpacked self.now ≡ None }
     {
         let _ = &self.parts;
@@ -446,7 +447,7 @@ impl BitPackedArray {
         ensures memory { IfErr result (λ e. e ≡ OutOfMemory) }
     {
         let data = self.packed_data();
-        data.prove_well_formed();
+        parts_are_consistent(data);
         data.validity().try_clone(alloc)
     }
 

@@ -175,7 +175,7 @@ impl DeltaArray {
     }
 
     /// The parts pass the checks of the constructor.
-    pub fn prove_well_formed(&self)
+    pub(crate) fn prove_well_formed(&self)
         ensures { refusal_of_delta self.now ≡ None }
     {
         let _ = &self.offset;

@@ -3,6 +3,7 @@
 
 mod compute;
 mod for_array_ext;
+mod for_compare;
 mod for_compress;
 mod for_data;
 mod for_decompress;
@@ -340,14 +341,14 @@ impl FoRArray {
     }
 
     /// The constructors refuse these parts in nothing.
-    pub fn prove_well_formed(&self)
+    pub(crate) fn prove_well_formed(&self)
         ensures { refusal_of_for self.now ≡ None }
     {
         let _ = &self.references;
     }
 
     /// References of chunks are no constant array: the constructors make one reference of it.
-    pub fn prove_no_constant(&self)
+    pub(crate) fn prove_no_constant(&self)
         ensures { IsTrue (has_no_constant self.now.references) }
     {
         let _ = &self.references;

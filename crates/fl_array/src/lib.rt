@@ -7,9 +7,9 @@ pub mod delta;
 pub mod for_;
 pub mod laws;
 mod numbers;
+mod proof_support;
 pub mod rle;
 mod to_blocked;
 mod validities;
-mod well_formed;
 
 pub use crate::array::{ArrayRef, IntoArray, Node};

@@ -5,6 +5,7 @@ ghost use Rattle.fl_types.specs.Types.{is_integer};
 ghost use Rattle.fl_types.specs.Values.{scalar_parts, integer_of, ptype_of_value};
 
 use fl_column::{NativePType, PValue, Scalar};
+use fl_types::laws::integer_is_in_range;
 use fl_types::match_each_integer_ptype;
 
 fn number_typed<T: NativePType>(value: PValue) -> usize
@@ -12,7 +13,7 @@ fn number_typed<T: NativePType>(value: PValue) -> usize
     ensures { result ≡ unsigned_abs (integer_of value) }
 {
     let value = T::from_pvalue(value).unwrap();
-    value.prove_in_range();
+    integer_is_in_range(value);
     value.as_i128().unsigned_abs() as usize
 }
 

@@ -223,7 +223,7 @@ impl RLE {
 
 impl RLEArray {
     /// The parts pass the checks of the constructor.
-    pub fn prove_well_formed(&self)
+    pub(crate) fn prove_well_formed(&self)
         ensures { refusal_of_rle self.now ≡ None }
     {
         let _ = &self.offset;

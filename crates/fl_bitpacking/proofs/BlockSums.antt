@@ -151,7 +151,7 @@ pub stored_by_type : (item : ℕ → ℤ → ℤ) (ptype : PType) (parts : BitPa
 unfolding decoded_item
 stored_by_type item ptype parts blocks i typed = ap (λ t. item ((parts.offset + i) / 1024) (item_of_blocks t blocks parts.packed (parts.offset + i))) (sym typed)
 
-map-table : {A B : Type 0} (g : A → B) (h : ℕ → A) (n : ℕ) (d : A) → map g (tabulate h n) ≡ tabulate (λ i. g (h i)) n
+pub map-table : {A B : Type 0} (g : A → B) (h : ℕ → A) (n : ℕ) (d : A) → map g (tabulate h n) ≡ tabulate (λ i. g (h i)) n
 map-table g h n d =
     fill_by_all (λ i. g (h i)) (map g (tabulate h n)) n (g d) (length-map (tabulate h n) g ∙ length-table h n)
     (λ i l. get_or-map g (tabulate h n) i d (g d) (rw (length-table h n) l) ∙ ap g (get_or-table h n i d l))

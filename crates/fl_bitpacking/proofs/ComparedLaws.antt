@@ -1,39 +1,46 @@
 -- Answers of tests as bits, block by block, and the column that they make.
-use Rattle.std.proofs.Common.{◌≡◌, ◌≢◌, ℕ, ℤ, pos, zero, suc, ◌+◌, ◌-◌, ◌*◌, ◌/◌, ◌%◌, ◌^◌, ◌<◌, ◌≤◌, ◌++◌, List, [], ◌∷◌, Bool, true, false, cond, not, nat_eq, length, get_or, map, set, Option, Some, None, option_map, unwrap_or, Result, Ok, refl, ap, sym, ◌∙◌, inl, inr, arith}
+use Rattle.std.proofs.Common.{◌≡◌, ◌≢◌, ℕ, ℤ, pos, zero, suc, ◌+◌, ◌+ℤ◌, ◌-◌, ◌*◌, ◌/◌, ◌%◌, ◌^◌, ◌<◌, ◌≤◌, ◌++◌, List, Bool, true, false, cond, not, nat_eq, length, get_or, map, set, Option, Some, None, option_map, unwrap_or, Result, Ok, refl, ap, sym, ◌∙◌, inl, inr, arith}
 use Rattle.std.specs.Int.{bit_at, bit_not, w64}
 use Rattle.std.proofs.lemmas.Bool.{cases_eq}
 use Rattle.std.proofs.Math.Pow.{pow_mono}
 use Rattle.std.proofs.lemmas.Nat.Bits.{bit_at-lt, bit_at-zero, bit_at_not, bit_at_ones}
-use Rattle.std.proofs.lemmas.List.{same_lists, length-map, get_or-map, get_or-set_same, get_or-set_other, get_or_append_left, get_or-append_right, get_or_default}
-use Rattle.std.proofs.lemmas.List.FromFn.{length-map-range_with_len, get_or-map-range_with_len, sum_by-map-range_with_len_more}
+use Rattle.std.proofs.lemmas.List.{length-map, get_or-map, get_or-set_same, get_or-set_other, get_or_append_left, get_or-append_right}
+use Rattle.std.proofs.lemmas.List.FromFn.{fill_by_all, length-map-range_with_len, get_or-map-range_with_len, sum_by-map-range_with_len_more}
 use Rattle.fastlanes.specs.Layout.{IsWordWidth, place, row_of, lane_of, packed_bit, unpacked_bits, unpacked_item, word_at}
 use Rattle.fastlanes.specs.Rows.{item_of_row}
 use Rattle.fastlanes.specs.Compared.{has_bit, is_bit_set}
 use Rattle.fastlanes.proofs.Bijection.{position_placed}
 use Rattle.fastlanes.proofs.BitSums.{from_bits_below}
 use Rattle.fastlanes.proofs.Blocks.{packed_bit_small}
+use Rattle.fl_types.specs.declared.dtype.DType.{DType}
+use Rattle.fl_types.specs.declared.dtype.DType.TheVariants as dtypes
 use Rattle.fl_types.specs.declared.dtype.PType.{PType}
 use Rattle.fl_types.specs.declared.error.FastLanesError.{FastLanesError}
 use Rattle.fl_types.specs.Bits.{bit_of_word, bits_from, is_set, tabulate}
-use Rattle.fl_types.specs.Integers.{bits_of_type, lanes_of_type, read_as}
+use Rattle.fl_types.specs.Integers.{bits_of_type, lanes_of_type, read_as, wrap}
 use Rattle.fl_types.specs.Refusals.{Answers}
-use Rattle.fl_types.specs.Validities.{covers, items_of}
+use Rattle.fl_types.specs.Types.{nullability_in}
+use Rattle.fl_types.specs.Validities.{covers, is_valid_at, items_of}
 use Rattle.fl_types.specs.Values.{bool_number}
-use Rattle.fl_column.specs.Columns.{BoolParts, column_of_bools, new_bools}
+use Rattle.fl_types.proofs.BitLists.{same_tables}
+use Rattle.fl_codec.specs.FoRColumns.{plus_reference}
+use Rattle.fl_column.specs.Columns.{BoolParts, Column, PrimitiveParts, column_of_bools, new_bools}
 use Rattle.fl_column.specs.Questions.{tested}
-use Rattle.fl_column.proofs.QuestionLaws.{item_tests}
+use Rattle.fl_column.proofs.ItemLaws.{get_or-items_of, length-items_of}
 use Rattle.fl_patches.specs.PatchMaps.{is_rising, patched_in, rank_of}
 use Rattle.fl_patches.proofs.Rising.{rank_at, rank_found}
-use Rattle.fl_bitpacking.specs.Blocks.{Blocks, block_item, value_at}
+use Rattle.fl_bitpacking.specs.Blocks.{Blocks, block_item}
 use Rattle.fl_bitpacking.specs.Columns.{BitPackedParts, column_of_packed, packed_item, stored}
 use Rattle.fl_bitpacking.specs.Decided.{is_decided, undecided_below}
 use Rattle.fl_bitpacking.specs.Parts.{Fit}
 use Rattle.fl_bitpacking.specs.RangeTests.{answer_of, in_range}
-use Rattle.fl_bitpacking.proofs.ColumnLaws.{items_made}
+use Rattle.fl_bitpacking.specs.References.{of_sum_if_some, plus_block_references}
+use Rattle.fl_bitpacking.proofs.BlockSums.{map-table}
 use Rattle.fl_bitpacking.proofs.DecidedLaws.{decided_answer}
 use Rattle.fl_bitpacking.proofs.FoundBelow.{found_below, skipped}
 use Rattle.fl_bitpacking.proofs.Natives.{block_item_is}
 use Rattle.fl_bitpacking.proofs.RangeLaws.{read_small}
+use Rattle.fl_bitpacking.proofs.Tables.{get_or-table, length-table}
 use Rattle.std.proofs.lemmas.Bool.{lt-ltb}
 
 -- ---- words of bits
@@ -128,18 +135,18 @@ count_one : (decided : Bool) → ◌≡◌ {A = ℕ} (cond (not decided) 1 0) (c
 count_one true = refl
 count_one false = refl
 
-pub undecided_more : (t : PType) (blocks : Blocks) (predicate : ℤ → Bool) (j : ℕ) → undecided_below t blocks predicate (j + 1) ≡ undecided_below t blocks predicate j + cond (is_decided t (blocks.width j) predicate) 0 1
+pub undecided_more : (t : PType) (blocks : Blocks) (predicate : ℕ → ℤ → Bool) (j : ℕ) → undecided_below t blocks predicate (j + 1) ≡ undecided_below t blocks predicate j + cond (is_decided t (blocks.width j) (predicate j)) 0 1
 unfolding undecided_below
 undecided_more t blocks predicate j =
-    sum_by-map-range_with_len_more (λ b. cond b 1 0) (λ (k : ℕ). not (is_decided t (blocks.width k) predicate)) 0 j j (omega arith)
-    ∙ ap (λ (n : ℕ). undecided_below t blocks predicate j + n) (count_one (is_decided t (blocks.width j) predicate))
+    sum_by-map-range_with_len_more (λ b. cond b 1 0) (λ (k : ℕ). not (is_decided t (blocks.width k) (predicate k))) 0 j j (omega arith)
+    ∙ ap (λ (n : ℕ). undecided_below t blocks predicate j + n) (count_one (is_decided t (blocks.width j) (predicate j)))
 
-pub undecided_none : (t : PType) (blocks : Blocks) (predicate : ℤ → Bool) → undecided_below t blocks predicate 0 ≡ 0
+pub undecided_none : (t : PType) (blocks : Blocks) (predicate : ℕ → ℤ → Bool) → undecided_below t blocks predicate 0 ≡ 0
 unfolding undecided_below
 undecided_none t blocks predicate = refl
 
 -- more blocks leave no fewer undecided
-pub undecided_within : (t : PType) (blocks : Blocks) (predicate : ℤ → Bool) (j n : ℕ) → j ≤ n → undecided_below t blocks predicate j ≤ undecided_below t blocks predicate n
+pub undecided_within : (t : PType) (blocks : Blocks) (predicate : ℕ → ℤ → Bool) (j n : ℕ) → j ≤ n → undecided_below t blocks predicate j ≤ undecided_below t blocks predicate n
 undecided_within t blocks predicate j zero h = let none : j ≡ 0 = omega arith in rw none (omega arith)
 undecided_within t blocks predicate j (suc n) h =
     let one : suc n ≡ n + 1 = omega arith in
@@ -153,17 +160,17 @@ undecided_within t blocks predicate j (suc n) h =
 
 -- ---- patches
 -- one more answer is put
-pub answer_more : (test : ℤ → Bool) (bits : List Bool) (was : ℕ → Bool) (slots : List ℤ) (xs : List ℕ) (offset k at : ℕ) (b : Bool) → is_rising xs ≡ true → k < length xs → get_or xs k 0 ≡ offset + at → at < length bits → b ≡ test (get_or slots k (pos 0))
-    → ((i : ℕ) → i < length bits → get_or bits i false ≡ unwrap_or (option_map test (found_below slots k (rank_of (offset + i) xs))) (was i))
-    → (i : ℕ) → i < length bits → get_or (set bits at b) i false ≡ unwrap_or (option_map test (found_below slots (k + 1) (rank_of (offset + i) xs))) (was i)
-answer_more test bits was slots xs offset k at b rise inside is room read done i h =
+pub answer_more : (tests : ℕ → ℤ → Bool) (bits : List Bool) (was : ℕ → Bool) (slots : List ℤ) (xs : List ℕ) (offset k at : ℕ) (b : Bool) → is_rising xs ≡ true → k < length xs → get_or xs k 0 ≡ offset + at → at < length bits → b ≡ tests at (get_or slots k (pos 0))
+    → ((i : ℕ) → i < length bits → get_or bits i false ≡ unwrap_or (option_map (tests i) (found_below slots k (rank_of (offset + i) xs))) (was i))
+    → (i : ℕ) → i < length bits → get_or (set bits at b) i false ≡ unwrap_or (option_map (tests i) (found_below slots (k + 1) (rank_of (offset + i) xs))) (was i)
+answer_more tests bits was slots xs offset k at b rise inside is room read done i h =
     elim (cases_eq i at) [
       | inl same ↦
           let found = rank_found xs (offset + i) k rise inside (is ∙ ap (λ n. offset + n) (sym same)) in
-          rw same (get_or-set_same bits at b false room) ∙ (read ∙ sym (rw (found, lt-ltb k (k + 1) (omega arith)) refl))
+          rw same (get_or-set_same bits at b false room) ∙ (read ∙ (ap (λ (n : ℕ). tests n (get_or slots k (pos 0))) (sym same) ∙ sym (rw (found, lt-ltb k (k + 1) (omega arith)) refl)))
       | inr other ↦
           let apart : rank_of (offset + i) xs ≢ Some k = λ e. other (let here = rank_at xs (offset + i) k e in omega (arith, here.1)) in
-          get_or-set_other bits at i b false other ∙ (done i h ∙ ap (λ o. unwrap_or (option_map test o) (was i)) (skipped slots k (rank_of (offset + i) xs) apart))
+          get_or-set_other bits at i b false other ∙ (done i h ∙ ap (λ o. unwrap_or (option_map (tests i) o) (was i)) (skipped slots k (rank_of (offset + i) xs) apart))
     ]
 
 pub answer_or : (test : ℤ → Bool) (o : Option ℤ) (z : ℤ) → unwrap_or (option_map test o) (test z) ≡ test (unwrap_or o z)
@@ -171,39 +178,56 @@ answer_or test None z = refl
 answer_or test (Some x) z = refl
 
 -- ---- the column
-slot : BitPackedParts → Blocks → ℕ → ℤ
-slot parts blocks i = unwrap_or (patched_in parts.patches i) (stored parts blocks i)
+-- what stands at an item that is null or not
+answered_at : (valid bit : Bool) (test : ℤ → Bool) (z : ℤ) → bit ≡ test z → option_map bool_number (cond valid (Some bit) None) ≡ option_map (λ x. bool_number (test x)) (cond valid (Some z) None)
+answered_at false bit test z e = refl
+answered_at true bit test z e = ap (λ b. Some (bool_number b)) e
 
-bits_are : (test : ℤ → Bool) (parts : BitPackedParts) (blocks : Blocks) (bits : List Bool) → length bits ≡ parts.len
-    → ((i : ℕ) → i < parts.len → get_or bits i false ≡ test (unwrap_or (patched_in parts.patches i) (stored parts blocks i))) → bits ≡ map test (tabulate (slot parts blocks) parts.len)
-unfolding slot
-bits_are test parts blocks bits long each =
-    let size : length (tabulate (slot parts blocks) parts.len) ≡ parts.len = length-map-range_with_len (slot parts blocks) 0 parts.len in
-    let whole : length (map test (tabulate (slot parts blocks) parts.len)) ≡ parts.len = length-map (tabulate (slot parts blocks) parts.len) test ∙ size in
-    same_lists bits (map test (tabulate (slot parts blocks) parts.len)) (long ∙ sym whole)
-    (λ k d h.
-    let inside : k < parts.len = omega arith in
-    get_or_default bits k d false h ∙ (each k inside ∙ (ap test (sym (get_or-map-range_with_len (slot parts blocks) 0 parts.len k k (pos 0) inside (omega arith)))
-    ∙ sym (get_or-map test (tabulate (slot parts blocks) parts.len) k (pos 0) d (rw size inside)))))
+items_answered : (tests : ℕ → ℤ → Bool) (parts : BitPackedParts) (blocks : Blocks) (bits : List Bool) → covers parts.validity (length bits) ≡ true → length bits ≡ parts.len
+    → ((i : ℕ) → i < parts.len → get_or bits i false ≡ tests i (unwrap_or (patched_in parts.patches i) (stored parts blocks i)))
+    → map (option_map bool_number) (items_of parts.validity bits) ≡ tabulate (λ i. option_map (λ z. bool_number (tests i z)) (packed_item parts blocks i)) parts.len
+unfolding packed_item
+items_answered tests parts blocks bits covered long each =
+    let items = items_of parts.validity bits in
+    let size : length items ≡ parts.len = length-items_of parts.validity bits covered ∙ long in
+    fill_by_all (λ i. option_map (λ z. bool_number (tests i z)) (packed_item parts blocks i)) (map (option_map bool_number) items) parts.len None (length-map items (option_map bool_number) ∙ size)
+    (λ i h.
+    get_or-map (option_map bool_number) items i None None (rw size h) ∙ (ap (option_map bool_number) (get_or-items_of parts.validity bits i false covered (rw long h))
+    ∙ answered_at (is_valid_at parts.validity i) (get_or bits i false) (tests i) (unwrap_or (patched_in parts.patches i) (stored parts blocks i)) (each i h)))
 
-map_same : (xs : List ℤ) → map (λ z. z) xs ≡ xs
-map_same [] = refl
-map_same (x ∷ xs) = ap (λ ys. x ∷ ys) (map_same xs)
+-- the test of an item plus a reference
+sum_tested : (test : ℤ → Bool) (ptype : PType) (r : ℤ) (item : Option ℤ) → option_map (λ z. bool_number (test z)) (plus_reference ptype r item) ≡ option_map (λ z. bool_number (test (wrap ptype (z +ℤ r)))) item
+sum_tested test ptype r None = refl
+sum_tested test ptype r (Some z) = refl
 
-slot_there : (parts : BitPackedParts) (blocks : Blocks) (i : ℕ) → i < parts.len → value_at (λ z. z) (tabulate (slot parts blocks) parts.len) i ≡ unwrap_or (patched_in parts.patches i) (stored parts blocks i)
-unfolding value_at slot
-slot_there parts blocks i h = ap (λ xs. get_or xs i (pos 0)) (map_same (tabulate (slot parts blocks) parts.len)) ∙ get_or-map-range_with_len (slot parts blocks) 0 parts.len i i (pos 0) h (omega arith)
+-- the test of a column, each item plus the reference of its block
+sums_tested : (test : ℤ → Bool) (references : Option PrimitiveParts) (parts : BitPackedParts) (blocks : Blocks)
+    → (tested test (plus_block_references references parts.offset (column_of_packed parts blocks))).items ≡ tabulate (λ i. option_map (λ z. bool_number (of_sum_if_some parts.ptype references test ((parts.offset + i) / 1024) z)) (packed_item parts blocks i)) parts.len
+sums_tested test None parts blocks = map-table (option_map (λ z. bool_number (test z))) (packed_item parts blocks) parts.len None
+sums_tested test (Some references) parts blocks =
+    let items = packed_item parts blocks in
+    let answer : Option ℤ → Option ℤ = option_map (λ z. bool_number (test z)) in
+    let reference : ℕ → ℤ = λ i. get_or references.slots ((parts.offset + i) / 1024) (pos 0) in
+    let sum : ℕ → Option ℤ = λ i. plus_reference parts.ptype (reference i) (get_or (tabulate items parts.len) i None) in
+    map-table answer sum (length (tabulate items parts.len)) None ∙ (ap (tabulate (λ i. answer (sum i))) (length-table items parts.len)
+    ∙ same_tables (λ i. answer (sum i)) (λ i. option_map (λ z. bool_number (test (wrap parts.ptype (z +ℤ reference i)))) (items i)) parts.len
+    (λ i h. ap (λ x. answer (plus_reference parts.ptype (reference i) x)) (get_or-table items parts.len i None h) ∙ sum_tested test parts.ptype (reference i) (items i)))
 
-pub column_tested : (test : ℤ → Bool) (parts : BitPackedParts) (blocks : Blocks) (bits : List Bool) (r : Result BoolParts FastLanesError) → Fit parts → length bits ≡ parts.len
-    → ((i : ℕ) → i < parts.len → get_or bits i false ≡ test (unwrap_or (patched_in parts.patches i) (stored parts blocks i)))
-    → r ≡ new_bools bits parts.validity → Answers column_of_bools r (Ok (tested test (column_of_packed parts blocks)))
-column_tested test parts blocks bits r fit long each is =
+-- sums have the column's type
+type_of_sums : (references : Option PrimitiveParts) (offset : ℕ) (c : Column) → (plus_block_references references offset c).dtype ≡ c.dtype
+type_of_sums None offset c = refl
+type_of_sums (Some references) offset c = refl
+
+pub column_tested : (test : ℤ → Bool) (references : Option PrimitiveParts) (parts : BitPackedParts) (blocks : Blocks) (bits : List Bool) (r : Result BoolParts FastLanesError) → Fit parts → length bits ≡ parts.len
+    → ((i : ℕ) → i < parts.len → get_or bits i false ≡ of_sum_if_some parts.ptype references test ((parts.offset + i) / 1024) (unwrap_or (patched_in parts.patches i) (stored parts blocks i)))
+    → r ≡ new_bools bits parts.validity → Answers column_of_bools r (Ok (tested test (plus_block_references references parts.offset (column_of_packed parts blocks))))
+column_tested test references parts blocks bits r fit long each is =
     let covered : covers parts.validity (length bits) ≡ true = rw long fit.covers in
     let made : r ≡ Ok (record { bits = bits; validity = parts.validity }) = is ∙ (rw covered refl) in
-    let zs = tabulate (slot parts blocks) parts.len in
-    let size : length zs ≡ parts.len = length-map-range_with_len (slot parts blocks) 0 parts.len in
-    let items : items_of parts.validity (map (λ z. z) zs) ≡ tabulate (packed_item parts blocks) parts.len = items_made (λ z. z) parts blocks zs fit.covers size (slot_there parts blocks) in
-    let plain : items_of parts.validity zs ≡ tabulate (packed_item parts blocks) parts.len = ap (items_of parts.validity) (sym (map_same zs)) ∙ items in
-    let answers : map (option_map bool_number) (items_of parts.validity bits) ≡ map (option_map (λ z. bool_number (test z))) (tabulate (packed_item parts blocks) parts.len) =
-    ap (λ bs. map (option_map bool_number) (items_of parts.validity bs)) (bits_are test parts blocks bits long each) ∙ (item_tests test parts.validity zs ∙ ap (map (option_map (λ z. bool_number (test z)))) plain) in
-    rw (made, answers) refl
+    let answers = items_answered (λ i. of_sum_if_some parts.ptype references test ((parts.offset + i) / 1024)) parts blocks bits covered long each ∙ sym (sums_tested test references parts blocks) in
+    let c = column_of_packed parts blocks in
+    let with : DType → List (Option ℤ) → Column = λ d items. record { dtype = dtypes.Bool (nullability_in d); items = items } in
+    let same : column_of_bools (record { bits = bits; validity = parts.validity }) ≡ tested test (plus_block_references references parts.offset c) =
+    ap (with c.dtype) answers ∙ ap (λ d. with d (tested test (plus_block_references references parts.offset c)).items) (sym (type_of_sums references parts.offset c)) in
+    let answer : Column → Result Column FastLanesError = λ x. Ok x in
+    rw made (ap answer (sym same))

@@ -24,6 +24,7 @@ pub mod RangeLaws
 pub mod DecidedLaws
 pub mod ComparedLaws
 pub mod UndecidedLaws
+pub mod BlockTestLaws
 pub mod TakenLaws
 pub mod TakenColumns
 pub mod EqualBoundaries

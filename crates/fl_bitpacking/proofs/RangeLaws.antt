@@ -270,6 +270,28 @@ tests_sums t test reference R patterns new is typed read made bounds =
           ∙ ap (λ (o : Option PValue). answer_of test.negated (is_from test.lower (sum_with o (read_as t p)) && is_up_to test.upper (sum_with o (read_as t p)))) (sym is)))));
     }
 
+-- the patterns of the sums with one more reference
+pub more_sums : (t : PType) (test sums : RangeTest) (r : ℤ) (R : ℕ) (patterns new : PatternTest) → R ≡ pattern_of t r → new ≡ record patterns { low = (patterns.low + (patterns.greatest + 1 - R)) % (patterns.greatest + 1) }
+    → ((z : ℤ) → passes sums z ≡ passes test (wrap t (z +ℤ r))) → TestsPatterns t test patterns → TestsPatterns t sums new
+more_sums t test sums r R patterns new read made alike tests =
+    let some = pow_pos (bits_of_type t) in
+    let small : R < 2 ^ bits_of_type t = rw read (pattern_small t r) in
+    let low : new.low ≡ (patterns.low + (2 ^ bits_of_type t - R)) % 2 ^ bits_of_type t = ap (λ (q : PatternTest). q.low) made ∙ ap (λ (m : ℕ). (patterns.low + (m - R)) % m) tests.greatest in
+    let span : new.span ≡ patterns.span = ap (λ (q : PatternTest). q.span) made in
+    let negated : new.negated ≡ patterns.negated = ap (λ (q : PatternTest). q.negated) made in
+    let greatest : new.greatest ≡ patterns.greatest = ap (λ (q : PatternTest). q.greatest) made in
+    record {
+      greatest = rw greatest tests.greatest;
+      low = rw low (mod_below (patterns.low + (2 ^ bits_of_type t - R)) (2 ^ bits_of_type t) some);
+      span = rw span tests.span;
+      same = λ p h.
+          (let sum = (p + R) % 2 ^ bits_of_type t in
+          let whole : read_as t sum ≡ wrap t (read_as t p +ℤ r) = ap (λ (n : ℕ). read_as t ((p + n) % 2 ^ bits_of_type t)) read ∙ sum_read t p r h in
+          rw (low, span, negated)
+          (ap (answer_of patterns.negated) (in_lowered (bits_of_type t) p R patterns.low patterns.span h small tests.low)
+          ∙ (tests.same sum (mod_below (p + R) (2 ^ bits_of_type t) some) ∙ (ap (passes test) whole ∙ sym (alike (read_as t p))))));
+    }
+
 -- a sum with two references is that with their sum
 both_added : (x y z : ℤ) → z +ℤ (x +ℤ y) ≡ z +ℤ x +ℤ y
 both_added x y z = omega (arith, ints)

@@ -16,7 +16,7 @@ use Rattle.fl_column.specs.Columns.{Column}
 use Rattle.fl_column.specs.Questions.{tested}
 use Rattle.fl_bitpacking.specs.Blocks.{Blocks, global_blocks}
 use Rattle.fl_bitpacking.specs.Columns.{BitPackedParts, block_count}
-use Rattle.fl_bitpacking.specs.Decided.{is_decided, undecided_below, undecided_blocks, undecided_of_one_width}
+use Rattle.fl_bitpacking.specs.Decided.{is_decided, undecided_below, undecided_blocks, undecided_by_block, undecided_of_one_width}
 use Rattle.fl_bitpacking.proofs.ComparedLaws.{undecided_more, undecided_none}
 
 items_alike : (f g : ℤ → Bool) → ((z : ℤ) → f z ≡ g z) → (xs : List (Option ℤ)) → map (option_map (λ z. bool_number (f z))) xs ≡ map (option_map (λ z. bool_number (g z))) xs
@@ -35,25 +35,26 @@ pub decided_alike : (t : PType) (width : ℕ) (f g : ℤ → Bool) → ((z : ℤ
 unfolding is_decided
 decided_alike t width f g same = ap (λ b. nat_lt width (bits_of_type t) && b) (all_alike (λ x. beq (f (pos x)) (f (pos 0))) (λ x. beq (g (pos x)) (g (pos 0))) (λ x. rw (same (pos x), same (pos 0)) refl) (range_with_len 0 (2 ^ width)))
 
-pub undecided_alike : (t : PType) (blocks : Blocks) (f g : ℤ → Bool) (n : ℕ) → ((z : ℤ) → f z ≡ g z) → undecided_below t blocks f n ≡ undecided_below t blocks g n
+pub undecided_alike : (t : PType) (blocks : Blocks) (f g : ℤ → Bool) (n : ℕ) → ((z : ℤ) → f z ≡ g z) → undecided_below t blocks (λ j. f) n ≡ undecided_below t blocks (λ j. g) n
 unfolding undecided_below
 undecided_alike t blocks f g n same = ap true_count (same_tables (λ j. not (is_decided t (blocks.width j) f)) (λ j. not (is_decided t (blocks.width j) g)) n (λ j h. ap not (decided_alike t (blocks.width j) f g same)))
 
-pub undecided_most : (t : PType) (blocks : Blocks) (f : ℤ → Bool) (n : ℕ) → undecided_below t blocks f n ≤ n
+pub undecided_most : (t : PType) (blocks : Blocks) (f : ℕ → ℤ → Bool) (n : ℕ) → undecided_below t blocks f n ≤ n
 unfolding undecided_below
 undecided_most t blocks f n =
-    let most = count_by-le-length (λ (bit : Bool). bit) (tabulate (λ j. not (is_decided t (blocks.width j) f)) n) in
-    let size = length-map-range_with_len (λ j. not (is_decided t (blocks.width j) f)) 0 n in
+    let most = count_by-le-length (λ (bit : Bool). bit) (tabulate (λ j. not (is_decided t (blocks.width j) (f j))) n) in
+    let size = length-map-range_with_len (λ j. not (is_decided t (blocks.width j) (f j))) 0 n in
     omega arith
 
-one_width_below : (t : PType) (width : ℕ) (f : ℤ → Bool) (n : ℕ) → undecided_below t (global_blocks width) f n ≡ cond (is_decided t width f) 0 n
-one_width_below t width f zero = undecided_none t (global_blocks width) f ∙ none (is_decided t width f)
+one_width_below : (t : PType) (width : ℕ) (f : ℤ → Bool) (n : ℕ) → undecided_below t (global_blocks width) (λ j. f) n ≡ cond (is_decided t width f) 0 n
+one_width_below t width f zero = undecided_none t (global_blocks width) (λ j. f) ∙ none (is_decided t width f)
   where
     none : (b : Bool) → ◌≡◌ {A = ℕ} 0 (cond b 0 0)
     none true = refl
     none false = refl
 one_width_below t width f (suc n) =
-    let step : undecided_below t (global_blocks width) f (n + 1) ≡ undecided_below t (global_blocks width) f n + cond (is_decided t width f) 0 1 = undecided_more t (global_blocks width) f n in
+    let all : ℕ → ℤ → Bool = λ j. f in
+    let step : undecided_below t (global_blocks width) all (n + 1) ≡ undecided_below t (global_blocks width) all n + cond (is_decided t width f) 0 1 = undecided_more t (global_blocks width) all n in
     let one : suc n ≡ n + 1 = omega arith in
     rw (one, step, one_width_below t width f n) (more (is_decided t width f) n)
   where
@@ -73,7 +74,7 @@ one_width parts width f = ap (λ n. cond (eqb parts.len 0) 0 n) (one_width_below
 pub blocks_alike : (parts : BitPackedParts) (blocks : Blocks) (f g : ℤ → Bool) → ((z : ℤ) → f z ≡ g z) → undecided_blocks parts blocks f ≡ undecided_blocks parts blocks g
 blocks_alike parts blocks f g same = ap (λ n. cond (eqb parts.len 0) 0 n) (undecided_alike parts.ptype blocks f g (block_count parts) same)
 
-pub blocks_most : (parts : BitPackedParts) (blocks : Blocks) (f : ℤ → Bool) → undecided_blocks parts blocks f ≤ block_count parts
+pub blocks_most : (parts : BitPackedParts) (blocks : Blocks) (f : ℕ → ℤ → Bool) → undecided_by_block parts blocks f ≤ block_count parts
 blocks_most parts blocks f = elim (cases_Bool (eqb parts.len 0)) [
   | inl empty ↦ rw empty (omega arith)
   | inr some ↦ rw some (undecided_most parts.ptype blocks f (block_count parts))

@@ -2,11 +2,12 @@
 
 ghost use Rattle.std.specs.Prelude.{◌≡◌, ◌+◌, ◌*◌, ◌<◌, ◌≤◌, ◌+ℤ◌, ℕ, length, map, min};
 ghost use Rattle.std.specs.Mem.{type_size};
-ghost use Rattle.std.proofs.Common.{refl};
+ghost use Rattle.std.proofs.Common.{lit≤, refl};
 ghost use Rattle.fastlanes.specs.Layout.{Packed, pattern_at, word_at};
 ghost use Rattle.fl_types.specs.Integers.{bits_of_type, lanes_of_type, wrap};
 ghost use Rattle.fl_bitpacking.specs.Blocks.{block_item, pattern_in, value_at};
 
+use fastlanes::laws::word_is_in_range;
 use fastlanes::{FL_CHUNK_SIZE, FastLanes, Work, pack_bytes, unfor_pack_bytes, unpack_bytes};
 use fl_column::PhysicalPType;
 use fl_column::patterns::write_patterns;
@@ -55,12 +56,11 @@ pub trait BitPacked: NativePType + BitCount {
         requires room { length block.old ≡ 128 * width }
         ensures { Packed (bits_of_type Self.PTYPE) (lanes_of_type Self.PTYPE) width (pattern_in Self.PTYPE (map Self.value items.now)) (word_at (bits_of_type Self.PTYPE) block.new) };
 
-    /// An integer takes at most eight bytes, so that blocks of them fit in memory.
-    fn prove_fits_in_memory()
-        ensures { type_size Self.row ≤ 8 };
-
     // The bits are those of the type's name.
     ghost bits_law: { Self.TYPE_BITS ≡ bits_of_type Self.PTYPE };
+
+    // An integer takes at most eight bytes, so that blocks of them fit in memory.
+    ghost few_bytes: { type_size Self.row ≤ 8 };
 }
 
 /// Unpacks a block of patterns, and reads each as the type.
@@ -77,7 +77,6 @@ fn unpack_patterns<T: PhysicalPType>(
     ensures blocks { work.new.blocks ≡ min (work.old.blocks + 1) u64.MAX }
     ensures words { work.new.words ≡ work.old.words }
 {
-    T::Physical::prove_in_memory();
     let mut patterns = [T::Physical::zero(); FL_CHUNK_SIZE];
     unpack_bytes(width, block, &mut patterns, work);
     for i in 0..FL_CHUNK_SIZE {
@@ -100,7 +99,6 @@ fn unfor_patterns<T: PhysicalPType>(
     ensures blocks { work.new.blocks ≡ min (work.old.blocks + 1) u64.MAX }
     ensures words { work.new.words ≡ work.old.words }
 {
-    T::Physical::prove_in_memory();
     let mut patterns = [T::Physical::zero(); FL_CHUNK_SIZE];
     unfor_pack_bytes(width, block, reference.to_physical(), &mut patterns, work);
     for i in 0..FL_CHUNK_SIZE {
@@ -130,7 +128,6 @@ fn pack_patterns<T: PhysicalPType>(width: usize, items: &[T], block: &mut [u8])
     requires room { length block.old ≡ 128 * width }
     ensures { Packed T.Physical.T T.Physical.LANES width (pattern_in T.PTYPE (map T.value items.now)) (word_at T.Physical.T block.new) }
 {
-    T::Physical::prove_in_memory();
     let mut patterns = [T::Physical::zero(); FL_CHUNK_SIZE];
     write_padded_patterns(items, &mut patterns);
     pack_bytes(width, &patterns, block);
@@ -145,6 +142,8 @@ impl BitCount for u8 {
 impl BitPacked for u8 {
     ghost bits_law = { refl };
 
+    ghost few_bytes = { lit≤ tt };
+
     fn unpack_block(width: usize, block: &[u8], items: &mut [u8; FL_CHUNK_SIZE], work: &mut Work) {
         unpack_bytes(width, block, items, work);
     }
@@ -156,7 +155,7 @@ impl BitPacked for u8 {
         items: &mut [u8; FL_CHUNK_SIZE],
         work: &mut Work,
     ) {
-        FastLanes::prove_in_range(reference);
+        word_is_in_range(reference);
         unfor_pack_bytes(width, block, reference, items, work);
     }
 
@@ -166,8 +165,6 @@ impl BitPacked for u8 {
             None => pack_patterns(width, items, block),
         }
     }
-
-    fn prove_fits_in_memory() {}
 }
 
 impl BitCount for u16 {
@@ -178,6 +175,8 @@ impl BitCount for u16 {
 
 impl BitPacked for u16 {
     ghost bits_law = { refl };
+
+    ghost few_bytes = { lit≤ tt };
 
     fn unpack_block(width: usize, block: &[u8], items: &mut [u16; FL_CHUNK_SIZE], work: &mut Work) {
         unpack_bytes(width, block, items, work);
@@ -190,7 +189,7 @@ impl BitPacked for u16 {
         items: &mut [u16; FL_CHUNK_SIZE],
         work: &mut Work,
     ) {
-        FastLanes::prove_in_range(reference);
+        word_is_in_range(reference);
         unfor_pack_bytes(width, block, reference, items, work);
     }
 
@@ -200,8 +199,6 @@ impl BitPacked for u16 {
             None => pack_patterns(width, items, block),
         }
     }
-
-    fn prove_fits_in_memory() {}
 }
 
 impl BitCount for u32 {
@@ -212,6 +209,8 @@ impl BitCount for u32 {
 
 impl BitPacked for u32 {
     ghost bits_law = { refl };
+
+    ghost few_bytes = { lit≤ tt };
 
     fn unpack_block(width: usize, block: &[u8], items: &mut [u32; FL_CHUNK_SIZE], work: &mut Work) {
         unpack_bytes(width, block, items, work);
@@ -224,7 +223,7 @@ impl BitPacked for u32 {
         items: &mut [u32; FL_CHUNK_SIZE],
         work: &mut Work,
     ) {
-        FastLanes::prove_in_range(reference);
+        word_is_in_range(reference);
         unfor_pack_bytes(width, block, reference, items, work);
     }
 
@@ -234,8 +233,6 @@ impl BitPacked for u32 {
             None => pack_patterns(width, items, block),
         }
     }
-
-    fn prove_fits_in_memory() {}
 }
 
 impl BitCount for u64 {
@@ -246,6 +243,8 @@ impl BitCount for u64 {
 
 impl BitPacked for u64 {
     ghost bits_law = { refl };
+
+    ghost few_bytes = { lit≤ tt };
 
     fn unpack_block(width: usize, block: &[u8], items: &mut [u64; FL_CHUNK_SIZE], work: &mut Work) {
         unpack_bytes(width, block, items, work);
@@ -258,7 +257,7 @@ impl BitPacked for u64 {
         items: &mut [u64; FL_CHUNK_SIZE],
         work: &mut Work,
     ) {
-        FastLanes::prove_in_range(reference);
+        word_is_in_range(reference);
         unfor_pack_bytes(width, block, reference, items, work);
     }
 
@@ -268,8 +267,6 @@ impl BitPacked for u64 {
             None => pack_patterns(width, items, block),
         }
     }
-
-    fn prove_fits_in_memory() {}
 }
 
 impl BitCount for i8 {
@@ -280,6 +277,8 @@ impl BitCount for i8 {
 
 impl BitPacked for i8 {
     ghost bits_law = { refl };
+
+    ghost few_bytes = { lit≤ tt };
 
     fn unpack_block(width: usize, block: &[u8], items: &mut [i8; FL_CHUNK_SIZE], work: &mut Work) {
         unpack_patterns(width, block, items, work);
@@ -298,8 +297,6 @@ impl BitPacked for i8 {
     fn pack_block(width: usize, items: &[i8], block: &mut [u8]) {
         pack_patterns(width, items, block);
     }
-
-    fn prove_fits_in_memory() {}
 }
 
 impl BitCount for i16 {
@@ -310,6 +307,8 @@ impl BitCount for i16 {
 
 impl BitPacked for i16 {
     ghost bits_law = { refl };
+
+    ghost few_bytes = { lit≤ tt };
 
     fn unpack_block(width: usize, block: &[u8], items: &mut [i16; FL_CHUNK_SIZE], work: &mut Work) {
         unpack_patterns(width, block, items, work);
@@ -328,8 +327,6 @@ impl BitPacked for i16 {
     fn pack_block(width: usize, items: &[i16], block: &mut [u8]) {
         pack_patterns(width, items, block);
     }
-
-    fn prove_fits_in_memory() {}
 }
 
 impl BitCount for i32 {
@@ -340,6 +337,8 @@ impl BitCount for i32 {
 
 impl BitPacked for i32 {
     ghost bits_law = { refl };
+
+    ghost few_bytes = { lit≤ tt };
 
     fn unpack_block(width: usize, block: &[u8], items: &mut [i32; FL_CHUNK_SIZE], work: &mut Work) {
         unpack_patterns(width, block, items, work);
@@ -358,8 +357,6 @@ impl BitPacked for i32 {
     fn pack_block(width: usize, items: &[i32], block: &mut [u8]) {
         pack_patterns(width, items, block);
     }
-
-    fn prove_fits_in_memory() {}
 }
 
 impl BitCount for i64 {
@@ -370,6 +367,8 @@ impl BitCount for i64 {
 
 impl BitPacked for i64 {
     ghost bits_law = { refl };
+
+    ghost few_bytes = { lit≤ tt };
 
     fn unpack_block(width: usize, block: &[u8], items: &mut [i64; FL_CHUNK_SIZE], work: &mut Work) {
         unpack_patterns(width, block, items, work);
@@ -388,6 +387,4 @@ impl BitPacked for i64 {
     fn pack_block(width: usize, items: &[i64], block: &mut [u8]) {
         pack_patterns(width, items, block);
     }
-
-    fn prove_fits_in_memory() {}
 }

@@ -123,7 +123,6 @@ pub(crate) fn decode_blocks<T: BitPacked>(
     ensures words { work.new.words ≡ work.old.words }
 {
     prove_count_fits(work);
-    T::prove_fits_in_memory();
     let mut items = Vec::with_capacity(alloc, blocks.len)?;
     let mut scratch = [T::zero(); FL_CHUNK_SIZE];
     let mut start = 0;

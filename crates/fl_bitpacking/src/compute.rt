@@ -2,6 +2,5 @@
 
 pub mod cast;
 pub mod compare;
-mod ordered_word;
 pub(crate) mod range_test;
 pub mod take;

@@ -10,13 +10,16 @@ ghost use Rattle.fl_column.specs.Chunks.{chunk_count};
 ghost use Rattle.fl_patches.specs.PatchMaps.{PatchesParts};
 ghost use Rattle.fl_patches.specs.PatchParts.{blocked_patches, global_patches};
 ghost use Rattle.fl_bitpacking.specs.Blocks.{ArePacked, AreWords, Blocks, boundary_blocks, boundaries_of, global_blocks, pattern_in};
+ghost use Rattle.fl_bitpacking.specs.Refusals.{AreConsistent};
 ghost use Rattle.fl_bitpacking.specs.Columns.{column_of_packed};
 ghost use Rattle.fl_bitpacking.specs.Readers.{Reader, items_in_parts};
 ghost use Rattle.fl_bitpacking.specs.Restored.{AreKept};
 ghost use Rattle.fl_bitpacking.specs.WholeBlocks.{WholeBlocks, after_next, block_items_at, next_items, rest_items};
 ghost use Rattle.fl_types.specs.declared.dtype.PType.{PType};
 
+use crate::packed_data::PackedData;
 use fl_column::PrimitiveArray;
+use fl_column::laws::stored_integers_are_in_range;
 
 /// Packed integers decode to their column if each valid one has a patch of its own value, or no patch and
 /// no more bits than the width of its block; at one width, and at a width for each block.
@@ -53,7 +56,7 @@ pub fn packed_with_patches_and_back(array: &PrimitiveArray)
 {
     // For the proof: the validity covers the slots.
     let _validity = array.validity();
-    array.prove_in_range();
+    stored_integers_are_in_range(array);
 }
 
 /// Integers packed into words of their own type, at one width, have the same words as in bytes.
@@ -72,3 +75,10 @@ pub fn parts_in_order()
 pub fn blocks_in_order()
     ensures { (ptype : PType) (b : WholeBlocks) → rest_items ptype b ≡ unwrap_or (next_items ptype b) [] ++ rest_items ptype (after_next b) }
 {}
+
+/// The parts of packed data are consistent: the offset and the length, the validity and the patches.
+pub fn parts_are_consistent(data: &PackedData)
+    ensures { AreConsistent data.now }
+{
+    let _column = data.column();
+}

@@ -25,6 +25,7 @@ ghost use Rattle.fl_bitpacking.specs.SlicedParts.{HasEnds, IsBlockedSlice, end_b
 use crate::bitpack_decompress::unfor::{References, unfor_blocked, unfor_global};
 use crate::bitpack_decompress::{PackedColumn, unpack_block_item, unpack_blocked, unpack_global};
 use crate::boundaries::global_boundary_array;
+use crate::laws::parts_are_consistent;
 use bytes::Bytes;
 use fastlanes::{FL_CHUNK_SIZE, Work};
 use fl_column::{ConstantArray, PhysicalPType, PrimitiveArray, chunk_count};
@@ -163,13 +164,6 @@ impl PackedData {
         }
     }
 
-    /// The parts are consistent.
-    pub fn prove_well_formed(&self)
-        ensures { AreConsistent self.now }
-    {
-        let _ = &self.offset;
-    }
-
     /// The bytes of the blocks.
     pub fn packed(&self) -> &Bytes
         ensures { result.now ≡ self.now.packed }
@@ -228,7 +222,8 @@ impl PackedData {
 
     /// The parts as they are read.
     pub(crate) fn column(&self) -> PackedColumn<'_>
-        ensures { parts_of result ≡ self.now }
+        ensures parts { parts_of result ≡ self.now }
+        ensures consistent { AreConsistent self.now }
     {
         PackedColumn {
             packed: self.packed.as_slice(),
@@ -253,7 +248,6 @@ impl PackedData {
         ensures blocks { work.new.blocks ≤ work.old.blocks + block_count self.now }
         ensures words { work.new.words ≡ work.old.words }
     {
-        self.prove_well_formed();
         unpack_global(alloc, &self.column(), width, work)
     }
 
@@ -270,7 +264,6 @@ impl PackedData {
         ensures blocks { work.new.blocks ≤ work.old.blocks + block_count self.now }
         ensures words { work.new.words ≡ work.old.words }
     {
-        self.prove_well_formed();
         unpack_blocked(alloc, &self.column(), boundaries, work)
     }
 
@@ -304,7 +297,6 @@ impl PackedData {
         ensures most { work.new.blocks ≤ work.old.blocks + block_count self.now }
         ensures words { work.new.words ≡ work.old.words }
     {
-        self.prove_well_formed();
         unfor_global(alloc, &self.column(), width, references, work)
     }
 
@@ -325,7 +317,6 @@ impl PackedData {
         ensures most { work.new.blocks ≤ work.old.blocks + block_count self.now }
         ensures words { work.new.words ≡ work.old.words }
     {
-        self.prove_well_formed();
         unfor_blocked(alloc, &self.column(), boundaries, references, work)
     }
 
@@ -516,7 +507,7 @@ impl PackedData {
         let from = FL_CHUNK_SIZE / 8 * width * self.first_block(start);
         let to = FL_CHUNK_SIZE / 8 * width * self.end_block(end);
         let sliced = self.slice(alloc, from, to, start, end)?;
-        sliced.prove_well_formed();
+        parts_are_consistent(&sliced);
         Ok(sliced)
     }
 
@@ -540,7 +531,7 @@ impl PackedData {
         ensures blocked { IfOk result (λ p. (c : Column) → HasEnds c self.now.offset start end first from to → blocked_refusal self.now c ≡ None → IsBlockedSlice c self.now start end p) }
     {
         let sliced = self.slice(alloc, from - first, to - first, start, end)?;
-        sliced.prove_well_formed();
+        parts_are_consistent(&sliced);
         Ok(sliced)
     }
 

@@ -101,7 +101,6 @@ pub(crate) fn write_patches<T: NativePType + WrappingAdd>(
     requires long { length items.old ≡ patches.now.array_len }
     ensures { (i : ℕ) → i < length items.old → value_at T.value items.new i ≡ unwrap_or (option_map (plus_block_reference T.PTYPE (map T.value references.now) ((first + i) / 1024)) (patched patches.now i)) (value_at T.value items.old i) }
 {
-    patches.prove_well_formed();
     let offset = patches.offset();
     let indices = patches.indices();
     let values = patches.values();

@@ -124,7 +124,6 @@ impl<'a, T: BitPacked, S: UnpackStrategy<T> + Drop> UnpackedChunks<'a, T, S> {
         ensures* after { sem 𝓛 (lends_items T.row S.row T.BitCount self.entry (unpacked_one self.old) result) }
         ensures items { integers_lent T.value result ≡ Some (block_items_at T.PTYPE self.old.bit_width self.old.packed (1024 * j + span.from) (span.to - span.from)) }
     {
-        T::prove_fits_in_memory();
         let (packed, bit_width) = (self.packed, self.bit_width);
         unpack_at(
             &self.strategy,
@@ -233,7 +232,6 @@ impl<'a, T: BitPacked, S: UnpackStrategy<T> + Drop> UnpackedChunks<'a, T, S> {
         ensures words { self.new.work.words ≡ self.old.work.words }
         ensures same { self.new ≡ record self.old { work = self.new.work } }
     {
-        T::prove_fits_in_memory();
         let blocks = PackedBlocks {
             widths: Widths::Global(self.bit_width),
             packed: self.packed,

@@ -1,7 +1,8 @@
 -- Loops over integers none of which is null.
-use Rattle.std.proofs.Common.{◌≡◌, ℕ, ℤ, pos, ◌+◌, ◌-◌, ◌-ℤ◌, ◌+ℤ◌, ◌<◌, ◌⊎◌, List, [], ◌∷◌, ◌++◌, length, Ok, Err, subst, map, take, drop, get_or, set, Option, Some, None, option_map, inl, inr, refl, ap, sym, ◌∙◌, arith, ◌/◌, length-take, length-drop, ◌≤◌}
+use Rattle.std.proofs.Common.{◌≡◌, ℕ, ℤ, pos, ◌+◌, ◌-◌, ◌-ℤ◌, ◌+ℤ◌, ◌<◌, ◌⊎◌, List, [], ◌∷◌, ◌++◌, length, Ok, Err, subst, map, take, drop, get_or, set, Option, Some, None, option_map, inl, inr, refl, ap, sym, ◌∙◌, arith, ◌/◌, length-take, length-drop, ◌≤◌, ◌*◌}
 use Rattle.std.specs.Prelude.{IfOk, Result}
-use Rattle.std.proofs.lemmas.List.{get_or-map, get_or_default, get_or-set_other, get_or-set_same, length-map, map-set, same_lists, take-map, drop-map, take_all, take-append-le, get_or_append_left, get_or-append_right, get_or-take, get_or-drop, map-append}
+use Rattle.std.proofs.lemmas.List.{get_or-map, get_or_default, get_or-set_other, get_or-set_same, length-map, map-set, same_lists, take-map, drop-map, take_all, take_at, take-append-le, append_assoc, get_or_append_left, get_or-append_right, get_or-take, get_or-drop, length-append, map-append}
+use Rattle.std.proofs.Math.Seq.{take-add}
 use Rattle.std.proofs.lemmas.Bool.{cases_eq, cases_lt}
 use Rattle.fl_types.specs.declared.dtype.PType.{PType}
 use Rattle.fl_types.specs.declared.validity.Validity.{Validity}
@@ -9,6 +10,10 @@ use Rattle.fl_types.specs.declared.validity.Validity.TheVariants as valid
 use Rattle.fl_types.specs.Bits.{between, tabulate}
 use Rattle.fl_types.specs.Integers.{wrap}
 use Rattle.fl_types.specs.Validities.{items_of}
+use Rattle.std.proofs.lemmas.List.FromFn.{fill_by_all}
+use Rattle.fl_types.proofs.BitLists.{same_tables}
+use Rattle.fl_codec.proofs.ForwardFillLaws.{table_append}
+use Rattle.fl_codec.specs.Chunks.{chunk}
 use Rattle.fl_codec.specs.FoRColumns.{chunked_slots, chunked_sums, least_valid, min_valid, minus_reference, valid_items}
 use Rattle.fl_codec.proofs.FoRLaws.{IsLeast, find-least, least_between_more, valid_none}
 use Rattle.fl_codec.proofs.ReferenceLaws.{between_whole, get_or-table, length-table, length_of_values}
@@ -169,3 +174,66 @@ sums_made value ptype references offset xs new long made =
     (λ k d h.
     let inside : k < length xs = omega arith in
     get_or_default (map value new) k d (pos 0) h ∙ (made k inside ∙ sym (get_or-table slot (length (map value xs)) k d (omega arith))))
+
+-- ---- slots that are added
+-- what a vector holds that grew, where the new part was written
+pub grown_written : {X : Type 0} (value : X → ℤ) (mapped : List ℤ) (n start end : ℕ) (old fill made new rest tail : List X) → start ≡ length old → start ≤ end → n ≡ end → length new ≡ end - start → made ≡ take end old ++ fill → map value new ≡ mapped
+    → map value (take n ((take start made ++ (new ++ rest)) ++ tail)) ≡ map value old ++ mapped
+grown_written value mapped n start end old fill made new rest tail start_is order n_is size made_is new_is =
+    let whole : take end old ≡ old = take_all end old (omega arith) in
+    let front : take start made ≡ old = ap (take start) (made_is ∙ ap (λ xs. xs ++ fill) whole) ∙ take_at old fill start (sym start_is) in
+    let joined : (old ++ (new ++ rest)) ++ tail ≡ (old ++ new) ++ (rest ++ tail) = simp append_assoc in
+    let long = length-append old new in
+    ap (λ xs. map value (take n ((xs ++ (new ++ rest)) ++ tail))) front
+    ∙ (ap (λ xs. map value (take n xs)) joined ∙ (ap (map value) (take_at (old ++ new) (rest ++ tail) n (omega arith)) ∙ (map-append value old new ∙ ap (λ ys. map value old ++ ys) new_is)))
+
+-- the first chunks and the next one
+pub chunks_next : {X : Type 0} (value : X → ℤ) (f : ℤ → ℤ) (xs part old new : List X) (k : ℕ) → part ≡ chunk k xs → map value old ≡ map f (map value (take (1024 * k) xs)) → map value new ≡ map value old ++ map f (map value part)
+    → map value new ≡ map f (map value (take (1024 * (k + 1)) xs))
+chunks_next value f xs part old new k part_is before added =
+    let size : 1024 * (k + 1) - 1024 * k ≡ 1024 = omega arith in
+    let sum : 1024 * (k + 1) ≡ 1024 * k + 1024 = omega arith in
+    let next : chunk k xs ≡ take 1024 (drop (1024 * k) xs) = ap (λ (n : ℕ). take n (drop (1024 * k) xs)) size in
+    let both : take (1024 * (k + 1)) xs ≡ take (1024 * k) xs ++ part = ap (λ (n : ℕ). take n xs) sum ∙ (take-add (1024 * k) 1024 xs ∙ ap (λ ys. take (1024 * k) xs ++ ys) (sym (part_is ∙ next))) in
+    let values : map f (map value (take (1024 * (k + 1)) xs)) ≡ map f (map value (take (1024 * k) xs)) ++ map f (map value part) = ap (λ ys. map f (map value ys)) both ∙ (ap (map f) (map-append value (take (1024 * k) xs) part) ∙ map-append f (map value (take (1024 * k) xs)) (map value part)) in
+    rw (values, ← before) added
+
+-- an element of the slots that are added for a chunk
+pub chunk_added : {X : Type 0} (value : X → ℤ) (f : ℤ → ℤ) (xs part old new : List X) (k j : ℕ) → part ≡ chunk k xs → length old ≡ 1024 * k → 1024 * k ≤ j → j < 1024 * (k + 1) → j < length xs → map value new ≡ map value old ++ map f (map value part)
+    → get_or (map value new) j (pos 0) ≡ f (get_or (map value xs) j (pos 0))
+chunk_added value f xs part old new k j part_is long from to within added =
+    let place : 1024 * k + (j - 1024 * k) ≡ j = omega arith in
+    let rest = length-drop (1024 * k) xs in
+    let taken = length-take (1024 * (k + 1) - 1024 * k) (drop (1024 * k) xs) in
+    let size : j - 1024 * k < length part = omega (arith, ap length part_is) in
+    let old_too : length (map value old) ≡ 1024 * k = length-map old value ∙ long in
+    let values = length-map part value in
+    let read : get_or (map value part) (j - 1024 * k) (pos 0) ≡ get_or (map value xs) j (pos 0) =
+    ap (λ ys. get_or (map value ys) (j - 1024 * k) (pos 0)) part_is
+    ∙ (ap (λ ys. get_or ys (j - 1024 * k) (pos 0)) (sym (take-map value (1024 * (k + 1) - 1024 * k) (drop (1024 * k) xs)) ∙ ap (take (1024 * (k + 1) - 1024 * k)) (sym (drop-map value (1024 * k) xs)))
+    ∙ (get_or-take (1024 * (k + 1) - 1024 * k) (drop (1024 * k) (map value xs)) (j - 1024 * k) (pos 0) (omega arith) ∙ (get_or-drop (1024 * k) (map value xs) (j - 1024 * k) (pos 0) ∙ ap (λ i. get_or (map value xs) i (pos 0)) place))) in
+    ap (λ ys. get_or ys j (pos 0)) added
+    ∙ (get_or-append_right (map value old) (map f (map value part)) (1024 * k) j (pos 0) old_too from
+    ∙ (get_or-map f (map value part) (j - 1024 * k) (pos 0) (pos 0) (omega arith) ∙ ap f read))
+
+-- one of the slots before them
+pub chunk_kept : {X : Type 0} (value : X → ℤ) (more : List ℤ) (old new : List X) (j : ℕ) → j < length old → map value new ≡ map value old ++ more → get_or (map value new) j (pos 0) ≡ get_or (map value old) j (pos 0)
+chunk_kept value more old new j within added = ap (λ ys. get_or ys j (pos 0)) added ∙ get_or_append_left (map value old) more (pos 0) j (rw length-map within)
+
+pub added_long : {X : Type 0} (value : X → ℤ) (f : ℤ → ℤ) (part old new : List X) → map value new ≡ map value old ++ map f (map value part) → length new ≡ length old + length part
+added_long value f part old new added = omega (arith, length-map new value, length-map old value, length-map part value, length-map (map value part) f, ap length added, length-append (map value old) (map f (map value part)))
+
+-- slots that a table gives, and those that are added behind them
+pub tables_join : (slot added : ℕ → ℤ) (start end n : ℕ) (old new : List ℤ) → start ≤ end → n ≡ end - start → ((i : ℕ) → start ≤ i → i < end → slot i ≡ added (i - start)) → old ≡ tabulate slot start → new ≡ old ++ tabulate added n → new ≡ tabulate slot end
+tables_join slot added start end n old new order size same before is =
+    let last : tabulate added n ≡ tabulate (λ j. slot (start + j)) n = same_tables added (λ j. slot (start + j)) n (λ j h.
+    let place : start + j - start ≡ j = omega arith in
+    sym (same (start + j) (omega arith) (omega arith) ∙ ap added place)) in
+    let sum : start + n ≡ end = omega arith in
+    is ∙ (ap (λ xs. xs ++ tabulate added n) before ∙ (ap (λ xs. tabulate slot start ++ xs) last ∙ (table_append slot start n ∙ ap (tabulate slot) sum)))
+
+-- a table of a list's items
+pub table_of_items : {A : Type 0} (f : A → ℤ) (xs : List A) (n : ℕ) (d : A) → n ≡ length xs → tabulate (λ i. f (get_or xs i d)) n ≡ map f xs
+table_of_items f xs n d is =
+    let slot : ℕ → ℤ = λ i. f (get_or xs i d) in
+    sym (fill_by_all slot (map f xs) n (f d) (length-map xs f ∙ sym is) (λ i h. get_or-map f xs i d (f d) (omega arith)))

@@ -18,7 +18,7 @@ ghost use Rattle.fl_codec.specs.Parts.{compress_deltas, items_of_primitive};
 use crate::chunks::chunk_count;
 use crate::fill_forward::fill_chunk;
 use crate::plain::{non_nullable, under_validity};
-use fastlanes::proof_support::prove_all_in_range;
+use fastlanes::laws::words_are_in_range;
 use fastlanes::{FL_CHUNK_SIZE, FastLanes, delta, transpose, undelta, untranspose};
 use fl_column::patterns::{push_values, write_patterns};
 use fl_column::{PhysicalPType, PrimitiveArray};
@@ -42,7 +42,7 @@ fn encode_block<W: FastLanes>(block: &mut [W; FL_CHUNK_SIZE], stored: &mut [W; F
     ensures stored { length stored.new ≡ 1024 }
     ensures whole { length block.new ≡ 1024 }
 {
-    prove_all_in_range(block);
+    words_are_in_range(block);
     transpose(block, stored);
     delta(stored, first_row(stored), block);
 }
@@ -83,7 +83,6 @@ fn compress_typed<T: PhysicalPType>(
     let chunks = chunk_count(array.len());
     let mut bases = Vec::with_capacity(alloc, chunks.saturating_mul(T::Physical::LANES))?;
     let mut deltas = Vec::with_capacity(alloc, chunks.saturating_mul(FL_CHUNK_SIZE))?;
-    T::Physical::prove_in_memory();
     let mut block = [T::Physical::zero(); FL_CHUNK_SIZE];
     let mut stored = [T::Physical::zero(); FL_CHUNK_SIZE];
     let mut last = T::zero();
@@ -190,7 +189,6 @@ fn decompress_typed<T: PhysicalPType>(
     ensures items { IfOk result (λ v. map T.value v.items ≡ tabulate (λ i. delta_integer T.PTYPE (map T.value bases.now) (map T.value deltas.now) (offset + i)) len) }
 {
     let mut values = Vec::with_capacity(alloc, len)?;
-    T::Physical::prove_in_memory();
     let mut row = [T::Physical::zero(); FL_CHUNK_SIZE];
     let mut block = [T::Physical::zero(); FL_CHUNK_SIZE];
     let mut stored = [T::Physical::zero(); FL_CHUNK_SIZE];

@@ -11,6 +11,7 @@ use crate::chunks::item_in_chunk;
 use fastlanes::FL_CHUNK_SIZE;
 use fl_column::PhysicalPType;
 use fl_types::Validity;
+use fl_types::laws::integer_is_in_range;
 
 /// Writes the patterns of chunk `k`, which has 1024 items none of which is null, and gives its last item.
 fn fill_whole_chunk<T: PhysicalPType>(
@@ -29,7 +30,7 @@ fn fill_whole_chunk<T: PhysicalPType>(
     let mut last = before;
     for q in 0..FL_CHUNK_SIZE {
         last = items[start + q];
-        last.prove_in_range();
+        integer_is_in_range(last);
         block[q] = last.to_physical();
     }
     last
@@ -53,7 +54,7 @@ fn fill_any_chunk<T: PhysicalPType>(
     let mut last = before;
     for q in 0..FL_CHUNK_SIZE {
         last = item_in_chunk(items, validity, k, q).unwrap_or(last);
-        last.prove_in_range();
+        integer_is_in_range(last);
         block[q] = last.to_physical();
     }
     last

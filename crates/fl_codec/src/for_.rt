@@ -2,6 +2,7 @@
 //! each chunk of 1024.
 
 pub mod single_items;
+mod with_nulls;
 mod without_nulls;
 
 ghost use Rattle.std.specs.Prelude.{◌≡◌, ◌<◌, ◌≤◌, ◌+◌, ◌*◌, ◌+ℤ◌, ◌^◌, ◌&&◌, ℤ, pos, List, IsTrue, IfSome, IfOk, Ok, Some, None, length, map, option_map, unwrap_or, slice_index_or, is_none};
@@ -21,6 +22,7 @@ use crate::chunks::{chunk_count, chunk_end};
 use crate::for_::without_nulls::{chunked_sums, least_of, sums};
 use crate::plain::{non_nullable, under_validity_of};
 use fastlanes::FL_CHUNK_SIZE;
+use fl_column::laws::stored_integers_are_in_range;
 use fl_column::{ConstantArray, PrimitiveArray, item_at};
 use fl_types::{
     FastLanesError, NativePType, Nullability, PType, PValue, Scalar, Validity, is_equal,
@@ -239,34 +241,6 @@ fn common_reference<T: NativePType>(references: &[T]) -> Option<T>
     Some(first)
 }
 
-/// The slot of an item less a reference, 0 of a null.
-fn difference<T: NativePType + WrappingSub>(item: Option<T>, reference: T) -> T
-    ensures { T.value result ≡ minus_reference T.PTYPE (T.value reference) (option_map T.value item) }
-{
-    match item {
-        Some(item) => item.wrapping_sub(&reference),
-        None => T::zero(),
-    }
-}
-
-/// The slots of the items, each of which may be null, less a reference.
-fn valid_differences<T: NativePType + WrappingSub>(
-    alloc: Global,
-    items: &[T],
-    validity: &Validity,
-    reference: T,
-) -> Result<Vec<T>, AllocError>
-    requires { IsTrue (covers validity.now (length items.now)) }
-    ensures long { IfOk result (λ v. length v.items ≡ length items.now) }
-    ensures slots { IfOk result (λ v. map T.value v.items ≡ map (minus_reference T.PTYPE (T.value reference)) (items_of validity.now (map T.value items.now))) }
-{
-    let mut slots = Vec::with_capacity(alloc, items.len())?;
-    for i in 0..items.len() {
-        slots.push(difference(item_at(items, validity, i), reference))?;
-    }
-    Ok(slots)
-}
-
 /// The slots of the items less a reference.
 fn differences<T: NativePType + WrappingSub>(
     alloc: Global,
@@ -282,28 +256,8 @@ fn differences<T: NativePType + WrappingSub>(
         Validity::NonNullable | Validity::AllValid => {
             without_nulls::differences(alloc, items, reference)
         }
-        _ => valid_differences(alloc, items, validity, reference),
+        _ => with_nulls::differences(alloc, items, validity, reference),
     }
-}
-
-/// The slots of the items, each of which may be null, less the references of their chunks.
-fn valid_chunked_differences<T: NativePType + WrappingSub>(
-    alloc: Global,
-    items: &[T],
-    validity: &Validity,
-    references: &[T],
-) -> Result<Vec<T>, AllocError>
-    requires covers { IsTrue (covers validity.now (length items.now)) }
-    requires references { length references.now ≡ chunks_of (length items.now) }
-    ensures long { IfOk result (λ v. length v.items ≡ length items.now) }
-    ensures slots { IfOk result (λ v. map T.value v.items ≡ chunked_slots T.PTYPE (map T.value references.now) (items_of validity.now (map T.value items.now))) }
-{
-    let mut slots = Vec::with_capacity(alloc, items.len())?;
-    for i in 0..items.len() {
-        let reference = references[i / FL_CHUNK_SIZE];
-        slots.push(difference(item_at(items, validity, i), reference))?;
-    }
-    Ok(slots)
 }
 
 /// The slots of the items, each less the reference of its chunk.
@@ -322,7 +276,7 @@ fn chunked_differences<T: NativePType + WrappingSub>(
         Validity::NonNullable | Validity::AllValid => {
             without_nulls::chunked_differences(alloc, items, references)
         }
-        _ => valid_chunked_differences(alloc, items, validity, references),
+        _ => with_nulls::chunked_differences(alloc, items, validity, references),
     }
 }
 
@@ -365,7 +319,7 @@ fn encode_typed<T: NativePType + WrappingSub>(
     requires { array.now.ptype ≡ T.PTYPE }
     ensures { Answers global_parts result (encode_global_by order array.now) }
 {
-    array.prove_in_range();
+    stored_integers_are_in_range(array);
     let items = array.as_slice::<T>();
     match least_between(items, array.validity(), 0, items.len(), order) {
         Some(least) => subtract_reference(alloc, array, least),
@@ -427,7 +381,7 @@ fn encode_chunks<T: NativePType + WrappingSub>(
     requires { array.now.ptype ≡ T.PTYPE }
     ensures { Answers for_parts result (Ok (less_chunk_leasts order array.now)) }
 {
-    array.prove_in_range();
+    stored_integers_are_in_range(array);
     let references = chunk_references(alloc, array.as_slice::<T>(), array.validity(), order)?;
     match common_reference(&references) {
         Some(reference) => Ok(EncodedFoR::Global(subtract_reference(alloc, array, reference)?)),

@@ -9,6 +9,7 @@ ghost use Rattle.fl_codec.specs.RunColumns.{run_column, runs_refusal};
 
 use crate::for_::ItemOrder;
 use fl_column::PrimitiveArray;
+use fl_column::laws::stored_integers_are_in_range;
 
 /// A column less its least item is the column again with that item added.
 pub fn global_for_and_back(array: &PrimitiveArray)
@@ -22,7 +23,7 @@ pub fn global_for_and_back(array: &PrimitiveArray)
 pub fn global_for_by_and_back(array: &PrimitiveArray, order: ItemOrder)
     ensures { (parts : OneReference) → encode_global_by order array.now ≡ Ok parts → column_of_one_reference parts ≡ column_of_primitive array.now }
 {
-    array.prove_in_range();
+    stored_integers_are_in_range(array);
     let (_order, _validity) = (order, array.validity());
 }
 
@@ -37,7 +38,7 @@ pub fn chunked_for_and_back(array: &PrimitiveArray)
 pub fn chunked_for_by_and_back(array: &PrimitiveArray, order: ItemOrder)
     ensures { column_of_for (encode_chunked_by order array.now) ≡ column_of_primitive array.now }
 {
-    array.prove_in_range();
+    stored_integers_are_in_range(array);
     let (_order, _validity) = (order, array.validity());
 }
 
@@ -46,7 +47,7 @@ pub fn chunked_for_by_and_back(array: &PrimitiveArray, order: ItemOrder)
 pub fn deltas_and_back(array: &PrimitiveArray)
     ensures { delta_column array.now.ptype (compress_deltas array.now).0.slots (compress_deltas array.now).1.slots array.now.validity 0 (length array.now.slots) ≡ column_of_primitive array.now }
 {
-    array.prove_in_range();
+    stored_integers_are_in_range(array);
     let _validity = array.validity();
 }
 

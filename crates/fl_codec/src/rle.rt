@@ -23,8 +23,10 @@ use crate::delta::push_block;
 use crate::fill_forward::fill_chunk;
 use crate::plain::{non_nullable, with_validity};
 use fastlanes::{FL_CHUNK_SIZE, FastLanes, rle_decode, rle_encode};
+use fl_column::laws::stored_integers_are_in_range;
 use fl_column::patterns::{push_values, write_patterns};
 use fl_column::{PhysicalPType, PrimitiveArray, item_at};
+use fl_types::laws::integer_is_in_range;
 use fl_types::{BitList, FastLanesError, NativePType, PValue, Validity, match_each_integer_ptype};
 use std::alloc::{AllocError, Global};
 
@@ -116,7 +118,6 @@ fn push_chunks<T: PhysicalPType>(
     ensures indices { OnOk result (indices.new.items ≡ indices_to (items_of_primitive array.now) chunks) }
     ensures offsets { OnOk result (offsets.new.items ≡ offsets_to (items_of_primitive array.now) chunks) }
 {
-    T::Physical::prove_in_memory();
     let mut block = [T::Physical::zero(); FL_CHUNK_SIZE];
     let mut rle = [T::Physical::zero(); FL_CHUNK_SIZE];
     let mut positions = [0u16; FL_CHUNK_SIZE];
@@ -220,7 +221,7 @@ fn index_number<I: NativePType>(index: I) -> u16
     requires small { IsTrue (is_run_index 1024 (Some (I.value index))) }
     ensures { result ≡ unsigned_abs (I.value index) }
 {
-    index.prove_in_range();
+    integer_is_in_range(index);
     index.as_i128() as u16
 }
 
@@ -336,7 +337,6 @@ fn decode_items<T: PhysicalPType>(
     ensures items { IfOk result (λ v. map T.value v.items ≡ tabulate (λ i. run_integer (map T.value values.now) (items_of_primitive indices.now) (numbers_of (column_of_primitive offsets.now)) (offset + i)) len) }
 {
     let mut items = Vec::with_capacity(alloc, len)?;
-    T::Physical::prove_in_memory();
     let mut rle = [T::Physical::zero(); FL_CHUNK_SIZE];
     let mut block = [T::Physical::zero(); FL_CHUNK_SIZE];
     let mut numbers = [0u16; FL_CHUNK_SIZE];
@@ -367,7 +367,7 @@ fn decode_typed<T: PhysicalPType>(
     requires sound { runs_refusal (record { values = values.now; indices = indices.now; offsets = offsets.now }) offset len ≡ None }
     ensures { Answers column_of_primitive result (Ok (run_column (record { values = values.now; indices = indices.now; offsets = offsets.now }) offset len)) }
 {
-    values.prove_in_range();
+    stored_integers_are_in_range(values);
     let _validity = offsets.validity();
     let (shown, total) = (indices.validity(), indices.len());
     let run_values = values.as_slice::<T>();

@@ -1,5 +1,5 @@
 -- Copies of one item.
-use Rattle.std.proofs.Common.{◌≡◌, ℕ, ℤ, zero, suc, ◌<◌, ◌≤◌, ◌+◌, Bool, true, false, List, [], ◌∷◌, length, replicate, Option, Some, None, nat_lt, map, sum_by, option_and_then, cond, IsTrue, ◌-◌, ◌^◌, ◌||◌, IfNone, Ok, Err, is_some, option_map, unsigned_abs, refl, ap, ◌∙◌, sym, arith}
+use Rattle.std.proofs.Common.{◌≡◌, ℕ, ℤ, zero, suc, ◌<◌, ◌≤◌, ◌+◌, Bool, true, false, List, [], ◌∷◌, length, replicate, Option, Some, None, nat_lt, map, sum_by, option_and_then, cond, IsTrue, ◌-◌, ◌^◌, ◌||◌, IfNone, Ok, is_some, option_map, unsigned_abs, refl, ap, ◌∙◌, sym, arith}
 use Rattle.std.specs.List.{list_all, flat_map}
 use Rattle.std.proofs.lemmas.List.{get_or-replicate, length-replicate, replicate-append-replicate}
 use Rattle.std.proofs.lemmas.List.Sums.{sum_by-cons}
@@ -18,7 +18,6 @@ use Rattle.fl_types.specs.Validities.{items_of, nullability_of}
 use Rattle.fl_types.specs.declared.dtype.DType.{DType}
 use Rattle.fl_types.specs.declared.dtype.PType.{PType}
 use Rattle.fl_types.specs.declared.mask.Mask.{Mask}
-use Rattle.fl_types.specs.declared.error.FastLanesError.TheVariants.{LengthOverflow, RangeOutOfBounds}
 use Rattle.fl_column.proofs.CastLaws.{some_if}
 use Rattle.fl_column.specs.Selections.{is_below_length, items_at, positions_in}
 use Rattle.fl_column.proofs.ItemLaws.{between_constant}

@@ -4,6 +4,7 @@ pub mod CastSlotLaws
 pub mod ChunkLaws
 pub mod ColumnAlgebra
 pub mod ConstantLaws
+pub mod FilterLaws
 pub mod FullLaws
 pub mod GatherLaws
 pub mod ItemLaws

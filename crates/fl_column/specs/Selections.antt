@@ -5,7 +5,7 @@ use Rattle.fl_column.specs.Columns.{option_all}
 use Rattle.fl_types.specs.Bits.{true_count}
 use Rattle.fl_types.specs.declared.validity.Validity.{Validity}
 use Rattle.fl_types.specs.declared.validity.Validity.TheVariants as valid
-use Rattle.fl_column.specs.Operations.{is_in_range}
+use Rattle.fl_column.specs.Operations.{is_in_range, kept}
 use Rattle.fl_types.specs.declared.error.FastLanesError.{FastLanesError}
 use Rattle.fl_types.specs.declared.error.FastLanesError.TheVariants.{IndexOutOfBounds}
 
@@ -58,3 +58,10 @@ bit_named bits index = slice_index_or bits (unsigned_abs index) false
 -- the validity of items with these bits, without them where no item is null
 abbrev pub validity_of_bits : List Bool → Validity
 validity_of_bits bits = if any_null (valid.Array bits) (length bits) then valid.Array bits else valid.AllValid
+
+-- the validity of the items that a mask keeps
+abbrev pub kept_validity : List Bool → Validity → Validity
+kept_validity bits valid.NonNullable = valid.NonNullable
+kept_validity bits valid.AllValid = valid.AllValid
+kept_validity bits valid.AllInvalid = valid.AllInvalid
+kept_validity bits (valid.Array valid_bits) = validity_of_bits (kept bits valid_bits)

@@ -1,14 +1,17 @@
 //! Laws of every column.
 
-ghost use Rattle.std.specs.Prelude.{◌≡◌, ◌+◌, ◌-◌, ◌<◌, ◌≤◌, ℤ, true, not, length, map, Ok, Err};
+ghost use Rattle.std.specs.Prelude.{◌≡◌, ◌+◌, ◌-◌, ◌<◌, ◌≤◌, ℤ, true, not, length, map, IsTrue, Ok, Err};
 ghost use Rattle.std.specs.List.{list_all};
-ghost use Rattle.fl_column.specs.Columns.{Column};
+ghost use Rattle.fl_column.specs.Columns.{Column, column_of_primitive, is_column};
 ghost use Rattle.fl_column.specs.Operations.{cast_column, is_in_range, item_named, moved, slice_of, take_of};
 ghost use Rattle.fl_column.specs.Questions.{scalar_in, holds, scalar_of_column};
+ghost use Rattle.fl_types.specs.Integers.{fits};
 ghost use Rattle.fl_types.specs.declared.error.FastLanesError.TheVariants.{IndexOutOfBounds};
 ghost use Rattle.fl_types.specs.declared.query.CompareOperator.TheVariants.{Eq, NotEq};
 
-use fl_types::DType;
+use crate::primitive::PrimitiveArray;
+use fl_types::laws::integer_is_in_range;
+use fl_types::{DType, NativePType, match_each_integer_ptype};
 
 /// A slice of a slice is the slice by the composed range.
 #[tactic(auto, using(crate::proofs::ColumnAlgebra::slice_of_slice))]
@@ -48,3 +51,23 @@ pub fn cast_of_cast(first: DType, second: DType)
 pub fn not_equal_is_not_equal()
     ensures { (constant z : ℤ) → holds NotEq constant z ≡ not (holds Eq constant z) }
 {}
+
+#[tactic(auto, using(crate::proofs::ListLaws::all_mapped_more))]
+fn typed_is_in_range<T: NativePType>(array: &PrimitiveArray)
+    requires { array.now.ptype ≡ T.PTYPE }
+    ensures { IsTrue (list_all (fits array.now.ptype) array.now.slots) }
+{
+    let items = array.as_slice::<T>();
+    for item in items {
+        integer_is_in_range(*item);
+    }
+}
+
+/// Each stored integer of a plain array is in the range of its type, so that its items are a column.
+#[tactic(auto, using(crate::proofs::SelectionLaws::plain_is_column))]
+pub fn stored_integers_are_in_range(array: &PrimitiveArray)
+    ensures slots { IsTrue (list_all (fits array.now.ptype) array.now.slots) }
+    ensures column { IsTrue (is_column (column_of_primitive array.now)) }
+{
+    match_each_integer_ptype!(array.ptype(), typed_is_in_range(array))
+}

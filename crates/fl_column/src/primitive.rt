@@ -1,12 +1,10 @@
 //! Plain arrays of integers.
 
 ghost use Rattle.std.specs.Prelude.{◌≡◌, ◌≤◌, ◌<◌, ℤ, [], map, length, IfOk, IfSome, IsTrue, Ok, Some, None, option_map, slice_index_or};
-ghost use Rattle.std.specs.List.{list_all};
 ghost use Rattle.fl_types.specs.Bits.{between};
 ghost use Rattle.fl_types.specs.Buffers.{integers_of, ptype_of};
-ghost use Rattle.fl_types.specs.Integers.{fits};
 ghost use Rattle.fl_types.specs.Values.{scalar_parts, integer_of, ptype_of_value};
-ghost use Rattle.fl_column.specs.Columns.{column_of_primitive, is_column, new_primitive, non_nullable, primitive_of_options, slice_primitive, without_nulls};
+ghost use Rattle.fl_column.specs.Columns.{column_of_primitive, new_primitive, non_nullable, primitive_of_options, slice_primitive, without_nulls};
 ghost use Rattle.fl_types.specs.Validities.{covers, nullability_of};
 ghost use Rattle.fl_column.specs.Operations.{slice_of};
 ghost use Rattle.fl_column.specs.Questions.{scalar_in};
@@ -198,15 +196,6 @@ impl PrimitiveArray {
         T::as_slice(&self.slots)
     }
 
-    /// Every stored integer is in the type's range, so that the items are a column.
-    #[tactic(auto, using(crate::proofs::SelectionLaws::plain_is_column))]
-    pub fn prove_in_range(&self)
-        ensures slots { IsTrue (list_all (fits self.now.ptype) self.now.slots) }
-        ensures column { IsTrue (is_column (column_of_primitive self.now)) }
-    {
-        prove_slots_in_range(&self.slots)
-    }
-
     /// The item at an index, or `None` for a null.
     pub fn get(&self, i: usize) -> Option<PValue>
         requires { i < length self.now.slots }
@@ -312,22 +301,4 @@ fn value_typed<T: NativePType>(slots: &PrimitiveBuffer, i: usize) -> PValue
 {
     let items = T::as_slice(slots);
     items[i].into_pvalue()
-}
-
-/// Every slot lies in the type's range.
-fn prove_slots_in_range(slots: &PrimitiveBuffer)
-    ensures { IsTrue (list_all (fits (ptype_of slots.now)) (integers_of slots.now)) }
-{
-    match_each_integer_ptype!(slots.ptype(), prove_typed_in_range(slots))
-}
-
-#[tactic(auto, using(crate::proofs::ListLaws::all_mapped_more))]
-fn prove_typed_in_range<T: NativePType>(slots: &PrimitiveBuffer)
-    requires { ptype_of slots.now ≡ T.PTYPE }
-    ensures { IsTrue (list_all (fits (ptype_of slots.now)) (integers_of slots.now)) }
-{
-    let items = T::as_slice(slots);
-    for item in items {
-        item.prove_in_range();
-    }
 }

@@ -6,6 +6,7 @@ ghost use Rattle.fl_types.specs.Integers.{bits_of_type, other_sign, pattern_of, 
 ghost use Rattle.fl_types.specs.Refusals.{Answers};
 ghost use Rattle.fl_column.specs.Columns.{reinterpret_primitive};
 
+use crate::laws::stored_integers_are_in_range;
 use crate::physical::PhysicalPType;
 use crate::primitive::PrimitiveArray;
 use fastlanes::FastLanes;
@@ -67,7 +68,7 @@ impl PrimitiveArray {
         ensures { Answers (λ a. a) result (Ok (reinterpret_primitive ptype self)) }
     {
         if self.ptype() == ptype {
-            self.prove_in_range();
+            stored_integers_are_in_range(&self);
             return Ok(self);
         }
         let (slots, validity) = self.into_parts();

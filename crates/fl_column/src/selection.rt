@@ -1,5 +1,6 @@
 //! Selections from plain arrays: by indices, by ranges, by a mask.
 
+mod filtered;
 mod with_bits;
 pub(crate) mod without_nulls;
 
@@ -165,28 +166,6 @@ fn ranges_typed<T: NativePType>(
     Ok(taken.finish(validity.nullability()))
 }
 
-/// The items at the set bits, in order.
-fn filter_typed<T: NativePType>(
-    slots: &PrimitiveBuffer,
-    alloc: Global,
-    validity: &Validity,
-    bits: &BitList,
-) -> Result<PrimitiveArray, FastLanesError>
-    requires same { ptype_of slots.now ≡ T.PTYPE }
-    requires covers { IsTrue (covers validity.now (length (integers_of slots.now))) }
-    requires each { length bits.now ≡ length (integers_of slots.now) }
-    ensures { Answers column_of_primitive result (Ok (record { dtype = Primitive (ptype_of slots.now) (nullability_of validity.now); items = kept bits.now (items_of validity.now (integers_of slots.now)) })) }
-{
-    let items = T::as_slice(slots);
-    let mut kept = PrimitiveBuilder::with_capacity(alloc, bits.count_true())?;
-    for i in 0..items.len() {
-        if bits.get(i) {
-            kept.push(alloc, item_at(items, validity, i))?;
-        }
-    }
-    Ok(kept.finish(validity.nullability()))
-}
-
 /// The positions that the indices name.
 pub(crate) fn positions(
     alloc: Global,
@@ -291,8 +270,9 @@ fn filter_bits(
 {
     // For the proof: there are as many items as slots.
     let _len = array.len();
-    let (slots, validity) = (array.slots(), array.validity());
-    match_each_integer_ptype!(slots.ptype(), filter_typed(slots, alloc, validity, bits))
+    let slots = filtered::filter_slots(array.slots(), alloc, bits)?;
+    let validity = filtered::filter_validity(array.validity(), alloc, bits)?;
+    Ok(PrimitiveArray::from_buffer(slots, validity))
 }
 
 /// The items that the indices name, null where an index is null.

@@ -1,5 +1,5 @@
 -- What the steps of the search answer, by what the calls in them answered.
-use Rattle.std.proofs.Common.{◌≡◌, ◌≤◌, ◌<◌, ℕ, ◌-◌, ℤ, Bool, true, false, List, [], ◌∷◌, length, Option, Some, None, Ok, Err, ap, sym, subst, ◌∙◌, inl, inr}
+use Rattle.std.proofs.Common.{◌≡◌, ◌≤◌, ◌<◌, ℕ, ◌-◌, ℤ, Bool, true, false, List, [], ◌∷◌, ◌++◌, length, Option, Some, None, Ok, Err, ap, sym, subst, ◌∙◌, inl, inr}
 use Rattle.std.specs.Prelude.{IfErr, IfOk, IsTrue, Result}
 use Rattle.fl_types.specs.declared.error.FastLanesError.{FastLanesError}
 use Rattle.fl_types.specs.declared.error.FastLanesError.TheVariants.{NoMinimum, OutOfMemory}
@@ -31,7 +31,8 @@ use Rattle.fl_compress.specs.Cheapest.{beside, cheaper, cheapest, combined}
 use Rattle.fl_compress.specs.Choices.{chosen, or_frames, runs_of, two, with_bytes}
 use Rattle.fl_compress.specs.EncodedBytes.{encoded_bytes}
 use Rattle.fl_compress.specs.Smallest.{IsSmallest}
-use Rattle.fl_compress.proofs.CheapestLaws.{first_cheapest, wrapped}
+use Rattle.fl_compress.proofs.AlikeLaws.{AreAlike, frames_alike}
+use Rattle.fl_compress.proofs.CheapestLaws.{cheapest_append, first_cheapest, free_first, wrapped}
 use Rattle.fl_compress.proofs.ListLaws.{candidate_list, chunk_list, delta_list, deltas_list, framed_list, no_candidate_list, no_delta_list, not_framed_list, nulls_list, one_list, packed_list, packings_there, runs_list, whole_list}
 use Rattle.fl_compress.proofs.MadeBytes.{free_of_refusal}
 use Rattle.fl_compress.proofs.SmallestLaws.{constant_is_constant, empty_is_plain, never_larger, smallest_is}
@@ -49,28 +50,42 @@ pub answers_same : (r : Result Choice FastLanesError) (x y : Option (Shape × �
 answers_same r x y e h = subst (λ z. Answers chosen r (Ok z)) e h
 
 -- ---- packed
-pub packing_choice : (p : PrimitiveParts) (allowed : Bool) (global blocked : Option ℕ) (choice : Option (Shape × ℕ)) → allowed ≡ true → Gives (encoded_bytes p (BitPacked BestWidth)) global → Gives (encoded_bytes p (BitPacked BestWidths)) blocked
+pub packing_choice : (p : PrimitiveParts) (allowed : Bool) (global blocked : Option ℕ) (choice : Option (Shape × ℕ)) → allowed ≡ true → global ≡ encoded_bytes p (BitPacked BestWidth) → blocked ≡ encoded_bytes p (BitPacked BestWidths)
     → choice ≡ cheaper (with_bytes (BitPacked BestWidth) global) (with_bytes (BitPacked BestWidths) blocked)
-    → Gives (cheapest (encoded_bytes p) (where_allowed allowed (BitPacked BestWidth ∷ BitPacked BestWidths ∷ []))) choice
+    → choice ≡ cheapest (encoded_bytes p) (where_allowed allowed (BitPacked BestWidth ∷ BitPacked BestWidths ∷ []))
 packing_choice p allowed global blocked choice e g h c =
-    gives _ _ (packings_there p allowed e
-    ∙ (ap (λ b. cheaper (with_bytes (BitPacked BestWidth) b) (with_bytes (BitPacked BestWidths) (encoded_bytes p (BitPacked BestWidths)))) (ok_is _ _ g)
-    ∙ (ap (λ b. cheaper (with_bytes (BitPacked BestWidth) global) (with_bytes (BitPacked BestWidths) b)) (ok_is _ _ h) ∙ sym c)))
+    sym (packings_there p allowed e
+    ∙ (ap (λ b. cheaper (with_bytes (BitPacked BestWidth) b) (with_bytes (BitPacked BestWidths) (encoded_bytes p (BitPacked BestWidths)))) (sym g)
+    ∙ (ap (λ b. cheaper (with_bytes (BitPacked BestWidth) global) (with_bytes (BitPacked BestWidths) b)) (sym h) ∙ sym c)))
 
-pub packed_choice : (limits : Limits) (depth : ℕ) (p : PrimitiveParts) (n : ℕ) (plain constant best packing choice : Option (Shape × ℕ)) → n ≡ primitive_bytes p → plain ≡ Some (Primitive, n) → constant ≡ cheapest (encoded_bytes p) (where_allowed limits.constant (Constant ∷ []))
-    → best ≡ cheaper plain constant → Gives (cheapest (encoded_bytes p) (where_allowed (has_level limits.bitpacked depth) (BitPacked BestWidth ∷ BitPacked BestWidths ∷ []))) packing → choice ≡ cheaper best packing
-    → Gives (cheapest (encoded_bytes p) (packed_schemes limits depth)) choice
-packed_choice limits depth p n plain constant best packing choice e f g h k c =
+pub whole_choice_is : (p : PrimitiveParts) (limits : Limits) (n : ℕ) (plain constant choice : Option (Shape × ℕ)) → n ≡ primitive_bytes p → plain ≡ Some (Primitive, n) → constant ≡ cheapest (encoded_bytes p) (where_allowed limits.constant (Constant ∷ [])) → choice ≡ cheaper plain constant
+    → choice ≡ cheaper (Some (Primitive, primitive_bytes p)) (cheapest (encoded_bytes p) (where_allowed limits.constant (Constant ∷ [])))
+whole_choice_is p limits n plain constant choice e f g c =
+    let first : plain ≡ Some (Primitive, primitive_bytes p) = f ∙ ap (λ m. let o : Option (Shape × ℕ) = Some (Primitive, m) in o) e in
+    c ∙ (ap (λ a. cheaper a constant) first ∙ ap (cheaper (Some (Primitive, primitive_bytes p))) g)
+
+-- what takes no bytes is the cheapest of all
+pub free_choice : (limits : Limits) (depth : ℕ) (p : PrimitiveParts) (s : Shape) (n : ℕ) → Some (s, n) ≡ cheaper (Some (Primitive, primitive_bytes p)) (cheapest (encoded_bytes p) (where_allowed limits.constant (Constant ∷ []))) → n ≡ 0
+    → Some (s, n) ≡ cheapest (encoded_bytes p) (packed_schemes limits depth)
+free_choice limits depth p s n e none =
+    let packed = cheapest (encoded_bytes p) (where_allowed (has_level limits.bitpacked depth) (BitPacked BestWidth ∷ BitPacked BestWidths ∷ [])) in
+    sym (packed_list limits depth p ∙ (ap (λ a. cheaper a packed) (sym e) ∙ free s n packed none))
+  where
+    free : (s : Shape) (n : ℕ) (rest : Option (Shape × ℕ)) → n ≡ 0 → cheaper (Some (s, n)) rest ≡ Some (s, n)
+    free s n rest e = rw e (free_first s rest)
+
+pub packed_choice : (limits : Limits) (depth : ℕ) (p : PrimitiveParts) (best packing choice : Option (Shape × ℕ)) → best ≡ cheaper (Some (Primitive, primitive_bytes p)) (cheapest (encoded_bytes p) (where_allowed limits.constant (Constant ∷ [])))
+    → packing ≡ cheapest (encoded_bytes p) (where_allowed (has_level limits.bitpacked depth) (BitPacked BestWidth ∷ BitPacked BestWidths ∷ [])) → choice ≡ cheaper best packing
+    → choice ≡ cheapest (encoded_bytes p) (packed_schemes limits depth)
+packed_choice limits depth p best packing choice g k c =
     let lists = packed_list limits depth p in
-    let packed = ok_is _ _ k in
-    let first : Some (Primitive, primitive_bytes p) ≡ plain = ap (λ m. let o : Option (Shape × ℕ) = Some (Primitive, m) in o) (sym e) ∙ sym f in
-    gives _ _ (cc)
+    cc
 
 -- ---- frames of reference
 pub one_choice : (order : ItemOrder) (p q : PrimitiveParts) (parts : OneReference) (schemes : List Shape) (s : Shape) (n : ℕ) (choice : Option (Shape × ℕ)) → encode_global_by order p ≡ Ok parts → q ≡ parts.child
-    → Gives (cheapest (encoded_bytes q) schemes) (Some (s, n)) → Gives (Some (with_reference order s, n)) choice → Gives (cheapest (encoded_bytes p) (over_one_reference order schemes)) choice
+    → Some (s, n) ≡ cheapest (encoded_bytes q) schemes → Gives (Some (with_reference order s, n)) choice → Gives (cheapest (encoded_bytes p) (over_one_reference order schemes)) choice
 one_choice order p q parts schemes s n choice e f g h =
-    gives _ _ (one_list order p parts schemes e ∙ (ap (wrapped (with_reference order)) (ap (λ r. cheapest (encoded_bytes r) schemes) (sym f) ∙ ok_is _ _ g) ∙ ok_is _ _ h))
+    gives _ _ (one_list order p parts schemes e ∙ (ap (wrapped (with_reference order)) (ap (λ r. cheapest (encoded_bytes r) schemes) (sym f) ∙ sym g) ∙ ok_is _ _ h))
 
 -- a column without a least item is refused for that alone
 no_least : (p : PrimitiveParts) (o : Option ℤ) (refusal : FastLanesError) → subtract_min p o ≡ Err refusal → NoMinimum ≡ refusal
@@ -84,10 +99,10 @@ only_no_minimum order p refusal r h k = elim (Refuses_cases refusal (encode_glob
 ]
 
 pub whole_choice : (order : ItemOrder) (p q : PrimitiveParts) (parts : OneReference) (limits : Limits) (depth : ℕ) (child others : Option (Shape × ℕ)) (r : Result Choice FastLanesError) → encode_chunked_by order p ≡ Whole parts → q ≡ parts.child
-    → Gives (cheapest (encoded_bytes q) (packed_schemes limits depth)) child → others ≡ Some (Primitive, 0) → Answers chosen r (Ok (combined (with_references order) child others)) → Answers chosen r (Ok (cheapest (encoded_bytes p) (over_chunk_references order (packed_schemes limits depth))))
+    → child ≡ cheapest (encoded_bytes q) (packed_schemes limits depth) → others ≡ Some (Primitive, 0) → Answers chosen r (Ok (combined (with_references order) child others)) → Answers chosen r (Ok (cheapest (encoded_bytes p) (over_chunk_references order (packed_schemes limits depth))))
 whole_choice order p q parts limits depth child others r e f g h a =
     let schemes = packed_schemes limits depth in
-    let here : cheapest (encoded_bytes parts.child) schemes ≡ child = ap (λ s. cheapest (encoded_bytes s) schemes) (sym f) ∙ ok_is _ _ g in
+    let here : cheapest (encoded_bytes parts.child) schemes ≡ child = ap (λ s. cheapest (encoded_bytes s) schemes) (sym f) ∙ sym g in
     answers_same r _ _ (sym (whole_list order p parts limits depth e ∙ (ap (λ c. combined (with_references order) c (Some (Primitive, 0))) here ∙ ap (combined (with_references order) child) (sym h)))) a
 
 pub chunks_choice : (order : ItemOrder) (p child others : PrimitiveParts) (schemes : List Shape) (r : Result Choice FastLanesError) → encode_chunked_by order p ≡ ByChunk child others
@@ -106,14 +121,38 @@ frames_choice order p children first one many best choice g h k c =
     let last = ok_is _ _ h in
     gives _ _ (cc)
 
-pub framed_choice : (limits : Limits) (depth : ℕ) (p : PrimitiveParts) (packed natural : Option (Shape × ℕ)) (r : Result Choice FastLanesError) → has_level limits.for_ depth ≡ true → Gives (cheapest (encoded_bytes p) (packed_schemes limits depth)) packed
+-- what takes no bytes is the cheapest of a longer list
+free_longer : (p : PrimitiveParts) (xs ys : List Shape) (s : Shape) (n : ℕ) → Some (s, n) ≡ cheapest (encoded_bytes p) xs → n ≡ 0 → cheapest (encoded_bytes p) (xs ++ ys) ≡ Some (s, n)
+free_longer p xs ys s n e none =
+    cheapest_append (encoded_bytes p) xs ys ∙ (ap (λ a. cheaper a (cheapest (encoded_bytes p) ys)) (sym e ∙ ap (λ m. let o : Option (Shape × ℕ) = Some (s, m) in o) none) ∙ (free_first s (cheapest (encoded_bytes p) ys) ∙ ap (λ m. let o : Option (Shape × ℕ) = Some (s, m) in o) (sym none)))
+
+pub free_framed : (limits : Limits) (depth : ℕ) (p : PrimitiveParts) (s : Shape) (n : ℕ) → Some (s, n) ≡ cheapest (encoded_bytes p) (packed_schemes limits depth) → n ≡ 0 → Gives (cheapest (encoded_bytes p) (framed_schemes limits depth)) (Some (s, n))
+unfolding framed_schemes
+free_framed limits depth p s n e none = gives _ _ (free_longer p (packed_schemes limits depth) _ s n e none)
+
+pub free_deltas : (limits : Limits) (depth : ℕ) (p : PrimitiveParts) (s : Shape) (n : ℕ) → Gives (cheapest (encoded_bytes p) (framed_schemes limits depth)) (Some (s, n)) → n ≡ 0 → Gives (cheapest (encoded_bytes p) (delta_schemes limits depth)) (Some (s, n))
+unfolding delta_schemes
+free_deltas limits depth p s n e none = gives _ _ (free_longer p (framed_schemes limits depth) _ s n (sym (ok_is _ _ e)) none)
+
+pub free_candidate : (limits : Limits) (p : PrimitiveParts) (s : Shape) (n : ℕ) → Gives (cheapest (encoded_bytes p) (delta_schemes limits limits.depth)) (Some (s, n)) → n ≡ 0 → Gives (cheapest (encoded_bytes p) (candidates limits)) (Some (s, n))
+unfolding candidates
+free_candidate limits p s n e none = gives _ _ (free_longer p (delta_schemes limits limits.depth) _ s n (sym (ok_is _ _ e)) none)
+
+-- where both orders are one, the wrapped one finds nothing cheaper
+pub alike_choice : (limits : Limits) (depth : ℕ) (p : PrimitiveParts) (packed natural : Option (Shape × ℕ)) → has_level limits.for_ depth ≡ true → packed ≡ cheapest (encoded_bytes p) (packed_schemes limits depth)
+    → Gives (or_frames Natural p (packed_schemes limits (depth - 1)) packed) natural → AreAlike p → Gives (cheapest (encoded_bytes p) (framed_schemes limits depth)) natural
+alike_choice limits depth p packed natural e f g same =
+    let children = packed_schemes limits (depth - 1) in
+    gives _ _ (framed_list limits depth p e ∙ (ap (λ c. or_frames Signed p children (or_frames Natural p children c)) (sym f) ∙ (frames_alike p children packed same ∙ ok_is _ _ g)))
+
+pub framed_choice : (limits : Limits) (depth : ℕ) (p : PrimitiveParts) (packed natural : Option (Shape × ℕ)) (r : Result Choice FastLanesError) → has_level limits.for_ depth ≡ true → packed ≡ cheapest (encoded_bytes p) (packed_schemes limits depth)
     → Gives (or_frames Natural p (packed_schemes limits (depth - 1)) packed) natural → Answers chosen r (Ok (or_frames Signed p (packed_schemes limits (depth - 1)) natural)) → Answers chosen r (Ok (cheapest (encoded_bytes p) (framed_schemes limits depth)))
 framed_choice limits depth p packed natural r e f g a =
     let children = packed_schemes limits (depth - 1) in
-    answers_same r _ _ (sym (framed_list limits depth p e ∙ (ap (λ c. or_frames Signed p children (or_frames Natural p children c)) (ok_is _ _ f) ∙ ap (or_frames Signed p children) (ok_is _ _ g)))) a
+    answers_same r _ _ (sym (framed_list limits depth p e ∙ (ap (λ c. or_frames Signed p children (or_frames Natural p children c)) (sym f) ∙ ap (or_frames Signed p children) (ok_is _ _ g)))) a
 
-pub unframed_choice : (limits : Limits) (depth : ℕ) (p : PrimitiveParts) (packed : Option (Shape × ℕ)) → has_level limits.for_ depth ≡ false → Gives (cheapest (encoded_bytes p) (packed_schemes limits depth)) packed → Gives (cheapest (encoded_bytes p) (framed_schemes limits depth)) packed
-unframed_choice limits depth p packed e f = gives _ _ (not_framed_list limits depth p e ∙ ok_is _ _ f)
+pub unframed_choice : (limits : Limits) (depth : ℕ) (p : PrimitiveParts) (packed : Option (Shape × ℕ)) → has_level limits.for_ depth ≡ false → packed ≡ cheapest (encoded_bytes p) (packed_schemes limits depth) → Gives (cheapest (encoded_bytes p) (framed_schemes limits depth)) packed
+unframed_choice limits depth p packed e f = gives _ _ (not_framed_list limits depth p e ∙ sym f)
 
 -- ---- deltas
 pub deltas_choice : (p bases deltas : PrimitiveParts) (v : Validity) (own len : ℕ) (schemes : List Shape) (r : Result Choice FastLanesError) → compress_deltas p ≡ (bases, deltas) → own ≡ validity_bytes len v → len ≡ length p.slots → v ≡ p.validity

@@ -1,6 +1,9 @@
-pub mod CheapestLaws
-pub mod PackedBytes
-pub mod MadeBytes
-pub mod ListLaws
-pub mod SmallestLaws
+pub mod AlikeLaws
 pub mod AnswerLaws
+pub mod CandidateLaws
+pub mod CheapestLaws
+pub mod ListLaws
+pub mod MadeBytes
+pub mod PackedBytes
+pub mod SmallestLaws
+pub mod StatisticsLaws

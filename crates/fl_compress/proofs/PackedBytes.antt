@@ -1,31 +1,34 @@
 -- How many bytes packed parts have.
-use Rattle.std.proofs.Common.{◌≡◌, ◌<◌, ℕ, ℤ, pos, ◌+◌, ◌-◌, ◌*◌, ◌^◌, Bool, true, false, List, [], ◌∷◌, length, map, min, sum, Option, Some, None, Ok, Err, refl, ap, sym, ◌∙◌, inl, inr, arith}
-use Rattle.std.specs.Prelude.{◌==◌, Result, not, if◌then◌else◌}
-use Rattle.std.specs.List.{list_any}
-use Rattle.std.proofs.lemmas.Bool.{cases_lt, eqb-true}
+use Rattle.std.proofs.Common.{◌≡◌, ◌<◌, ◌≤◌, ℕ, ℤ, pos, ◌+◌, ◌-◌, ◌*◌, ◌^◌, Bool, true, false, List, [], ◌∷◌, length, map, min, sum, Option, Some, None, refl, ap, sym, ◌∙◌, inl, inr, arith}
+use Rattle.std.specs.Prelude.{◌==◌, ◌&&◌, ◌⊎◌, nat_le, nat_lt, not, if◌then◌else◌}
+use Rattle.std.specs.List.{list_all, list_any}
+use Rattle.std.proofs.lemmas.Bool.{cases_lt, eqb-true, eq-eqb, le-leb, lt-leb, lt-ltb}
 use Rattle.std.proofs.lemmas.Bool.Decides.{nat_tests}
 use Rattle.std.proofs.lemmas.List.{length-map}
 use Rattle.fl_types.specs.declared.dtype.PType.{PType}
 use Rattle.fl_types.specs.declared.dtype.PType.TheVariants.{U64}
 use Rattle.fl_types.specs.declared.dtype.Nullability.{Nullability}
 use Rattle.fl_types.specs.declared.error.FastLanesError.{FastLanesError}
-use Rattle.fl_types.specs.declared.error.FastLanesError.TheVariants.{NegativeValue}
-use Rattle.fl_types.specs.Integers.{smallest_type}
+use Rattle.fl_types.specs.declared.error.FastLanesError.TheVariants.{AllBlocksNative, NegativeValue, WidthTooLarge}
+use Rattle.fl_types.specs.Integers.{bits_of_type, smallest_type}
 use Rattle.fl_types.specs.Validities.{items_of, nullability_of}
 use Rattle.fl_column.specs.Chunks.{chunk_count}
 use Rattle.fl_column.specs.Columns.{PrimitiveParts}
-use Rattle.fl_patches.specs.Costs.{ChosenWidths, choose_widths, chosen_widths}
-use Rattle.fl_patches.specs.Exceptions.{exceptions_of, is_negative}
+use Rattle.fl_patches.specs.Costs.{chosen_widths, count_above}
+use Rattle.fl_patches.specs.Exceptions.{exceptions_of, histogram_of, is_negative}
 use Rattle.fl_patches.specs.PatchMaps.{places_from, values_in}
 use Rattle.fl_patches.specs.PatchParts.{blocked_patches, chunk_offsets_of, exception_patches, global_patches, patch_count, patches_with}
 use Rattle.fl_patches.proofs.Counted.{count_patches}
+use Rattle.fl_patches.proofs.LeastTotals.{length-widths, widths_fit}
+use Rattle.fl_statistics.specs.declared.widths.BitStatistics.{BitStatistics}
+use Rattle.fl_statistics.specs.BitStatistics.{bit_statistics}
 use Rattle.fl_bitpacking.specs.Blocks.{boundaries_of, boundary_array}
 use Rattle.fl_bitpacking.specs.Columns.{BitPackedParts}
-use Rattle.fl_bitpacking.specs.Encoders.{IsPackedAt, IsPackedInBlocks, best_widths_of, widths_refusal}
+use Rattle.fl_bitpacking.specs.Encoders.{IsPackedAt, IsPackedInBlocks, best_width_of, best_widths_of, widths_refusal}
 use Rattle.fl_bitpacking.proofs.Bounds.{boundaries_joined}
 use Rattle.fl_bitpacking.proofs.Tables.{length-table}
 use Rattle.fl_encode.specs.declared.scheme.Packing.{Packing}
-use Rattle.fl_encode.specs.declared.scheme.Packing.TheVariants.{BestWidths}
+use Rattle.fl_encode.specs.declared.scheme.Packing.TheVariants.{BestWidth, BestWidths}
 use Rattle.fl_encode.specs.Packings.{packing_refusal}
 use Rattle.fl_encode.specs.Shapes.{BitPacked}
 use Rattle.fl_serde.specs.ByteCounts.{packed_bytes, patches_bytes, primitive_bytes, validity_bytes}
@@ -107,17 +110,14 @@ pub at_widths_is : (p : PrimitiveParts) (widths : List ℕ) (size patches validi
 at_widths_is p widths size patches validity boundaries w e f g h = rw (e, f, g, h, w) refl
 
 -- a number that is capped needs the same type
-pub capped_type : (n : ℕ) → n < 2 ^ 64 → smallest_type (min (n + 1) (2 ^ 64 - 1)) ≡ smallest_type (n + 1)
-capped_type n h = elim (cases_lt (n + 1) (2 ^ 64)) [
-  | inl lt ↦ (let same : min (n + 1) (2 ^ 64 - 1) ≡ n + 1 = omega arith in ap smallest_type same)
-  | inr ge ↦ (let same : min (n + 1) (2 ^ 64 - 1) ≡ 2 ^ 64 - 1 = omega arith in let last : n + 1 ≡ 2 ^ 64 = omega arith in ap smallest_type same ∙ sym (ap smallest_type last))
+pub capped_type : (n : ℕ) → smallest_type (min n (2 ^ 64 - 1)) ≡ smallest_type n
+capped_type n = elim (cases_lt n (2 ^ 64)) [
+  | inl lt ↦ (let same : min n (2 ^ 64 - 1) ≡ n = omega arith in ap smallest_type same)
+  | inr ge ↦ (let same : min n (2 ^ 64 - 1) ≡ 2 ^ 64 - 1 = omega arith in ap smallest_type same ∙ sym (large n ge))
 ]
-
--- no array in memory has more blocks
-pub few_widths : (p : PrimitiveParts) (widths : List ℕ) → widths_refusal p widths ≡ None → length p.slots < 2 ^ 64 → length widths < 2 ^ 60
-few_widths p widths none h =
-    let many : length widths ≡ chunk_count (length p.slots) = eqb-true (length widths) (chunk_count (length p.slots)) (counted _ _ _ _ _ none) in
-    omega arith
+  where
+    large : (m : ℕ) → 2 ^ 64 ≤ m → smallest_type m ≡ U64
+    large m h = grind (arith, nat_tests)
 
 -- ---- refused packings
 pub packing_refused : (p : PrimitiveParts) (packing : Packing) (refusal : FastLanesError) → packing_refusal packing p ≡ Some refusal → encoded_bytes p (BitPacked packing) ≡ None
@@ -128,19 +128,91 @@ pub packing_accepted : (p : PrimitiveParts) (packing : Packing) → packing_refu
 unfolding encoded_bytes
 packing_accepted p packing e = ap (λ r. unless r (bytes_packed packing p)) e
 
--- widths and their exceptions, or a negative item
-is_chosen : (b : Bool) (e : FastLanesError) (x y : ChosenWidths) → (if b then Err e else Ok x) ≡ (let r : Result ChosenWidths FastLanesError = Ok y in r) → x ≡ y
-is_chosen true e x y h = cc
-is_chosen false e x y h = cc
+-- ---- statistics
+-- what the statistics of an array's items are
+abbrev pub ArePackingStatistics : PrimitiveParts → BitStatistics → Type 0
+ArePackingStatistics p s = s ≡ bit_statistics p.ptype (items_of p.validity p.slots)
 
-is_negative_one : (b : Bool) (e f : FastLanesError) (x : ChosenWidths) → (if b then Err e else Ok x) ≡ (let r : Result ChosenWidths FastLanesError = Err f in r) → (b ≡ true) × (e ≡ f)
-is_negative_one true e f x h = (refl, cc)
-is_negative_one false e f x h = cc
+pub width_is_best : (p : PrimitiveParts) (s : BitStatistics) → ArePackingStatistics p s → s.width ≡ best_width_of p
+unfolding bit_statistics
+width_is_best p s e = ap (λ a. a.width) e
 
-pub widths_chosen : (p : PrimitiveParts) (widths : List ℕ) (count : ℕ) → choose_widths p ≡ Ok (record { widths = widths; exceptions = count }) → chosen_widths p.ptype (items_of p.validity p.slots) ≡ record { widths = widths; exceptions = count }
-widths_chosen p widths count e = is_chosen (list_any is_negative (items_of p.validity p.slots)) NegativeValue (chosen_widths p.ptype (items_of p.validity p.slots)) (record { widths = widths; exceptions = count }) e
+pub exceptions_are : (p : PrimitiveParts) (s : BitStatistics) → ((width : ℕ) → patch_count (global_patches width p) ≡ count_above width (histogram_of p.ptype (items_of p.validity p.slots))) → ArePackingStatistics p s → s.exceptions ≡ patch_count (global_patches s.width p)
+unfolding bit_statistics
+exceptions_are p s counted e = ap (λ a. a.exceptions) e ∙ (sym (counted (best_width_of p)) ∙ ap (λ w. patch_count (global_patches w p)) (sym (width_is_best p s e)))
 
-pub negative_refused : (p : PrimitiveParts) (refusal : FastLanesError) → choose_widths p ≡ Err refusal → (encoded_bytes p (BitPacked BestWidths) ≡ None) × (NegativeValue ≡ refusal)
-negative_refused p refusal e =
-    let negative = is_negative_one (list_any is_negative (items_of p.validity p.slots)) NegativeValue refusal (chosen_widths p.ptype (items_of p.validity p.slots)) e in
-    (packing_refused p BestWidths NegativeValue (rw (negative.0) refl), negative.1)
+pub sum_is : (p : PrimitiveParts) (s : BitStatistics) → ArePackingStatistics p s → s.block_widths ≡ sum (best_widths_of p)
+unfolding bit_statistics
+sum_is p s e = ap (λ a. a.block_widths) e
+
+pub block_exceptions_are : (p : PrimitiveParts) (s : BitStatistics) → patch_count (blocked_patches (best_widths_of p) p) ≡ (chosen_widths p.ptype (items_of p.validity p.slots)).exceptions → ArePackingStatistics p s → s.block_exceptions ≡ patch_count (blocked_patches (best_widths_of p) p)
+unfolding bit_statistics
+block_exceptions_are p s counted e = ap (λ a. a.block_exceptions) e ∙ sym counted
+
+refused_width : (p : PrimitiveParts) (s : BitStatistics) (negative : Bool) → ArePackingStatistics p s → s.negative ≡ negative → list_any is_negative (items_of p.validity p.slots) ≡ negative
+unfolding bit_statistics
+refused_width p s negative e f = sym (ap (λ a. a.negative) e) ∙ f
+
+pub negative_unpacked : (p : PrimitiveParts) (s : BitStatistics) → ArePackingStatistics p s → s.negative ≡ true → encoded_bytes p (BitPacked BestWidth) ≡ None
+negative_unpacked p s e f = packing_refused p BestWidth NegativeValue (let below = refused_width p s true e f in rw below refl)
+
+pub negative_not_in_blocks : (p : PrimitiveParts) (s : BitStatistics) → ArePackingStatistics p s → s.negative ≡ true → encoded_bytes p (BitPacked BestWidths) ≡ None
+negative_not_in_blocks p s e f = packing_refused p BestWidths NegativeValue (let below = refused_width p s true e f in rw below refl)
+
+pub too_wide : (p : PrimitiveParts) (s : BitStatistics) → ArePackingStatistics p s → s.negative ≡ false → bits_of_type p.ptype ≤ s.width → encoded_bytes p (BitPacked BestWidth) ≡ None
+too_wide p s e f wide =
+    let below = refused_width p s false e f in
+    let large : nat_le (bits_of_type p.ptype) (best_width_of p) ≡ true = le-leb _ _ (omega (arith, width_is_best p s e)) in
+    packing_refused p BestWidth WidthTooLarge (rw (below, large) refl)
+
+pub at_best : (p : PrimitiveParts) (s : BitStatistics) (bytes : ℕ) → ArePackingStatistics p s → s.negative ≡ false → s.width < bits_of_type p.ptype → bytes ≡ bytes_at s.width p → Some bytes ≡ encoded_bytes p (BitPacked BestWidth)
+at_best p s bytes e f narrow is =
+    let below = refused_width p s false e f in
+    let small : nat_le (bits_of_type p.ptype) (best_width_of p) ≡ false = lt-leb _ _ (omega (arith, width_is_best p s e)) in
+    ap (λ n. let o : Option ℕ = Some n in o) (is ∙ ap (λ w. bytes_at w p) (width_is_best p s e)) ∙ sym (packing_accepted p BestWidth (rw (below, small) refl))
+
+-- the best widths are as many as the blocks, and none is above the type's bits
+widths_even : (p : PrimitiveParts) → length (items_of p.validity p.slots) ≡ length p.slots → length (best_widths_of p) ≡ chunk_count (length p.slots)
+widths_even p covered = length-widths p.ptype (items_of p.validity p.slots) (chunk_count (length (items_of p.validity p.slots))) ∙ ap chunk_count covered
+
+none_above : (bits : ℕ) (widths : List ℕ) → list_all (λ w. nat_le w bits) widths ≡ true → list_any (nat_lt bits) widths ≡ false
+none_above bits [] h = refl
+none_above bits (w ∷ widths) h = grind (arith, nat_tests, none_above bits widths)
+
+pub all_native_unpacked : (p : PrimitiveParts) (s : BitStatistics) → ArePackingStatistics p s → length (items_of p.validity p.slots) ≡ length p.slots → s.negative ≡ false → 0 < length p.slots → s.all_native ≡ true → encoded_bytes p (BitPacked BestWidths) ≡ None
+unfolding bit_statistics
+all_native_unpacked p s e covered f some native =
+    let items = items_of p.validity p.slots in
+    let below = refused_width p s false e f in
+    let even : (length (best_widths_of p) == chunk_count (length p.slots)) ≡ true = eq-eqb _ _ (widths_even p covered) in
+    let fit = none_above (bits_of_type p.ptype) (best_widths_of p) (widths_fit p.ptype items (chunk_count (length items))) in
+    let more : nat_lt 0 (length (best_widths_of p)) ≡ true = lt-ltb _ _ (omega (arith, widths_even p covered)) in
+    let all : list_all (λ w. w == bits_of_type p.ptype) (best_widths_of p) ≡ true = sym (ap (λ a. a.all_native) e) ∙ native in
+    packing_refused p BestWidths AllBlocksNative (rw (below, even, fit, more, all) refl)
+
+-- where there are items, one block has a width below the type's bits
+pub in_blocks : (p : PrimitiveParts) (s : BitStatistics) (bytes : ℕ) → ArePackingStatistics p s → length (items_of p.validity p.slots) ≡ length p.slots → s.negative ≡ false → (s.all_native ≡ false) ⊎ (length p.slots ≡ 0) → bytes ≡ bytes_packed BestWidths p
+    → Some bytes ≡ encoded_bytes p (BitPacked BestWidths)
+unfolding bit_statistics
+in_blocks p s bytes e covered f native is =
+    let items = items_of p.validity p.slots in
+    let below = refused_width p s false e f in
+    let even : (length (best_widths_of p) == chunk_count (length p.slots)) ≡ true = eq-eqb _ _ (widths_even p covered) in
+    let fit = none_above (bits_of_type p.ptype) (best_widths_of p) (widths_fit p.ptype items (chunk_count (length items))) in
+    let same : nat_lt 0 (length (best_widths_of p)) ≡ nat_lt 0 (length p.slots) = ap (nat_lt 0) (widths_even p covered) ∙ as_many (length p.slots) in
+    let all : (nat_lt 0 (length (best_widths_of p)) && list_all (λ w. w == bits_of_type p.ptype) (best_widths_of p)) ≡ false = ap (λ b. b && list_all (λ w. w == bits_of_type p.ptype) (best_widths_of p)) same ∙ (ap (λ b. nat_lt 0 (length p.slots) && b) (sym (ap (λ a. a.all_native) e)) ∙ other (length p.slots) s.all_native native) in
+    ap (λ n. let o : Option ℕ = Some n in o) is ∙ sym (packing_accepted p BestWidths (rw (below, even, fit, all) refl))
+  where
+    as_many : (n : ℕ) → nat_lt 0 (chunk_count n) ≡ nat_lt 0 n
+    as_many n = grind (arith, nat_tests)
+
+    other : (n : ℕ) (native : Bool) → (native ≡ false) ⊎ (n ≡ 0) → (nat_lt 0 n && native) ≡ false
+    other n native (inl e) = grind (arith, nat_tests)
+    other n native (inr e) = grind (arith, nat_tests)
+
+-- the boundaries of the best widths
+pub boundaries_are : (p : PrimitiveParts) (widths blocks len bytes : ℕ) → len ≡ length p.slots → len ≡ length (items_of p.validity p.slots) → blocks ≡ chunk_count len → widths ≡ sum (best_widths_of p) → bytes ≡ slots_size (smallest_type (128 * widths)) (blocks + 1)
+    → bytes ≡ primitive_bytes (boundary_array (best_widths_of p))
+boundaries_are p widths blocks len bytes slots items count total is =
+    let many : blocks ≡ length (best_widths_of p) = count ∙ (ap chunk_count slots ∙ sym (widths_even p (sym items ∙ slots))) in
+    is ∙ (ap (λ n. slots_size (smallest_type (128 * n)) (blocks + 1)) total ∙ (ap (λ n. slots_size (smallest_type (128 * sum (best_widths_of p))) (n + 1)) many ∙ sym (boundary_bytes (best_widths_of p))))

@@ -3,3 +3,4 @@ pub mod EncodedBytes
 pub mod Candidates
 pub mod Choices
 pub mod Smallest
+pub mod Statistics

@@ -7,9 +7,15 @@
 
 mod choice;
 pub mod compression;
+pub mod laws;
 pub mod limits;
+mod orders;
 mod packing;
 mod search;
+pub mod sizes;
+pub mod statistics;
 
 pub use crate::compression::{compress, compress_within};
 pub use crate::limits::Limits;
+pub use crate::sizes::size_of;
+pub use crate::statistics::{Statistics, statistics_of};

@@ -1,15 +1,17 @@
-//! The search for the scheme by which an array takes fewest bytes, slot by slot.
+//! The search for the scheme by which an array takes fewest bytes, slot by slot. What takes no bytes ends it.
 
-ghost use Rattle.std.specs.Prelude.{◌≡◌, ◌<◌, ◌≤◌, ◌^◌, [], ◌∷◌, IfOk, Ok};
+ghost use Rattle.std.specs.Prelude.{◌≡◌, ◌<◌, ◌≤◌, ◌^◌, [], ◌∷◌, IfOk, Ok, Some};
 ghost use Rattle.fl_types.specs.Refusals.{Answers};
 ghost use Rattle.fl_encode.specs.Shapes as shapes;
 ghost use Rattle.fl_compress.specs.Candidates.{candidates, delta_schemes, framed_schemes, over_chunk_references, over_deltas, over_one_reference, over_runs, packed_schemes, where_allowed, with_references};
-ghost use Rattle.fl_compress.specs.Cheapest.{beside, cheapest, combined};
+ghost use Rattle.fl_serde.specs.ByteCounts.{primitive_bytes};
+ghost use Rattle.fl_compress.specs.Cheapest.{beside, cheaper, cheapest, combined};
 ghost use Rattle.fl_compress.specs.Choices.{chosen, chosen_in, or_frames, runs_of, two};
 ghost use Rattle.fl_compress.specs.EncodedBytes.{encoded_bytes};
 
 use crate::choice::{self, Choice, cheaper, plain};
 use crate::limits::{Limits, has_level};
+use crate::orders::are_orders_one;
 use crate::packing::choose_packing;
 use fl_codec::for_::{EncodedFoR, GlobalFoR, ItemOrder, encode_by, encode_chunked_by};
 use fl_codec::rle::Runs;
@@ -17,6 +19,7 @@ use fl_codec::{delta, rle};
 use fl_column::{FastLanesError, PrimitiveArray};
 use fl_encode::Scheme;
 use fl_serde::byte_counts::{primitive_bytes, validity_bytes};
+use fl_statistics::bit_statistics;
 use std::alloc::Global;
 
 /// A constant array, where one is allowed and all items are equal.
@@ -30,20 +33,26 @@ fn choose_constant(array: &PrimitiveArray, limits: &Limits) -> Option<Choice>
     None
 }
 
-/// The cheapest of a plain, a constant and a packed array.
-fn choose_packed(
-    alloc: Global,
-    array: &PrimitiveArray,
-    limits: &Limits,
-    depth: u8,
-) -> Result<Choice, FastLanesError>
-    ensures choice { Answers chosen result (Ok (cheapest (encoded_bytes array.now) (packed_schemes limits.now depth))) }
-    ensures few { IfOk result (λ choice. choice.bytes < 2 ^ 68) }
+/// The cheaper of a plain and a constant array.
+fn choose_whole(array: &PrimitiveArray, limits: &Limits) -> Choice
+    ensures choice { chosen result ≡ cheaper (Some (shapes.Primitive, primitive_bytes array.now)) (cheapest (encoded_bytes array.now) (where_allowed limits.now.constant (shapes.Constant ∷ []))) }
+    ensures few { result.bytes < 2 ^ 68 }
 {
-    let packing = choose_packing(alloc, array, limits, depth)?;
     let plain = plain(primitive_bytes(array));
-    let best = cheaper(plain, choose_constant(array, limits));
-    Ok(cheaper(best, packing))
+    cheaper(plain, choose_constant(array, limits))
+}
+
+/// The cheapest of a plain, a constant and a packed array. What takes no bytes needs no statistics.
+fn choose_packed(array: &PrimitiveArray, limits: &Limits, depth: u8) -> Choice
+    ensures choice { chosen result ≡ cheapest (encoded_bytes array.now) (packed_schemes limits.now depth) }
+    ensures few { result.bytes < 2 ^ 68 }
+{
+    let best = choose_whole(array, limits);
+    if best.bytes == 0 {
+        return best;
+    }
+    let statistics = bit_statistics(array);
+    cheaper(best, choose_packing(array, &statistics, limits, depth))
 }
 
 /// The cheapest FoR array of one reference by an order, if an item is valid.
@@ -63,7 +72,7 @@ fn choose_one_reference(
                 reference: _,
             },
         ) => {
-            let child = choose_packed(alloc, &child, limits, depth)?;
+            let child = choose_packed(&child, limits, depth);
             let choice = choice::over_one_reference(alloc, order, child)?;
             Ok(Some(choice))
         }
@@ -83,8 +92,8 @@ fn choose_references(
 ) -> Result<Choice, FastLanesError>
     ensures { Answers chosen result (Ok (combined (with_references order) (cheapest (encoded_bytes child.now) (packed_schemes limits.now depth)) (cheapest (encoded_bytes others.now) (packed_schemes limits.now depth)))) }
 {
-    let child = choose_packed(alloc, child, limits, depth)?;
-    let others = choose_packed(alloc, others, limits, depth)?;
+    let child = choose_packed(child, limits, depth);
+    let others = choose_packed(others, limits, depth);
     choice::over_chunk_references(alloc, order, child, others)
 }
 
@@ -106,7 +115,7 @@ fn choose_chunk_references(
                 reference: _,
             },
         ) => {
-            let child = choose_packed(alloc, &child, limits, depth)?;
+            let child = choose_packed(&child, limits, depth);
             choice::over_chunk_references(alloc, order, child, plain(0))
         }
         EncodedFoR::Chunked(child, others) => {
@@ -135,7 +144,8 @@ fn choose_frames(
     Ok(cheaper(cheaper(first, one), Some(many)))
 }
 
-/// The cheapest of a packed array, and of FoR arrays whose children are packed.
+/// The cheapest of a packed array, and of FoR arrays whose children are packed. The bits of the items are counted
+/// once. Wrapped references are tried where they differ from the least items.
 fn choose_framed(
     alloc: Global,
     array: &PrimitiveArray,
@@ -145,11 +155,23 @@ fn choose_framed(
     ensures choice { Answers chosen result (Ok (cheapest (encoded_bytes array.now) (framed_schemes limits.now depth))) }
     ensures few { IfOk result (λ choice. choice.bytes < 2 ^ 68) }
 {
-    let packed = choose_packed(alloc, array, limits, depth)?;
+    let whole = choose_whole(array, limits);
+    if whole.bytes == 0 {
+        return Ok(whole);
+    }
+    let statistics = bit_statistics(array);
+    let packing = choose_packing(array, &statistics, limits, depth);
+    let packed = cheaper(whole, packing);
+    if packed.bytes == 0 {
+        return Ok(packed);
+    }
     if !has_level(limits.for_, depth) {
         return Ok(packed);
     }
     let natural = choose_frames(alloc, array, ItemOrder::Natural, limits, depth - 1, packed)?;
+    if are_orders_one(array, &statistics) {
+        return Ok(natural);
+    }
     choose_frames(alloc, array, ItemOrder::Signed, limits, depth - 1, natural)
 }
 
@@ -195,6 +217,9 @@ fn choose_framed_or_deltas(
     ensures few { IfOk result (λ choice. choice.bytes < 2 ^ 68) }
 {
     let framed = choose_framed(alloc, array, limits, depth)?;
+    if framed.bytes == 0 {
+        return Ok(framed);
+    }
     if !has_level(limits.delta, depth) {
         return Ok(framed);
     }
@@ -239,6 +264,9 @@ pub(crate) fn choose(
     ensures { Answers chosen result (Ok (cheapest (encoded_bytes array.now) (candidates limits.now))) }
 {
     let best = choose_framed_or_deltas(alloc, array, limits, limits.depth)?;
+    if best.bytes == 0 {
+        return Ok(best);
+    }
     if !has_level(limits.rle, limits.depth) {
         return Ok(best);
     }

@@ -1,31 +1,26 @@
 -- What the grammar says is read.
-use Rattle.std.proofs.Common.{◌≡◌, ◌+◌, ◌-◌, ◌*◌, ◌==◌, ◌<◌, ◌≤◌, ◌&&◌, ◌++◌, ◌⊎◌, ℕ, zero, suc, Bool, true, false, List, [], ◌∷◌, length, Ok, Err, refl, ap, sym, ◌∙◌, inl, inr, arith, append_assoc, append-nil, length-append}
+use Rattle.std.proofs.Common.{◌≡◌, ◌+◌, ◌-◌, ◌*◌, ◌==◌, ◌<◌, ◌≤◌, ◌&&◌, ◌++◌, ◌⊎◌, ℕ, zero, suc, Bool, true, false, List, [], ◌∷◌, length, Ok, refl, ap, sym, ◌∙◌, inl, inr, arith, append_assoc, append-nil, length-append}
 use Rattle.std.specs.Prelude.{Result, codes}
 use Rattle.std.specs.List.{list_all}
 use Rattle.std.proofs.lemmas.Bool.Decides.{nat_tests}
 use Rattle.fl_column.proofs.ListLaws.{and_first, and_second}
 use Rattle.fl_encode.specs.declared.scheme.Packing.TheVariants.{BestWidth, BestWidths, Width}
-use Rattle.fl_encode.specs.declared.scheme.Scheme.{Scheme}
-use Rattle.fl_encode.specs.declared.text.SchemeError.{SchemeError}
-use Rattle.fl_encode.specs.declared.text.SchemeError.TheVariants as errors
 use Rattle.fl_encode.specs.declared.text.reading.Frame.TheVariants as frames
 use Rattle.fl_encode.specs.declared.text.reading.Head.TheVariants as heads
-use Rattle.fl_encode.specs.Grammar.{AreThreeChildren, AreTwoChildren, FollowsGrammar, IsOneChild, IsSchemeText, IsTextOf, IsWidthText, is_digit, number_of}
-use Rattle.fl_encode.specs.Shapes.{BitPacked, Constant, Delta, FoR, FoRChunked, FoRChunkedWrapped, FoRWrapped, Plain, Primitive, RLE, Shape, is_plain, shape}
-use Rattle.fl_encode.specs.Texts.{IsParsed, after, child_by, digits_behind, expected, frame_in, one_by, positioned, scheme_in, scheme_of_text, three_by, two_by, whole, width_in}
-use Rattle.fl_encode.proofs.GrammarCuts.{begins_before}
-use Rattle.fl_encode.proofs.GrammarLaws.{read_by_grammar}
+use Rattle.fl_encode.specs.Grammar.{AreThreeChildren, AreTwoChildren, IsOneChild, IsSchemeText, IsTextOf, IsWidthText, is_digit, number_of}
+use Rattle.fl_encode.specs.Shapes.{BitPacked, Constant, Delta, FoR, FoRChunked, FoRChunkedWrapped, FoRWrapped, Plain, Primitive, RLE, Shape, is_plain}
+use Rattle.fl_encode.specs.Texts.{after, child_by, digits_behind, expected, frame_in, one_by, positioned, scheme_in, scheme_of_text, three_by, two_by, whole, width_in}
 use Rattle.fl_encode.proofs.TextLaws.{Reader, follows, for_head, goes, headed, height, no_children, no_letters, no_wrap, plain_is, reads, stops, widened}
 
 -- ---- widths
-grows : (n : ℕ) (digits : List ℕ) → n ≤ number_of n digits
+pub grows : (n : ℕ) (digits : List ℕ) → n ≤ number_of n digits
 grows n [] = omega arith
 grows n (d ∷ digits) = let more = grows (10 * n + (d - 48)) digits in omega arith
 
-from_low : (x : ℕ) → is_digit x ≡ true → 48 ≤ x
+pub from_low : (x : ℕ) → is_digit x ≡ true → 48 ≤ x
 from_low x h = grind (arith, nat_tests)
 
-to_high : (x : ℕ) → is_digit x ≡ true → x ≤ 57
+pub to_high : (x : ℕ) → is_digit x ≡ true → x ≤ 57
 to_high x h = grind (arith, nat_tests)
 
 digits_read : (before : ℕ) (digits rest : List ℕ) → list_all is_digit digits ≡ true → number_of before digits ≤ 255 → follows rest ≡ true → digits_behind before (digits ++ rest) ≡ (number_of before digits, rest)
@@ -50,13 +45,13 @@ width_read w (x ∷ digits) rest is f =
 abbrev Back : Reader → Shape → Type 0
 Back read s = (child more : List ℕ) → IsTextOf s child → follows more ≡ true → child_by read (child ++ more) ≡ Ok (s, more)
 
-no_underscore : (read : Reader) (w : ℕ) (tail text rest : List ℕ) → (w == 95) ≡ false → text ≡ w ∷ tail → child_by read (text ++ rest) ≡ read (text ++ rest)
+pub no_underscore : (read : Reader) (w : ℕ) (tail text rest : List ℕ) → (w == 95) ≡ false → text ≡ w ∷ tail → child_by read (text ++ rest) ≡ read (text ++ rest)
 no_underscore read w tail text rest other e =
     let here : child_by read (w ∷ (tail ++ rest)) ≡ read (w ∷ (tail ++ rest)) = rw other refl in
     let same : text ++ rest ≡ w ∷ (tail ++ rest) = ap (λ (t : List ℕ). t ++ rest) e in
     ap (child_by read) same ∙ (here ∙ ap read (sym same))
 
-child_read : (s : Shape) (read : Reader) (text rest : List ℕ) → IsTextOf s text → (is_plain s ≡ false → read (text ++ rest) ≡ Ok (s, rest)) → child_by read (text ++ rest) ≡ Ok (s, rest)
+pub child_read : (s : Shape) (read : Reader) (text rest : List ℕ) → IsTextOf s text → (is_plain s ≡ false → read (text ++ rest) ≡ Ok (s, rest)) → child_by read (text ++ rest) ≡ Ok (s, rest)
 child_read Plain read text rest is h = ap (λ (t : List ℕ). child_by read (t ++ rest)) is
 child_read Primitive read text rest is h = no_underscore read 112 _ text rest refl is ∙ h refl
 child_read Constant read text rest is h = no_underscore read 99 _ text rest refl is ∙ h refl
@@ -107,14 +102,14 @@ three_read a b c read own rest f (inr (first, second, third, isa, isb, isc, e)) 
     ∙ ap (λ o. after o (λ z. after (expected 41 z.1) (λ tail. Ok (a, b, z.0, tail)))) (backc third (41 ∷ rest) isc refl)))
 
 -- ---- words for frames of reference
-abbrev Opens : List ℕ → Type 0
+abbrev pub Opens : List ℕ → Type 0
 Opens own = (own ≡ []) ⊎ ((more : List ℕ) × (own ≡ 40 ∷ more))
 
-one_opens : (plain : Bool) (Is : List ℕ → Type 0) (own : List ℕ) → IsOneChild plain Is own → Opens own
+pub one_opens : (plain : Bool) (Is : List ℕ → Type 0) (own : List ℕ) → IsOneChild plain Is own → Opens own
 one_opens plain Is own (inl (all, e)) = inl e
 one_opens plain Is own (inr (child, is, e)) = inr (child ++ 41 ∷ [], e)
 
-two_opens : (plain : Bool) (Is Are : List ℕ → Type 0) (own : List ℕ) → AreTwoChildren plain Is Are own → Opens own
+pub two_opens : (plain : Bool) (Is Are : List ℕ → Type 0) (own : List ℕ) → AreTwoChildren plain Is Are own → Opens own
 two_opens plain Is Are own (inl (all, e)) = inl e
 two_opens plain Is Are own (inr (first, second, is, are, e)) = inr (first ++ 44 ∷ (second ++ 41 ∷ []), e)
 
@@ -130,7 +125,7 @@ chunked_frame own rest f (inr (more, e)) = ap (λ (t : List ℕ). frame_in (99 �
 abbrev At : Shape → ℕ → List ℕ → Type 0
 At s n rest = (text : List ℕ) → IsTextOf s text → is_plain s ≡ false → height s < n → follows rest ≡ true → scheme_in n (text ++ rest) ≡ Ok (s, rest)
 
-read_any : (s : Shape) (n : ℕ) (rest text : List ℕ) → IsTextOf s text → is_plain s ≡ false → height s < n → follows rest ≡ true → scheme_in n (text ++ rest) ≡ Ok (s, rest)
+pub read_any : (s : Shape) (n : ℕ) (rest text : List ℕ) → IsTextOf s text → is_plain s ≡ false → height s < n → follows rest ≡ true → scheme_in n (text ++ rest) ≡ Ok (s, rest)
 read_any Plain n rest text is p h f = cc
 read_any Primitive n rest text is p h f = ap (λ (t : List ℕ). scheme_in n (t ++ rest)) is ∙ reads Primitive n rest refl refl h f
 read_any Constant n rest text is p h f = ap (λ (t : List ℕ). scheme_in n (t ++ rest)) is ∙ reads Constant n rest refl refl h f
@@ -214,7 +209,7 @@ three_tall a b c own (inr (first, second, third, isa, isb, isc, e)) talla tallb 
 long : (word text own : List ℕ) → text ≡ word ++ own → length text ≡ length word + length own
 long word text own e = ap length e ∙ length-append word own
 
-tall : (s : Shape) (text : List ℕ) → IsTextOf s text → height s < length text
+pub tall : (s : Shape) (text : List ℕ) → IsTextOf s text → height s < length text
 tall Plain text is = let size : length text ≡ 1 = ap length is in omega arith
 tall Primitive text is = let size : length text ≡ 9 = ap length is in omega arith
 tall Constant text is = let size : length text ≡ 8 = ap length is in omega arith
@@ -233,9 +228,3 @@ pub grammar_is_read : (text : List ℕ) (s : Shape) → IsSchemeText s text → 
 grammar_is_read text s is =
     let read : scheme_in (length text) text ≡ Ok (s, []) = ap (scheme_in (length text)) (sym (append-nil text)) ∙ read_any s (length text) [] text is.0 is.1 (tall s text is.0) refl in
     ap (λ (o : Result (Shape × List ℕ) ℕ). positioned (length text) (after o whole)) read
-
--- ---- answers
-pub parsed_by_grammar : (text : List ℕ) (result : Result Scheme SchemeError) → IsParsed result (scheme_of_text text) → FollowsGrammar text result
-parsed_by_grammar text (Ok scheme) h = read_by_grammar text (shape scheme) h
-parsed_by_grammar text (Err errors.OutOfMemory) h = tt
-parsed_by_grammar text (Err (errors.WrongByte position)) h = (λ s is. let read = grammar_is_read text s is in cc, begins_before text position h)

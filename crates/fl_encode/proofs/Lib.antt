@@ -6,3 +6,5 @@ pub mod TextBounds
 pub mod GrammarLaws
 pub mod GrammarCuts
 pub mod GrammarReads
+pub mod GrammarStops
+pub mod ShownLaws

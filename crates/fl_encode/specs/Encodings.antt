@@ -75,7 +75,7 @@ abbrev mutual
   encode_refusal (Delta' bases deltas) p = otherwise (child_refusal bases (compress_deltas p).0) (child_refusal deltas (compress_deltas p).1)
   encode_refusal (RLE' values indices offsets) p = otherwise (child_refusal values (encode_runs p).values) (otherwise (child_refusal indices (encode_runs p).indices) (child_refusal offsets (encode_runs p).offsets))
 
-  -- the same of a child, which is plain where it has no scheme
+  -- the same of a child, which is plain if it has no scheme
   pub child_refusal : ChildScheme → PrimitiveParts → Option FastLanesError
   child_refusal NoScheme p = None
   child_refusal (HasScheme at scheme) p = encode_refusal scheme p
@@ -93,13 +93,13 @@ abbrev mutual
   IsEncodedAs (Delta' bases deltas) p t = HasDeltas (IsChildAs bases) (IsChildAs deltas) (compress_deltas p) (whole_delta p) t
   IsEncodedAs (RLE' values indices offsets) p t = HasRuns (IsChildAs values) (IsChildAs indices) (IsChildAs offsets) (encode_runs p) (whole_window p) t
 
-  -- the same of a child, which is plain where it has no scheme
+  -- the same of a child, which is plain if it has no scheme
   pub IsChildAs : ChildScheme → PrimitiveParts → Tree → Type 0
   IsChildAs NoScheme p t = t ≡ tree.Primitive p
   IsChildAs (HasScheme at scheme) p t = IsEncodedAs scheme p t
 
 -- ---- answers
--- a call answers an array of this form that stands for this column, unless there is a refusal, which it then gives, or memory ran out
+-- a call returns an array of this form with this column or, if there is an error, that error, or memory ran out
 pub record Makes (refusal : Option FastLanesError) (Is : Tree → Type 0) (c : Column) (result : Result Tree FastLanesError) : Type 0 where
   pub refused : AnswersUnless refusal result
   pub form : IfOk result Is

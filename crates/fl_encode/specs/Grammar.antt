@@ -12,7 +12,7 @@ use Rattle.fl_encode.specs.Shapes.{BitPacked, Constant, Delta, FoR, FoRChunked, 
 abbrev pub is_digit : ℕ → Bool
 is_digit byte = nat_le 48 byte && nat_le byte 57
 
--- the number that digits say, behind those of another one
+-- the number of these digits after those of another number
 abbrev pub number_of : ℕ → List ℕ → ℕ
 number_of before [] = before
 number_of before (digit ∷ digits) = number_of (10 * before + (digit - 48)) digits
@@ -24,13 +24,13 @@ pub record IsWidthText (width : ℕ) (text : List ℕ) : Type 0 where
   pub value : number_of 0 text ≡ width
   pub fits : width ≤ 255
 
--- the text of a packing: a word, and behind a colon the width where one is given
+-- the text of a packing: a word and, if a width is given, a colon and the width
 abbrev pub IsPackingText : Packing → List ℕ → Type 0
 IsPackingText BestWidth text = text ≡ codes "bitpacked"
 IsPackingText (Width width) text = (digits : List ℕ) × IsWidthText width digits × (text ≡ codes "bitpacked:" ++ digits)
 IsPackingText BestWidths text = text ≡ codes "blocked"
 
--- what stands behind a word with one child: nothing where it is plain, or the child in parentheses
+-- what follows a word with one child: nothing if the child is plain, or the child in parentheses
 abbrev pub IsOneChild : Bool → (List ℕ → Type 0) → List ℕ → Type 0
 IsOneChild plain Is text = ((plain ≡ true) × (text ≡ [])) ⊎ ((child : List ℕ) × Is child × (text ≡ codes "(" ++ (child ++ codes ")")))
 
@@ -44,7 +44,7 @@ abbrev pub AreThreeChildren : Bool → (List ℕ → Type 0) → (List ℕ → T
 AreThreeChildren plain IsFirst IsSecond IsThird text =
     ((plain ≡ true) × (text ≡ [])) ⊎ ((first : List ℕ) × (second : List ℕ) × (third : List ℕ) × IsFirst first × IsSecond second × IsThird third × (text ≡ codes "(" ++ (first ++ (codes "," ++ (second ++ (codes "," ++ (third ++ codes ")")))))))
 
--- the text says a scheme: a word, and behind it the children; an underscore is a plain child
+-- this is a text of the scheme: a word, and after it the children; an underscore is a plain child
 abbrev pub IsTextOf : Shape → List ℕ → Type 0
 IsTextOf Plain text = text ≡ codes "_"
 IsTextOf Primitive text = text ≡ codes "primitive"
@@ -65,8 +65,15 @@ IsSchemeText scheme text = IsTextOf scheme text × (is_plain scheme ≡ false)
 abbrev pub BeginsScheme : List ℕ → Type 0
 BeginsScheme text = (scheme : Shape) × (more : List ℕ) × IsSchemeText scheme (text ++ more)
 
--- a call answers a scheme of which this is the text; or where it is no scheme's, the position of a byte up to which it begins as some scheme's does; or memory ran out
+-- the first wrong byte of a text that is no scheme's: the bytes before it begin some scheme's text, and with it they begin none; at the text's length its end is wrong
+pub record IsFirstWrong (text : List ℕ) (position : ℕ) : Type 0 where
+  pub none : (scheme : Shape) → ¬ IsSchemeText scheme text
+  pub within : position ≤ length text
+  pub before : BeginsScheme (take position text)
+  pub wrong : position < length text → ¬ BeginsScheme (take (position + 1) text)
+
+-- a call answers a scheme of which this is the text, or the position of the text's first wrong byte, or memory ran out
 abbrev pub FollowsGrammar : List ℕ → Result Scheme SchemeError → Type 0
 FollowsGrammar text (Ok scheme) = IsSchemeText (shape scheme) text
 FollowsGrammar text (Err errors.OutOfMemory) = Unit {0}
-FollowsGrammar text (Err (errors.WrongByte position)) = ((scheme : Shape) → ¬ IsSchemeText scheme text) × BeginsScheme (take position text)
+FollowsGrammar text (Err (errors.WrongByte position)) = IsFirstWrong text position

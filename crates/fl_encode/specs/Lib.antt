@@ -3,3 +3,4 @@ pub mod Encodings
 pub mod Shapes
 pub mod Texts
 pub mod Grammar
+pub mod TreeShapes

@@ -1,4 +1,4 @@
--- Schemes without where they lie in memory, and their text.
+-- Schemes apart from their addresses in memory, and their text.
 use Rattle.std.specs.Prelude.{◌+◌, ◌/◌, ◌%◌, ◌++◌, ◌&&◌, ℕ, Bool, true, false, List, [], ◌∷◌, codes, nat_lt, if◌then◌else◌}
 use Rattle.fl_encode.specs.declared.scheme.Packing.{Packing}
 use Rattle.fl_encode.specs.declared.scheme.Packing.TheVariants.{BestWidth, BestWidths, Width}
@@ -44,7 +44,7 @@ width_text width =
     else if nat_lt width 100 then (48 + width / 10) ∷ (48 + width % 10) ∷ []
     else (48 + width / 100) ∷ (48 + width / 10 % 10) ∷ (48 + width % 10) ∷ []
 
--- the word for a packing, with its width behind a colon where one is given
+-- the word for a packing and, if a width is given, a colon and the width
 abbrev pub packing_text : Packing → List ℕ
 packing_text BestWidth = codes "bitpacked"
 packing_text (Width width) = codes "bitpacked:" ++ width_text width

@@ -14,18 +14,18 @@ use Rattle.fl_encode.specs.declared.text.reading.Stop.{Stop}
 use Rattle.fl_encode.specs.declared.text.reading.Stop.TheVariants as stops
 use Rattle.fl_encode.specs.Shapes.{BitPacked, Constant, Delta, FoR, FoRChunked, FoRChunkedWrapped, FoRWrapped, Plain, Primitive, RLE, Shape, shape}
 
--- ---- readers: each answers what it read and the bytes behind it, or how many bytes there are from the first wrong one on
+-- ---- readers: each returns what it read and the bytes after it, or the number of bytes from the first wrong one on
 -- what is read next, where something was read
 abbrev pub after : {A B : Type 0} → Result A ℕ → (A → Result B ℕ) → Result B ℕ
 after (Ok x) next = next x
 after (Err left) next = Err left
 
--- what stands behind a byte, if the text begins with it
+-- what follows a byte, if the text begins with it
 abbrev pub tail_behind : ℕ → List ℕ → Option (List ℕ)
 tail_behind byte [] = None
 tail_behind byte (x ∷ rest) = if x == byte then Some rest else None
 
--- what stands behind a word, if the text begins with it
+-- what follows a word, if the text begins with it
 abbrev pub rest_behind : List ℕ → List ℕ → Option (List ℕ)
 rest_behind [] text = Some text
 rest_behind (w ∷ word) [] = None
@@ -46,7 +46,7 @@ expected byte text = option_map_or (λ rest. Ok rest) (tail_behind byte text) (E
 abbrev pub goes_on : ℕ → ℕ → Bool
 goes_on number byte = (nat_le 48 byte && nat_le byte 57) && nat_le (10 * number + (byte - 48)) 255
 
--- a number with the digits that it goes on with, and what stands behind them
+-- a number with the digits that it goes on with, and what follows them
 abbrev pub digits_behind : ℕ → List ℕ → ℕ × List ℕ
 digits_behind number [] = (number, [])
 digits_behind number (x ∷ rest) = if goes_on number x then digits_behind (10 * number + (x - 48)) rest else (number, x ∷ rest)
@@ -56,7 +56,7 @@ abbrev pub width_in : List ℕ → Result (ℕ × List ℕ) ℕ
 width_in [] = Err 0
 width_in (x ∷ rest) = if goes_on 0 x then Ok (digits_behind (x - 48) rest) else Err (length (x ∷ rest))
 
--- the packing behind its word: a width where there is a colon
+-- the packing after its word: a width if there is a colon
 abbrev pub packing_behind : List ℕ → Result (Packing × List ℕ) ℕ
 packing_behind text = option_map_or (λ digits. after (width_in digits) (λ w. Ok (Width w.0, w.1))) (tail_behind 58 text) (Ok (BestWidth, text))
 
@@ -66,7 +66,7 @@ furthest text =
     max (max (max (common (codes "primitive") text) (common (codes "constant") text)) (max (common (codes "bitpacked") text) (common (codes "blocked") text)))
     (max (max (common (codes "forcw") text) (common (codes "forw") text)) (max (common (codes "delta") text) (common (codes "rle") text)))
 
--- the word for a frame of reference, of what stands behind its "for"
+-- the word for a frame of reference, from what follows its "for"
 abbrev pub frame_in : List ℕ → Frame × List ℕ
 frame_in text =
     option_map_or (λ rest. (frames.ChunkedWrapped, rest)) (rest_behind (codes "cw") text) (
@@ -109,14 +109,14 @@ three_by read text =
     option_map_or (λ inner.
     after (child_by read inner) (λ a. after (expected 44 a.1) (λ more. after (child_by read more) (λ b. after (expected 44 b.1) (λ last. after (child_by read last) (λ c. after (expected 41 c.1) (λ rest. Ok (a.0, b.0, c.0, rest)))))))) (tail_behind 40 text) (Ok (Plain, Plain, Plain, text))
 
--- the scheme of a word for a frame of reference, and of the children behind it
+-- the scheme of a word for a frame of reference and of the children after it
 abbrev pub frame_by : (List ℕ → Result (Shape × List ℕ) ℕ) → Frame → List ℕ → Result (Shape × List ℕ) ℕ
 frame_by read frames.Whole text = after (one_by read text) (λ a. Ok (FoR a.0, a.1))
 frame_by read frames.WholeWrapped text = after (one_by read text) (λ a. Ok (FoRWrapped a.0, a.1))
 frame_by read frames.Chunked text = after (two_by read text) (λ a. Ok (FoRChunked a.0 a.1, a.2))
 frame_by read frames.ChunkedWrapped text = after (two_by read text) (λ a. Ok (FoRChunkedWrapped a.0 a.1, a.2))
 
--- the scheme of an encoding's word, and of the children behind it
+-- the scheme of an encoding's word and of the children after it
 abbrev pub scheme_by : (List ℕ → Result (Shape × List ℕ) ℕ) → Head → List ℕ → Result (Shape × List ℕ) ℕ
 scheme_by read heads.Primitive text = Ok (Primitive, text)
 scheme_by read heads.Constant text = Ok (Constant, text)
@@ -130,7 +130,7 @@ abbrev pub scheme_in : ℕ → List ℕ → Result (Shape × List ℕ) ℕ
 scheme_in zero text = Err (length text)
 scheme_in (suc depth) text = after (head_in text) (λ h. scheme_by (scheme_in depth) h.0 h.1)
 
--- nothing may stand behind it
+-- nothing may follow it
 abbrev pub whole : Shape × List ℕ → Result Shape ℕ
 whole (scheme, []) = Ok scheme
 whole (scheme, x ∷ rest) = Err (length (x ∷ rest))
@@ -140,7 +140,7 @@ abbrev pub positioned : ℕ → Result Shape ℕ → Result Shape ℕ
 positioned len (Ok scheme) = Ok scheme
 positioned len (Err left) = Err (len - left)
 
--- the scheme that a text says, or the position of its first wrong byte; a scheme is less deep than its text is long
+-- the scheme of a text, or the position of the text's first wrong byte; a scheme's depth is below its text's length
 abbrev pub scheme_of_text : List ℕ → Result Shape ℕ
 scheme_of_text text = positioned (length text) (after (scheme_in (length text) text) whole)
 

@@ -174,17 +174,16 @@ fn encode_rle(
     over_runs(alloc, values, indices, offsets, len)
 }
 
-/// The array, encoded by a scheme: exactly the array that the definitions of the encodings make of it, and of
-/// each child by its own scheme.
+/// Encodes an array by a scheme. Each child is encoded by its own scheme, and stored plain if it has none.
 ///
 /// # Errors
-/// The first refusal, that of the outer encoding before those of its children in the order of their slots:
-/// - `Constant` is refused with `CastOutOfRange` where two items differ.
-/// - `BitPacked` is refused with the first of `NegativeValue`, `WidthTooLarge` and `AllBlocksNative` that holds.
-/// - `FoR` and `FoRWrapped` are refused with `NoMinimum` where no item is valid.
+/// The first that applies, from the outer encoding to its children in the order of their slots:
+/// - `Constant`: `CastOutOfRange` if two items differ.
+/// - `BitPacked`: the first of `NegativeValue`, `WidthTooLarge` and `AllBlocksNative` that applies.
+/// - `FoR` and `FoRWrapped`: `NoMinimum` if all items are null.
 ///
-/// `FoRChunked` and `FoRChunkedWrapped` make one reference of equal ones, and a constant child of nothing but nulls:
-/// the schemes of children that are not there are not run.
+/// `FoRChunked` and `FoRChunkedWrapped` make one reference if all are equal, and a constant child if all items are null.
+/// The schemes of children that the array then does not have are not used.
 #[cycle(encode)]
 pub fn encode(
     alloc: Global,

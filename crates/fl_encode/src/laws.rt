@@ -1,11 +1,16 @@
 //! What holds of every scheme.
 
-ghost use Rattle.std.specs.Prelude.{◌≡◌, ℕ, List, Ok, Err, take, true};
+ghost use Rattle.std.specs.Prelude.{◌≡◌, ℕ, List, Ok, Err, true};
 ghost use Rattle.fl_encode.specs.declared.scheme.Scheme.{back-Scheme-FoR-0 as child_scheme};
-ghost use Rattle.fl_encode.specs.Grammar.{BeginsScheme, IsSchemeText};
+ghost use Rattle.fl_encode.specs.Grammar.{IsFirstWrong, IsSchemeText};
 ghost use Rattle.fl_encode.specs.Shapes.{Shape, child_shape, scheme_text, shape};
 ghost use Rattle.fl_encode.specs.Shapes as shapes;
 ghost use Rattle.fl_encode.specs.Texts.{has_widths, scheme_of_text};
+ghost use Rattle.fl_encode.specs.TreeShapes.{Shows, part_shape};
+ghost use Rattle.fl_encode.specs.declared.scheme.Scheme.{Scheme};
+ghost use Rattle.fl_encode.specs.Encodings.{IsEncodedAs};
+ghost use Rattle.fl_array.specs.Trees.{Tree};
+ghost use Rattle.fl_column.specs.Columns.{PrimitiveParts};
 
 use crate::scheme::{Packing, Scheme};
 
@@ -68,20 +73,26 @@ fn prove_width(packing: Packing)
     }
 }
 
-/// The text of a scheme is read as that scheme.
+/// The text that is printed for a scheme is parsed as that scheme.
 pub fn printed_is_read(scheme: &Scheme)
     ensures { scheme_of_text (scheme_text (shape scheme.now)) ≡ Ok (shape scheme.now) }
 {
     prove_widths(scheme);
 }
 
-/// A text is read as a scheme exactly where the grammar says that it is a text of it.
+/// A text is parsed as a scheme if and only if the grammar says that it is a text of that scheme.
 pub fn grammar_is_read()
     ensures read { (text : List ℕ) (scheme : Shape) → scheme_of_text text ≡ Ok scheme → IsSchemeText scheme text }
     ensures all { (text : List ℕ) (scheme : Shape) → IsSchemeText scheme text → scheme_of_text text ≡ Ok scheme }
 {}
 
-/// The bytes before a wrong one begin the text of some scheme: no earlier one is wrong.
-pub fn no_byte_before_is_wrong()
-    ensures { (text : List ℕ) (position : ℕ) → scheme_of_text text ≡ Err position → BeginsScheme (take position text) }
+/// The byte that an error names is the first wrong one: the bytes before it begin the text of some scheme, and together with
+/// it they begin none. At the text's length, the text ends too early.
+pub fn wrong_byte_is_the_first()
+    ensures { (text : List ℕ) (position : ℕ) → scheme_of_text text ≡ Err position → IsFirstWrong text position }
+{}
+
+/// An array shows the scheme that it was encoded by: each encoding in its place, as far as arrays tell them apart.
+pub fn encoded_shows_scheme()
+    ensures { (scheme : Scheme) (p : PrimitiveParts) (t : Tree) → IsEncodedAs scheme p t → Shows (shape scheme) (part_shape t) }
 {}

@@ -1,22 +1,22 @@
-//! What an array is to be encoded as.
+//! How an array is to be encoded.
 
 /// How integers are bit-packed.
 #[derive(Clone, Copy, Debug, PartialEq, Eq)]
 pub enum Packing {
-    /// At the width of least cost.
+    /// At the width that takes the fewest bytes, patches included.
     BestWidth,
-    /// At this width.
+    /// At this width, in bits.
     Width(u8),
-    /// At a width for each block of 1024, of least cost.
+    /// At a width for each block of 1024 items: the one that takes the fewest bytes, patches included.
     BestWidths,
 }
 
-/// An encoding, and the schemes of its children, in the order of their slots. A child without one is plain.
+/// An encoding and the schemes of its children, in the order of their slots. A child with no scheme is stored plain.
 #[derive(Debug, PartialEq, Eq, Drop)]
 pub enum Scheme {
     /// The integers as they are.
     Primitive,
-    /// One integer or null, repeated.
+    /// One integer or null for all items.
     Constant,
     /// Bit-packed.
     BitPacked(Packing),
@@ -55,9 +55,9 @@ pub enum Scheme {
     RLE {
         /// The run values.
         values: Option<Box<Scheme>>,
-        /// For each position the index of its run value.
+        /// The index of each position's run value.
         indices: Option<Box<Scheme>>,
-        /// How many run values stand before each chunk.
+        /// The number of run values before each chunk.
         offsets: Option<Box<Scheme>>,
     },
 }

@@ -14,19 +14,19 @@ use crate::text::printing::push_scheme;
 use crate::text::reading::{Stop, read_whole};
 use std::alloc::{AllocError, Global};
 
-/// Why a text gives no scheme.
+/// Why a text is not the text of a scheme.
 #[derive(Clone, Copy, Debug, PartialEq, Eq)]
 pub enum SchemeError {
-    /// A growth of memory was refused.
+    /// Memory ran out.
     OutOfMemory,
-    /// The byte at this position is the first that is wrong. At the text's length it is its end that is wrong.
+    /// The position of the first wrong byte, from 0. At the text's length, the text ends too early.
     WrongByte(usize),
 }
 
-/// The scheme that a text says. The words are `primitive`, `constant`, `bitpacked`, `bitpacked:7` (a width up to
+/// Parses the text of a scheme. The words are `primitive`, `constant`, `bitpacked`, `bitpacked:7` (a width up to
 /// 255), `blocked`, `for`, `forc`, `forw`, `forcw`, `delta` and `rle`.
 ///
-/// It calls itself once for each level, and no depth is refused: a text from a stranger is to be short, since one of
+/// It calls itself once for each level, and accepts any depth. Limit the length of texts that you do not trust: one of
 /// very many levels may exhaust the stack.
 ///
 /// # Errors
@@ -42,7 +42,7 @@ pub fn parse(alloc: Global, text: &[u8]) -> Result<Scheme, SchemeError>
     }
 }
 
-/// The text of a scheme, without parentheses where all children are plain.
+/// The text of a scheme, without parentheses if all children are plain.
 pub fn print(alloc: Global, scheme: &Scheme) -> Result<Vec<u8>, AllocError>
     ensures { IfOk result (λ text. text.items ≡ scheme_text (shape scheme.now)) }
 {

@@ -1,6 +1,6 @@
 -- Questions to a column plus references that the column answers.
 use Rattle.std.proofs.Common.{◌≡◌, ◌∙◌, ℤ, pos, ◌+ℤ◌, Bool, true, false, List, [], ◌∷◌, map, Option, Some, None, Ok, refl, ap, sym, subst}
-use Rattle.std.specs.Prelude.{◌&&◌, ◌-ℤ◌, option_map, unwrap_or}
+use Rattle.std.specs.Prelude.{◌&&◌, ◌-ℤ◌, IfSome, option_and_then, option_map, unwrap_or}
 use Rattle.std.specs.List.{list_all}
 use Rattle.std.specs.Ordering.{int_eq}
 use Rattle.std.proofs.lemmas.Bool.Decides.{Decides-int_eq}
@@ -13,7 +13,7 @@ use Rattle.fl_types.specs.Integers.{fits, wrap}
 use Rattle.fl_types.specs.Types.{nullability_in}
 use Rattle.fl_types.specs.declared.dtype.PType.TheVariants.{U8}
 use Rattle.fl_types.specs.Values.{bool_number, fits_in}
-use Rattle.fl_column.specs.Columns.{Column, option_all, ptype_of_column}
+use Rattle.fl_column.specs.Columns.{Column, integers_in, option_all, ptype_of_column}
 use Rattle.fl_column.specs.Questions.{is_constant_column, same_item, tested}
 use Rattle.fl_column.proofs.ListLaws.{and_first, and_second}
 use Rattle.fl_codec.specs.FoRColumns.{global_for, plus_reference}
@@ -21,11 +21,12 @@ use Rattle.fl_codec.proofs.FoRRoundTrips.{fitting, wrap-wrap_left}
 use Rattle.fl_types.specs.Types.{integer_type}
 use Rattle.fl_types.specs.Values.{ScalarParts}
 use Rattle.fastlanes.specs.Counts.{Counts}
-use Rattle.fl_array.specs.FoRArrays.{FoRArrayParts, GlobalReference, for_tree, refusal_of_for, tree_of_for}
+use Rattle.fl_array.specs.FoRArrays.{ChunkReferences, FoRArrayParts, FoRReferencesParts, GlobalReference, for_in, for_tree, offset_of_references, packed_in_chunks, refusal_of_for, tree_of_for}
 use Rattle.fl_array.specs.Ranges.{items_fit}
 use Rattle.fl_array.specs.Trees.{Tree, column}
 use Rattle.fl_array.specs.Trees as tree
-use Rattle.fl_array.specs.BitPackedArrays.{bitpacked_in}
+use Rattle.fl_array.specs.BitPackedArrays.{BitPackedArrayParts, bitpacked_in}
+use Rattle.fl_array.specs.UnpackedBlocks.{IsComparisonOfSums}
 use Rattle.fl_ops.specs.Selections.{is_global_for}
 use Rattle.fl_ops.specs.Unpacked.{IsTestOfArray}
 use Rattle.fl_array.proofs.FoRLaws.{for_dtype}
@@ -116,17 +117,38 @@ unpacked_over a t r f g work same is each h =
     let Q : Tree → Type 0 = λ x. IsTestOfArray x f work in
     subst Q over (subst P sums h)
 
+-- what the packed blocks of sums unpack
+pub unpacked_sums : (a : FoRArrayParts) (t references : Tree) (p : BitPackedArrayParts) (f : ℤ → Bool) (work : Counts) → ChunkReferences references (offset_of_references a.references) ≡ a.references → tree_of_for a ≡ t → Some p ≡ packed_in_chunks a
+    → IsComparisonOfSums p (integers_in (column references)) f work → IsTestOfArray t f work
+unpacked_sums a t references p f work same is found h =
+    let offset = offset_of_references a.references in
+    let over : tree.FoRChunked a.encoded references offset ≡ t = ap (for_tree a.encoded) same ∙ is in
+    let chunks : FoRReferencesParts → FoRArrayParts = λ r. record { encoded = a.encoded; references = r } in
+    let packed : packed_in_chunks (chunks (ChunkReferences references offset)) ≡ Some p = ap (λ r. packed_in_chunks (chunks r)) same ∙ sym found in
+    let P : Option BitPackedArrayParts → Type 0 = λ o. IfSome o (λ b. IsComparisonOfSums b (integers_in (column references)) f work) in
+    let Q : Tree → Type 0 = λ x. IsTestOfArray x f work in
+    subst Q over (subst P (sym packed) h)
+
 -- nothing is said of what another array unpacks
-pub not_packed : (t : Tree) (test : ℤ → Bool) (work : Counts) → is_global_for t ≡ false → bitpacked_in t ≡ None → IsTestOfArray t test work
-not_packed (tree.Primitive p) test work other none = tt
-not_packed (tree.Constant c) test work other none = tt
-not_packed (tree.Bool b) test work other none = tt
-not_packed (tree.BitPackedGlobal parts width) test work other none = cc
-not_packed (tree.BitPackedBlocked parts boundaries) test work other none = cc
-not_packed (tree.FoRGlobal encoded reference) test work other none = cc
-not_packed (tree.FoRChunked encoded references offset) test work other none = tt
-not_packed (tree.Delta bases deltas parts) test work other none = tt
-not_packed (tree.RLE values indices offsets window) test work other none = tt
+pub not_packed : (t : Tree) (test : ℤ → Bool) (work : Counts) → is_global_for t ≡ false → bitpacked_in t ≡ None → option_and_then packed_in_chunks (for_in t) ≡ None → IsTestOfArray t test work
+not_packed (tree.Primitive p) test work other none apart = tt
+not_packed (tree.Constant c) test work other none apart = tt
+not_packed (tree.Bool b) test work other none apart = tt
+not_packed (tree.BitPackedGlobal parts width) test work other none apart = cc
+not_packed (tree.BitPackedBlocked parts boundaries) test work other none apart = cc
+not_packed (tree.FoRGlobal encoded reference) test work other none apart = cc
+not_packed (tree.FoRChunked encoded references offset) test work other none apart =
+    let P : Option BitPackedArrayParts → Type 0 = λ o. IfSome o (λ b. IsComparisonOfSums b (integers_in (column references)) test work) in
+    subst P (sym apart) tt
+not_packed (tree.Delta bases deltas parts) test work other none apart = tt
+not_packed (tree.RLE values indices offsets window) test work other none apart = tt
+
+-- a FoR array whose chunks are no packed blocks
+pub no_blocks : (a : FoRArrayParts) (t : Tree) → Some a ≡ for_in t → packed_in_chunks a ≡ None → option_and_then packed_in_chunks (for_in t) ≡ None
+no_blocks a t is none = ap (λ o. option_and_then packed_in_chunks o) (sym is) ∙ none
+
+pub no_for : (t : Tree) → (let none : Option FoRArrayParts = None in none) ≡ for_in t → option_and_then packed_in_chunks (for_in t) ≡ None
+no_for t is = ap (λ o. option_and_then packed_in_chunks o) (sym is)
 
 -- ---- types
 pub encoded_type : (a : FoRArrayParts) (t : Tree) → tree_of_for a ≡ t → ptype_of_column (column t) ≡ ptype_of_column (column a.encoded)

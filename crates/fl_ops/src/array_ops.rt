@@ -17,7 +17,9 @@ ghost use Rattle.fl_ops.specs.Takes.{has_block_widths};
 ghost use Rattle.fl_ops.specs.Unpacked.{IsTestOfArray};
 ghost use Rattle.fl_ops.specs.Questions.{between_scalars, compare_scalar, integer_in, is_comparable, nullable_with};
 
-use crate::encoded_tests::{between_plain, compare_plain, encoded_between, encoded_comparison};
+use crate::encoded_tests::{
+    between_plain, compare_plain, encoded_between, encoded_comparison, test_packed,
+};
 use crate::selection::{Selection, select};
 use crate::takes::take_packed_counted;
 use crate::{casting, constancy, sorting};
@@ -78,7 +80,7 @@ pub trait ArrayOps {
         ensures refused { (e : FastLanesError) → ranges_column ranges.now (column (tree self.now)) ≡ Err e → result ≡ Err e };
 
     /// The items whose bit of the mask is true, in order. The mask has the array's length; one that
-    /// keeps all items by its form gives a copy.
+    /// keeps all items by its form returns a copy.
     ///
     /// # Errors
     /// `NotInteger`.
@@ -88,11 +90,11 @@ pub trait ArrayOps {
         ensures tree { IfOk result (λ a. IsFiltered mask.now (tree self.now) a) }
         ensures copy { (len : ℕ) → mask.now ≡ AllTrue len → IsTrue (is_integer (column (tree self.now)).dtype) → Answers (λ a. a) result (Ok (tree self.now)) };
 
-    /// The same integers in another type. Where the integer type stays, a bit-packed array of one
-    /// width keeps its packed bytes, a delta array its bases and deltas, unless nulls may stand in
-    /// it and not in the target, and a FoR array its references over the encoded array's cast. A
-    /// run-length encoded array stays one where all its run values and run indices have a cast. All
-    /// else becomes a plain array.
+    /// The same integers in another type. If the integer type stays, a bit-packed array of one
+    /// width keeps its packed bytes and a delta array its bases and deltas, unless it may have
+    /// nulls and the target may not; a FoR array keeps its references, over the encoded array's
+    /// cast. A run-length encoded array stays one if all its run values and run indices have a
+    /// cast. Every other array becomes a plain one.
     ///
     /// # Errors
     /// `NotInteger` if the array or the target is not of integers, then `CastNull` if an item
@@ -102,8 +104,8 @@ pub trait ArrayOps {
         ensures column { Answers column result (cast_column target (column (tree self.now))) }
         ensures tree { IfOk result (λ a. SameShown a (cast_to target (tree self.now))) };
 
-    /// How each item compares with a constant of the array's type that is not null; a null stays a
-    /// null. The answer is nullable where the array or the constant is.
+    /// How each item compares with a constant of the array's type that is not null; the answer for a
+    /// null is null. The answers are nullable if the array or the constant is.
     ///
     /// # Errors
     /// `NotInteger`.
@@ -116,9 +118,9 @@ pub trait ArrayOps {
         requires { IsTrue (is_comparable (column (tree self.now)) (scalar_parts constant.now)) }
         ensures { Answers column_of_bools result (compare_scalar operator (scalar_parts constant.now) (column (tree self.now))) };
 
-    /// Whether each item is between two bounds of the array's type that are not null; a null stays
-    /// a null. No item is between bounds of which the lower is greater than the upper. The answer is nullable
-    /// where the array or one of the bounds is.
+    /// Whether each item is between two bounds of the array's type that are not null; the answer for
+    /// a null is null. If the lower bound is greater than the upper one, no item is. The answers are
+    /// nullable if the array or one of the bounds is.
     ///
     /// # Errors
     /// `NotInteger`.
@@ -133,11 +135,12 @@ pub trait ArrayOps {
         requires upper { IsTrue (is_comparable (column (tree self.now)) (scalar_parts upper.now)) }
         ensures { Answers column_of_bools result (between_scalars (scalar_parts lower.now) (scalar_parts upper.now) options.now (column (tree self.now))) };
 
-    /// The same as `compare`, and what was unpacked for it of the packed bytes of a bit-packed array: of one width each block, or
-    /// none where there is no item or the width decides the comparison; of a width for each block those blocks whose own width
-    /// does not decide it. A FoR array of one reference hands back the count of its encoded array, where a width decides the
-    /// comparison if it has one answer for the sums of the reference and each integer of so many bits. Of any other array the
-    /// count says nothing.
+    /// As `compare`, and also returns what was unpacked of a bit-packed array. An array of one width unpacks each block, or none
+    /// if there is no item or the width decides the comparison; an array with a width for each block unpacks those whose own width
+    /// does not decide it. A FoR array of one reference returns the count of its encoded array: there a width decides the
+    /// comparison if it has one answer for the sums of the reference and each integer of so many bits. A FoR array whose chunks
+    /// are the blocks of a bit-packed child returns the count of that child, each block with its own reference. Of any other
+    /// array the count says nothing.
     ///
     /// # Errors
     /// `NotInteger`.
@@ -151,7 +154,7 @@ pub trait ArrayOps {
         ensures answer { Answers (λ r. column_of_bools r.0) result (compare_scalar operator (scalar_parts constant.now) (column (tree self.now))) }
         ensures work { IfOk result (λ r. IsTestOfArray (tree self.now) (holds operator (integer_in (scalar_parts constant.now))) r.1) };
 
-    /// The same as `between`, and what was unpacked for it, as by `compare_counted`.
+    /// As `between`, and also returns what was unpacked, as `compare_counted` does.
     ///
     /// # Errors
     /// `NotInteger`.
@@ -196,7 +199,7 @@ fn integer_for(array: &ArrayRef, constant: &Scalar) -> PValue
     }
 }
 
-/// The answers of a comparison with a constant, nullable also where the constant is.
+/// The answers of a comparison with a constant, nullable also if the constant is.
 #[tactic(auto, using(crate::proofs::NullableLaws::as_they_are, crate::proofs::NullableLaws::made_nullable))]
 fn nullable_with(answers: BoolArray, constant: &Scalar) -> BoolArray
     ensures { column_of_bools result ≡ nullable_with (scalar_parts constant.now) (column_of_bools answers) }
@@ -285,11 +288,8 @@ impl ArrayOps for ArrayRef {
         };
         let integer = integer_for(self, constant);
         let (encoded, range) = encoded_comparison(self, operator, integer);
-        match encoded.as_bitpacked() {
-            Some(packed) => {
-                let (answers, work) = packed.test_counted(alloc, range)?;
-                Ok((nullable_with(answers, constant), work))
-            }
+        match test_packed(alloc, encoded, range)? {
+            Some((answers, work)) => Ok((nullable_with(answers, constant), work)),
             None => {
                 let answers = compare_plain(alloc, self, operator, integer)?;
                 Ok((nullable_with(answers, constant), Work::new()))
@@ -310,11 +310,11 @@ impl ArrayOps for ArrayRef {
         };
         let (low, high) = (integer_for(self, lower), integer_for(self, upper));
         let (encoded, range) = encoded_between(self, low, high, *options);
-        match encoded.as_bitpacked() {
-            Some(packed) => {
-                let (answers, work) = packed.test_counted(alloc, range)?;
-                Ok((nullable_with(nullable_with(answers, lower), upper), work))
-            }
+        match test_packed(alloc, encoded, range)? {
+            Some((answers, work)) => Ok((
+                nullable_with(nullable_with(answers, lower), upper),
+                work,
+            )),
             None => {
                 let answers = between_plain(alloc, self, low, high, *options)?;
                 Ok((

@@ -25,6 +25,10 @@ use crate::plain_ops;
 use fl_array::bitpacking::{BitPackedArray, BitWidthsView};
 use fl_array::delta::DeltaArray;
 use fl_array::for_::{FoRArray, FoRReferences};
+use fl_array::laws::{
+    bitpacked_items_are_in_range, delta_is_well_formed, delta_items_are_in_range,
+    items_are_in_range, rle_is_well_formed,
+};
 use fl_array::rle::RLEArray;
 use fl_array::{ArrayRef, IntoArray};
 use fl_column::{DType, FastLanesError, Nullability, Scalar};
@@ -171,7 +175,7 @@ fn cast_packed(
     ensures column { Answers column result (cast_column target (column (tree_of_bitpacked array.now))) }
     ensures tree { IfOk result (λ a. a ≡ cast_to target (tree_of_bitpacked array.now)) }
 {
-    array.prove_in_range();
+    bitpacked_items_are_in_range(array);
     let nullability = target.nullability();
     let refused = has_null_against(array, nullability);
     if refused {
@@ -187,8 +191,8 @@ fn cast_deltas(alloc: Global, array: &DeltaArray, target: DType) -> Result<Array
     ensures column { Answers column result (cast_column target (column (tree_of_delta array.now))) }
     ensures tree { IfOk result (λ a. a ≡ cast_to target (tree_of_delta array.now)) }
 {
-    array.prove_well_formed();
-    array.prove_in_range();
+    delta_is_well_formed(array);
+    delta_items_are_in_range(array);
     let cast = array.cast_in_place(alloc, target.nullability())?;
     Ok(cast.into_array())
 }
@@ -237,7 +241,7 @@ fn index_type(array: &RLEArray, target: DType) -> DType
     ensures typed { result ≡ indices_target target array.now.indices }
     ensures integer { IsTrue (is_integer result) }
 {
-    array.prove_well_formed();
+    rle_is_well_formed(array);
     array
         .indices()
         .dtype()
@@ -260,7 +264,7 @@ fn cast_over_runs(
     ensures column { Answers column result (cast_column target (column (tree_of_rle array.now))) }
     ensures tree { IfOk result (λ a. SameShown a (cast_to target (tree_of_rle array.now))) }
 {
-    array.prove_well_formed();
+    rle_is_well_formed(array);
     Ok(array.over(alloc, values, indices)?.into_array())
 }
 
@@ -295,13 +299,13 @@ pub(crate) fn cast_to_integers(
         CastForm::Packed(packed, width) => cast_packed(alloc, packed, width, target),
         CastForm::OverEncoded(encoded, reference) => {
             let child = encoded.encoded();
-            child.prove_in_range();
+            items_are_in_range(child);
             let part = cast_to_integers(alloc, child, target)?;
             cast_over(alloc, encoded, part, reference, target)
         }
         CastForm::OverChunked(encoded, references) => {
             let child = encoded.encoded();
-            child.prove_in_range();
+            items_are_in_range(child);
             let part = cast_to_integers(alloc, child, target)?;
             cast_over_chunked(alloc, encoded, part, references, target)
         }

@@ -8,6 +8,7 @@ ghost use Rattle.fl_array.specs.Trees.{column};
 use crate::plain_ops;
 use crate::selection::as_global_for;
 use fl_array::ArrayRef;
+use fl_array::laws::items_are_in_range;
 use fl_column::FastLanesError;
 use std::alloc::Global;
 
@@ -18,7 +19,7 @@ pub(crate) fn is_constant(alloc: Global, array: &ArrayRef) -> Result<bool, FastL
     match as_global_for(array) {
         Some((encoded, _)) => {
             let child = encoded.encoded();
-            child.prove_in_range();
+            items_are_in_range(child);
             is_constant(alloc, child)
         }
         None => plain_ops::is_constant(alloc, array),

@@ -1,8 +1,10 @@
-//! Comparisons and range tests. The items of a FoR array of one reference are sums, so a test of them is a test of the sums of
-//! the encoded items, and the encoded array is not decoded for it.
+//! Comparisons and range tests. The items of a FoR array are sums, so a test of them is a test of the sums of the encoded items.
+//! If there is one reference, or if the chunks of the references are the blocks of a bit-packed child, the encoded array is not
+//! decoded for it.
 
-ghost use Rattle.std.specs.Prelude.{◌≡◌, ◌+ℤ◌, ℤ, pos, false, IsTrue, Ok, unwrap_or};
+ghost use Rattle.std.specs.Prelude.{◌≡◌, ◌+ℤ◌, ℤ, pos, false, IfErr, IfNone, IfOk, IfSome, IsTrue, None, Ok, unwrap_or};
 ghost use Rattle.fastlanes.specs.Counts.{Counts};
+ghost use Rattle.fl_types.specs.declared.error.FastLanesError.TheVariants.{OutOfMemory};
 ghost use Rattle.fl_types.specs.Integers.{wrap};
 ghost use Rattle.fl_types.specs.Refusals.{Answers};
 ghost use Rattle.fl_types.specs.Types.{has_ptype, is_integer};
@@ -10,6 +12,7 @@ ghost use Rattle.fl_types.specs.Values.{integer_of, ptype_of_value, scalar_parts
 ghost use Rattle.fl_column.specs.Columns.{column_of_bools, ptype_of_column};
 ghost use Rattle.fl_column.specs.Questions.{holds, is_between, tested};
 ghost use Rattle.fl_bitpacking.specs.RangeTests.{IsTestOf, passes};
+ghost use Rattle.fl_array.specs.BitPackedArrays.{bitpacked_in};
 ghost use Rattle.fl_array.specs.FoRArrays.{GlobalReference, tree_of_for};
 ghost use Rattle.fl_array.specs.Trees.{column};
 ghost use Rattle.fl_ops.specs.Selections.{is_global_for};
@@ -17,8 +20,10 @@ ghost use Rattle.fl_ops.specs.Unpacked.{IsTestOfArray};
 
 use crate::plain_ops;
 use crate::selection::as_global_for;
+use fastlanes::Work;
 use fl_array::ArrayRef;
-use fl_array::for_::FoRArray;
+use fl_array::for_::{FoRArray, FoRReferences};
+use fl_array::laws::for_is_well_formed;
 use fl_bitpacking::RangeTest;
 use fl_column::{BetweenOptions, BoolArray, CompareOperator, FastLanesError, PValue, Scalar};
 use std::alloc::Global;
@@ -30,7 +35,7 @@ fn test_of_sums(array: &FoRArray, reference: Scalar, range: RangeTest) -> RangeT
     ensures test { (z : ℤ) → passes result z ≡ passes range (wrap (ptype_of_column (column array.now.encoded)) (z +ℤ unwrap_or (scalar_parts reference).value (pos 0))) }
     ensures typed { IsTestOf (ptype_of_column (column array.now.encoded)) result }
 {
-    array.prove_well_formed();
+    for_is_well_formed(array);
     match reference.as_pvalue() {
         Some(reference) => range.of_sums(reference),
         None => unreachable!(),
@@ -92,8 +97,58 @@ pub(crate) fn encoded_between(
     encoded_test(array, RangeTest::between(lower, upper, options))
 }
 
-/// How each item compares with a constant, by plain items: those of an array that is no FoR array of one reference, or else the
-/// encoded ones.
+/// The answers of a test for the items of a FoR array whose chunks are the blocks of a bit-packed child, and what was unpacked for
+/// it; `None` for any other array.
+fn test_packed_chunks(
+    alloc: Global,
+    array: &ArrayRef,
+    range: RangeTest,
+) -> Result<Option<(BoolArray, Work)>, FastLanesError>
+    requires test { IsTestOf (ptype_of_column (column array.now)) range }
+    requires inner { is_global_for array.now ≡ false }
+    requires other { bitpacked_in array.now ≡ None }
+    ensures refused { IfErr result (λ e. e ≡ OutOfMemory) }
+    ensures answers { IfOk result (λ o. IfSome o (λ r. column_of_bools r.0 ≡ tested (passes range) (column array.now))) }
+    ensures work { IfOk result (λ o. IfSome o (λ r. IsTestOfArray array.now (passes range) r.1)) }
+    ensures none { IfOk result (λ o. IfNone o ((work : Counts) → IsTestOfArray array.now (passes range) work)) }
+{
+    let Some(sums) = array.as_for() else {
+        return Ok(None);
+    };
+    match sums.references() {
+        FoRReferences::Blocked(references) => match sums.packed_in_chunks() {
+            Some(packed) => {
+                let answers = sums.test_packed_counted(alloc, packed, references, range)?;
+                Ok(Some(answers))
+            }
+            None => Ok(None),
+        },
+        FoRReferences::Global(_) => Ok(None),
+    }
+}
+
+/// The answers of a test for the items of a bit-packed array, or of a FoR array whose chunks are the blocks of a bit-packed child,
+/// and what was unpacked for it; `None` for any other array.
+pub(crate) fn test_packed(
+    alloc: Global,
+    array: &ArrayRef,
+    range: RangeTest,
+) -> Result<Option<(BoolArray, Work)>, FastLanesError>
+    requires test { IsTestOf (ptype_of_column (column array.now)) range }
+    requires inner { is_global_for array.now ≡ false }
+    ensures refused { IfErr result (λ e. e ≡ OutOfMemory) }
+    ensures answers { IfOk result (λ o. IfSome o (λ r. column_of_bools r.0 ≡ tested (passes range) (column array.now))) }
+    ensures work { IfOk result (λ o. IfSome o (λ r. IsTestOfArray array.now (passes range) r.1)) }
+    ensures none { IfOk result (λ o. IfNone o ((work : Counts) → IsTestOfArray array.now (passes range) work)) }
+{
+    let Some(packed) = array.as_bitpacked() else {
+        return test_packed_chunks(alloc, array, range);
+    };
+    let answers = packed.test_counted(alloc, range)?;
+    Ok(Some(answers))
+}
+
+/// How each item compares with a constant, from plain items: the encoded ones of a FoR array of one reference, else the array's.
 pub(crate) fn compare_plain(
     alloc: Global,
     array: &ArrayRef,

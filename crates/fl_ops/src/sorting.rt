@@ -17,6 +17,7 @@ use crate::plain_ops;
 use crate::selection::as_global_for;
 use fl_array::ArrayRef;
 use fl_array::for_::FoRArray;
+use fl_array::laws::for_is_well_formed;
 use fl_column::{FastLanesError, NativePType, PValue, PrimitiveArray, Scalar};
 use fl_types::match_each_integer_ptype;
 use num_traits::CheckedAdd;
@@ -69,7 +70,7 @@ fn is_plain_sorted(
     requires encoded { column array.now.encoded ≡ column_of_primitive plain.now }
     ensures { IfSome result (λ sorted. is_sorted_column strict (column (tree_of_for array.now)) ≡ Ok sorted) }
 {
-    array.prove_well_formed();
+    for_is_well_formed(array);
     let value = reference.as_pvalue()?;
     if sums_fit(plain, value) {
         Some(plain.is_sorted(strict))

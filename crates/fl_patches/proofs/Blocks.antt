@@ -28,6 +28,21 @@ take_between (x ∷ xs) (suc start) (suc end) h =
     let less : suc end - suc start ≡ end - start = omega arith in
     rw less (ap (λ ys. x ∷ ys) (take_between xs start end (omega arith)))
 
+-- two parts, of which one begins where the other ends
+pub between_append : {A : Type 0} (xs : List A) (a b c : ℕ) → a ≤ b → b ≤ c → between a c xs ≡ between a b xs ++ between b c xs
+between_append xs zero b c ab bc =
+    let up_to_c : c - 0 ≡ c = omega arith in
+    let up_to_b : b - 0 ≡ b = omega arith in
+    rw (up_to_c, up_to_b) (take_between xs b c bc)
+between_append xs (suc a) zero c ab bc = absurd (omega arith)
+between_append xs (suc a) (suc b) zero ab bc = absurd (omega arith)
+between_append [] (suc a) (suc b) (suc c) ab bc = rw (take_nothing (suc c - suc a), take_nothing (suc b - suc a), take_nothing (suc c - suc b)) refl
+between_append (x ∷ xs) (suc a) (suc b) (suc c) ab bc =
+    let less1 : suc c - suc a ≡ c - a = omega arith in
+    let less2 : suc b - suc a ≡ b - a = omega arith in
+    let less3 : suc c - suc b ≡ c - b = omega arith in
+    rw (less1, less2, less3) (between_append xs a b c (omega arith) (omega arith))
+
 -- the exceptions of a part at one width
 pub exceptions_between : (t : PType) (width : ℕ → ℕ) (w : ℕ) (items : List (Option ℤ)) (start end : ℕ) → ((i : ℕ) → start ≤ i → i < end → width i ≡ w)
     → between start end (exceptions_of t width items) ≡ map (exception t w) (between start end items)

@@ -11,7 +11,7 @@ use Rattle.fl_patches.specs.PatchMaps.{places_from, values_in}
 use Rattle.std.proofs.lemmas.List.{take_all}
 use Rattle.std.proofs.lemmas.List.FromFn.{map-range_with_len_more}
 use Rattle.fl_patches.proofs.Sparse.{places-append, places_even, values-append}
-use Rattle.fl_patches.proofs.Blocks.{exceptions_between, length-exceptions, take_between, take_to_block}
+use Rattle.fl_patches.proofs.Blocks.{between_append, exceptions_between, length-exceptions, take_between, take_to_block}
 use Rattle.fl_column.proofs.ItemLaws.{length-items_of, null_item_read, valid_item_read}
 use Rattle.fl_patches.proofs.Histograms.{between_next}
 use Rattle.fl_patches.specs.Exceptions.{bit_count, bits_of_item, exception, exceptions_of}
@@ -176,6 +176,20 @@ exception_part t value v (x ∷ xs) i w covered h few =
     exception_miss t value v (x ∷ xs) i w (get_or (x ∷ xs) i x) covered h read (rw same at few)
 
 -- a part whose patterns have together no more bits than the width
+-- a part that begins where the one before it ends
+pub gathered_on : (t : PType) (w : ℕ) (xs : List (Option ℤ)) (start from to : ℕ) (places places' : List ℕ) (values values' : List ℤ) (before : List (Option ℤ)) → start ≤ from → from ≤ to → from ≤ length xs → length before ≡ start
+    → ((b : List (Option ℤ)) → length b ≡ from → AreGathered places values b → AreGathered places' values' (b ++ map (exception t w) (between from to xs)))
+    → AreGathered places values (before ++ map (exception t w) (between start from xs)) → AreGathered places' values' (before ++ map (exception t w) (between start to xs))
+gathered_on t w xs start from to places places' values values' before order order' room len step so =
+    let first : List (Option ℤ) = map (exception t w) (between start from xs) in
+    let second : List (Option ℤ) = map (exception t w) (between from to xs) in
+    let whole : map (exception t w) (between start to xs) ≡ first ++ second = ap (map (exception t w)) (between_append xs start from to order order') ∙ map-append (exception t w) (between start from xs) (between from to xs) in
+    let long : length first ≡ length (between start from xs) = length-map (between start from xs) (exception t w) in
+    let taken : length (between start from xs) ≡ min (from - start) (length (drop start xs)) = length-take (from - start) (drop start xs) in
+    let left : length (drop start xs) ≡ length xs - start = length-drop start xs in
+    let all : length (before ++ first) ≡ length before + length first = length-append before first in
+    rw (whole, ← append_assoc before first second) (step (before ++ first) (omega arith) so)
+
 pub gathered_few : {X : Type 0} (t : PType) (value : X → ℤ) (v : Validity) (xs : List X) (start end w union : ℕ) (places : List ℕ) (values : List ℤ) (before : List (Option ℤ)) → IsTrue (covers v (length xs)) → start ≤ end → end ≤ length xs → union < 2 ^ 64
     → ((i : ℕ) → i < length (take (end - start) (drop start xs)) → pattern_of t (get_or (map value (take (end - start) (drop start xs))) i (pos 0)) ≤ union) → bit_count union ≤ w
     → AreGathered places values before → AreGathered places values (before ++ map (exception t w) (between start end (items_of v (map value xs))))

@@ -1,5 +1,5 @@
 -- Histograms, one item or some nulls more at a time.
-use Rattle.std.proofs.Common.{◌≡◌, ℕ, ℤ, zero, suc, ◌+◌, ◌<◌, ◌≤◌, ◌==◌, List, [], ◌∷◌, ◌++◌, length, map, replicate, get_or, set, Bool, true, false, cond, Option, Some, None, take, drop, ◌-◌, le_trans, refl, ap, sym, ◌∙◌, inl, inr, arith, zero-add}
+use Rattle.std.proofs.Common.{◌≡◌, ℕ, ℤ, zero, suc, ◌+◌, ◌<◌, ◌≤◌, ◌==◌, List, [], ◌∷◌, ◌++◌, length, map, replicate, get_or, set, Bool, true, false, cond, Option, Some, None, take, drop, min, ◌-◌, le_trans, refl, ap, sym, ◌∙◌, inl, inr, arith, zero-add}
 use Rattle.std.proofs.lemmas.Bool.{cases_eq, eq-eqb, ne_eqb, cases_lt}
 use Rattle.std.proofs.lemmas.List.{get_or-set_same, get_or-set_other, get_or_past, length-set, length-take, length-drop, length-map, length-replicate, ext_get_or, get_or-replicate, get_or-take, get_or-drop, get_or-map, take_all, take_at}
 use Rattle.std.proofs.lemmas.List.FromFn.{fill_by_all, get_or-map-range_with_len, length-map-range_with_len}
@@ -13,12 +13,13 @@ use Rattle.fl_types.specs.Validities.{covers, items_of}
 use Rattle.fl_types.specs.declared.validity.Validity.{Validity}
 use Rattle.fl_column.proofs.ItemLaws.{length-items_of}
 use Rattle.fl_column.proofs.ListLaws.{between_more}
-use Rattle.fl_patches.proofs.BitCounts.{bits_of_item_most}
+use Rattle.fl_patches.proofs.BitCounts.{bits_of_item_most, type_most}
+use Rattle.fl_patches.proofs.Blocks.{between_append}
 
 pub length-histogram : (t : PType) (items : List (Option ℤ)) → length (histogram_of t items) ≡ bits_of_type t + 1
 length-histogram t items = length-map-range_with_len (count_with_bits t items) 0 (bits_of_type t + 1)
 
-entry_at : (t : PType) (items : List (Option ℤ)) (b : ℕ) → b < bits_of_type t + 1 → get_or (histogram_of t items) b 0 ≡ count_with_bits t items b
+pub entry_at : (t : PType) (items : List (Option ℤ)) (b : ℕ) → b < bits_of_type t + 1 → get_or (histogram_of t items) b 0 ≡ count_with_bits t items b
 entry_at t items b h = get_or-map-range_with_len (count_with_bits t items) 0 (bits_of_type t + 1) b b 0 h (zero-add b)
 
 -- no entry counts more than all items
@@ -178,3 +179,36 @@ histogram_all t p v w xs slots n len made rest typed same values covered all roo
     let full : made ≡ histogram_of t (items_of v slots) = is ∙ (rw (same, values, whole) refl) in
     let long : length made ≡ len = ap length full ∙ (length-histogram t (items_of v slots) ∙ sym room) in
     rw typed (sym full ∙ sym (take_at made rest len long))
+
+-- the first of more zeros
+pub histogram_of_zeros : (t : PType) (len : ℕ) → len ≡ bits_of_type t + 1 → take len (replicate 65 0) ≡ histogram_of t []
+histogram_of_zeros t len room =
+    let cells : List ℕ = replicate 65 0 in
+    let most : bits_of_type t ≤ 64 = type_most t in
+    let all : length cells ≡ 65 = length-replicate {A = ℕ} 65 0 in
+    let taken : length (take len cells) ≡ min len (length cells) = length-take len cells in
+    let long : length (take len cells) ≡ bits_of_type t + 1 = omega arith in
+    histogram_none t (take len cells) long (λ b h. get_or-take len cells b 0 (omega arith) ∙ get_or-replicate 65 b 0 0 (omega arith))
+
+-- the entries of four runs, each behind the one before, add up to those of all four
+pub four_runs : (t : PType) (xs : List (Option ℤ)) (a b c d e : ℕ) (first second third fourth all : List ℕ) → a ≤ b → b ≤ c → c ≤ d → d ≤ e
+    → first ≡ histogram_of t (between a b xs) → second ≡ histogram_of t (between b c xs) → third ≡ histogram_of t (between c d xs) → fourth ≡ histogram_of t (between d e xs)
+    → length all ≡ length first → ((k : ℕ) → get_or all k 0 ≡ get_or first k 0 + get_or second k 0 + get_or third k 0 + get_or fourth k 0) → all ≡ histogram_of t (between a e xs)
+four_runs t xs a b c d e first second third fourth all ab bc cd de is1 is2 is3 is4 long sums =
+    histogram_by t (between a e xs) all (long ∙ (ap length is1 ∙ length-histogram t (between a b xs))) (λ k h.
+    let e1 : get_or first k 0 ≡ count_with_bits t (between a b xs) k = ap (λ l. get_or l k 0) is1 ∙ entry_at t (between a b xs) k h in
+    let e2 : get_or second k 0 ≡ count_with_bits t (between b c xs) k = ap (λ l. get_or l k 0) is2 ∙ entry_at t (between b c xs) k h in
+    let e3 : get_or third k 0 ≡ count_with_bits t (between c d xs) k = ap (λ l. get_or l k 0) is3 ∙ entry_at t (between c d xs) k h in
+    let e4 : get_or fourth k 0 ≡ count_with_bits t (between d e xs) k = ap (λ l. get_or l k 0) is4 ∙ entry_at t (between d e xs) k h in
+    let s1 : count_with_bits t (between a c xs) k ≡ count_with_bits t (between a b xs) k + count_with_bits t (between b c xs) k = ap (λ l. count_with_bits t l k) (between_append xs a b c ab bc) ∙ count_append t (between a b xs) (between b c xs) k in
+    let s2 : count_with_bits t (between a d xs) k ≡ count_with_bits t (between a c xs) k + count_with_bits t (between c d xs) k = ap (λ l. count_with_bits t l k) (between_append xs a c d (le_trans ab bc) cd) ∙ count_append t (between a c xs) (between c d xs) k in
+    let s3 : count_with_bits t (between a e xs) k ≡ count_with_bits t (between a d xs) k + count_with_bits t (between d e xs) k = ap (λ l. count_with_bits t l k) (between_append xs a d e (le_trans (le_trans ab bc) cd) de) ∙ count_append t (between a d xs) (between d e xs) k in
+    let total = sums k in
+    let same : get_or all k 0 ≡ count_with_bits t (between a e xs) k = omega arith in same)
+
+-- an entry of a run is at most the run's length
+pub entry_of_run : (t : PType) (xs : List (Option ℤ)) (a b n k : ℕ) (entries : List ℕ) → b ≡ a + n → entries ≡ histogram_of t (between a b xs) → get_or entries k 0 ≤ n
+entry_of_run t xs a b n k entries is so =
+    let few = entry_few t (between a b xs) entries k so in
+    let most = length_between_few xs a b in
+    omega arith

@@ -16,5 +16,6 @@ pub mod Picked
 pub mod Rising
 pub mod SearchRanges
 pub mod Selected
+pub mod Signs
 pub mod Slices
 pub mod Sparse

@@ -18,6 +18,9 @@ use fl_column::{PhysicalPType, PrimitiveArray, chunk_bounds, chunk_count, index_
 use fl_types::{BitList, FastLanesError, Validity, match_each_integer_ptype};
 use std::alloc::{AllocError, Global};
 
+/// How many items are tested together.
+const GROUP: usize = 16;
+
 /// Exceptions that are found one by one: their places, rising, and beside each its value.
 #[derive(Drop)]
 struct PatchesBuilder<T> {
@@ -88,8 +91,8 @@ impl<T: PhysicalPType> PatchesBuilder<T> {
         Ok(())
     }
 
-    /// Adds the exceptions at a width among the items from `start` to below `end`.
-    fn push_part(
+    /// Adds the exceptions at a width among a few items, those from `start` to below `end`.
+    fn push_group(
         &mut self,
         items: &[T],
         validity: &Validity,
@@ -112,6 +115,32 @@ impl<T: PhysicalPType> PatchesBuilder<T> {
             Validity::AllInvalid => Ok(()),
             Validity::Array(bits) => self.push_masked(items, bits, width, start, end),
         }
+    }
+
+    /// Adds the exceptions at a width among the items from `start` to below `end`. Where there are few, most groups of
+    /// items have none, and are passed over by one test.
+    fn push_part(
+        &mut self,
+        items: &[T],
+        validity: &Validity,
+        width: usize,
+        start: usize,
+        end: usize,
+    ) -> Result<(), AllocError>
+        requires covers { IsTrue (covers validity.now (length items.now)) }
+        requires order { start ≤ end }
+        requires range { end ≤ length items.now }
+        ensures { OnOk result ((before : List (Option ℤ)) → length before ≡ start → AreGathered self.old.places.items (map T.value self.old.values.items) before → AreGathered self.new.places.items (map T.value self.new.values.items) (before ++ map (exception T.PTYPE width) (between start end (items_of validity.now (map T.value items.now))))) }
+    {
+        if bit_count(union_of(&items[start..end])) <= width {
+            return Ok(());
+        }
+        for k in 0..(end - start).div_ceil(GROUP) {
+            let from = start + GROUP * k;
+            let to = from + (end - from).min(GROUP);
+            self.push_group(items, validity, width, from, to)?;
+        }
+        Ok(())
     }
 
     /// Adds the exceptions at a width among the items of a block, and to the offsets how many stand

@@ -1,15 +1,18 @@
 //! Histograms of the bits of items.
 
-ghost use Rattle.std.specs.Prelude.{◌≡◌, ◌+◌, ◌<◌, ◌≤◌, [], ℕ, IfOk, IsTrue, None, Ok, Some, length, map, slice_index_or};
+ghost use Rattle.std.specs.Prelude.{◌≡◌, ◌+◌, ◌≤◌, [], ℕ, IfOk, IsTrue, Ok, length, map};
+ghost use Rattle.std.specs.List.{list_any};
 ghost use Rattle.fl_types.specs.Bits.{between};
 ghost use Rattle.fl_types.specs.Integers.{bits_of_type};
 ghost use Rattle.fl_types.specs.Refusals.{Answers};
-ghost use Rattle.fl_types.specs.Validities.{covers, items_of, masked};
-ghost use Rattle.fl_patches.specs.Exceptions.{bits_of_item, histogram_of};
+ghost use Rattle.fl_types.specs.Validities.{covers, items_of};
+ghost use Rattle.fl_patches.specs.Exceptions.{histogram_of, is_negative};
 
-use crate::patterns::{bits_of, type_bits};
+use crate::counting::{MaskedItems, PresentItems, count_all};
+use crate::patterns::type_bits;
+use fl_column::laws::stored_integers_are_in_range;
 use fl_column::{PhysicalPType, PrimitiveArray};
-use fl_types::{BitList, FastLanesError, Validity, match_each_integer_ptype};
+use fl_types::{FastLanesError, Validity, match_each_integer_ptype};
 use std::alloc::{AllocError, Global};
 
 /// Makes every entry 0.
@@ -31,51 +34,6 @@ fn no_entries<T: PhysicalPType>(alloc: Global) -> Result<Vec<usize>, AllocError>
     vec![in alloc; 0usize; type_bits::<T>() + 1]
 }
 
-/// The bits of an item, 0 of a null.
-fn bits_at<T: PhysicalPType>(items: &[T], bits: &BitList, i: usize) -> usize
-    requires even { length bits.now ≡ length items.now }
-    requires range { i < length items.now }
-    ensures value { result ≡ bits_of_item T.PTYPE (slice_index_or (masked bits.now (map T.value items.now)) i None) }
-    ensures most { result ≤ bits_of_type T.PTYPE }
-{
-    if bits.get(i) { bits_of(items[i]) } else { 0 }
-}
-
-/// Counts the items from `start` to below `end` by their bits, where those are null whose bit isn't
-/// set. All entries are 0 before.
-fn count_masked<T: PhysicalPType>(
-    items: &[T],
-    bits: &BitList,
-    start: usize,
-    end: usize,
-    entries: &mut [usize],
-)
-    requires even { length bits.now ≡ length items.now }
-    requires order { start ≤ end }
-    requires range { end ≤ length items.now }
-    requires empty { entries.old ≡ histogram_of T.PTYPE [] }
-    ensures { entries.new ≡ histogram_of T.PTYPE (between start end (masked bits.now (map T.value items.now))) }
-{
-    for i in start..end {
-        let count = bits_at(items, bits, i);
-        entries[count] += 1;
-    }
-}
-
-/// Counts the items from `start` to below `end` by their bits, where none is null. All entries are 0
-/// before.
-fn count_present<T: PhysicalPType>(items: &[T], start: usize, end: usize, entries: &mut [usize])
-    requires order { start ≤ end }
-    requires range { end ≤ length items.now }
-    requires empty { entries.old ≡ histogram_of T.PTYPE [] }
-    ensures { entries.new ≡ histogram_of T.PTYPE (between start end (map (λ z. Some z) (map T.value items.now))) }
-{
-    for i in start..end {
-        let count = bits_of(items[i]);
-        entries[count] += 1;
-    }
-}
-
 /// Counts the items from `start` to below `end` by their bits. All entries are 0 before.
 pub(crate) fn count_items<T: PhysicalPType>(
     items: &[T],
@@ -91,9 +49,11 @@ pub(crate) fn count_items<T: PhysicalPType>(
     ensures { entries.new ≡ histogram_of T.PTYPE (between start end (items_of validity.now (map T.value items.now))) }
 {
     match validity {
-        Validity::NonNullable | Validity::AllValid => count_present(items, start, end, entries),
+        Validity::NonNullable | Validity::AllValid => {
+            count_all(&PresentItems { items }, start, end, entries)
+        }
         Validity::AllInvalid => entries[0] += end - start,
-        Validity::Array(bits) => count_masked(items, bits, start, end, entries),
+        Validity::Array(bits) => count_all(&MaskedItems { items, bits }, start, end, entries),
     }
 }
 
@@ -122,4 +82,18 @@ pub fn bit_width_histogram(
     ensures long { IfOk result (λ v. length v.items ≡ bits_of_type array.now.ptype + 1) }
 {
     match_each_integer_ptype!(array.ptype(), histogram_typed(alloc, array))
+}
+
+/// Whether an array's histogram counts an item that is negative and not null: it has all bits of a signed type,
+/// which no other item has.
+pub fn counts_negative(array: &PrimitiveArray, histogram: &[usize]) -> bool
+    requires { histogram.now ≡ histogram_of array.now.ptype (items_of array.now.validity array.now.slots) }
+    ensures { result ≡ list_any is_negative (items_of array.now.validity array.now.slots) }
+{
+    stored_integers_are_in_range(array);
+    let ptype = array.ptype();
+    if ptype.is_unsigned() {
+        return false;
+    }
+    histogram[ptype.bit_width()] > 0
 }

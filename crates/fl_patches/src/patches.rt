@@ -139,14 +139,6 @@ impl Patches {
         }
     }
 
-    /// `new` accepts the parts.
-    pub fn prove_well_formed(&self)
-        ensures { refusal_of self.now ≡ None }
-    {
-        // For the proof: the type's invariant says so.
-        let _ = &self.offset;
-    }
-
     /// The number of items of the patched array.
     pub fn array_len(&self) -> usize
         ensures { result ≡ self.now.array_len }
@@ -175,9 +167,10 @@ impl Patches {
         self.values.dtype()
     }
 
-    /// The indices, rising.
+    /// The indices, rising. Together with the other parts they are what `new` accepts.
     pub fn indices(&self) -> &PrimitiveArray
-        ensures { result.now ≡ self.now.indices }
+        ensures indices { result.now ≡ self.now.indices }
+        ensures accepted { refusal_of self.now ≡ None }
     {
         &self.indices
     }

@@ -69,7 +69,6 @@ fn select(
 ) -> Result<Option<Patches>, FastLanesError>
     ensures { Answers (λ o. o) result (Ok (select_patches positions.now patches.now)) }
 {
-    patches.prove_well_formed();
     let found = find(patches.indices(), alloc, patches.offset(), positions)?;
     found.finish(alloc, patches.values(), positions.len())
 }
@@ -219,7 +218,6 @@ impl Patches {
         ensures parts { Answers (λ o. o) result (Ok (filter_patches mask.now self.now)) }
         ensures map { IfOk result (λ o. ArePatches o (length (kept_positions mask.now self.now.array_len)) (patched_in_filter mask.now self.now)) }
     {
-        self.prove_well_formed();
         let (found, len) = find_by_mask(self.indices(), alloc, self.offset(), mask)?;
         found.finish(alloc, self.values(), len)
     }

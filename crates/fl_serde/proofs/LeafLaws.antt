@@ -1,10 +1,13 @@
 -- Loops that write or read leaves.
-use Rattle.std.proofs.Common.{◌≡◌, ℕ, ℤ, Bool, false, ◌+◌, ◌*◌, ◌^◌, ◌<◌, List, [], ◌∷◌, ◌++◌, length, map, take, get_or, refl, sym, arith}
+use Rattle.std.proofs.Common.{◌≡◌, ℕ, ℤ, Bool, false, ◌+◌, ◌*◌, ◌/◌, ◌^◌, ◌<◌, List, [], ◌∷◌, ◌++◌, length, map, take, get_or, refl, sym, arith}
+use Rattle.std.specs.Int.{to_le_bytes, w64}
 use Rattle.std.proofs.lemmas.List.{flat_map_more}
 use Rattle.fl_types.specs.Bits.{tabulate}
+use Rattle.fl_types.specs.Integers.{bits_of_type}
 use Rattle.fl_types.specs.declared.dtype.PType.{PType}
+use Rattle.fl_types.specs.declared.dtype.PType.TheVariants.{U8, U16, U32, U64, I8, I16, I32, I64}
 use Rattle.fl_column.proofs.ItemLaws.{map_read}
-use Rattle.fl_serde.specs.Leaves.{bytes_of_slot, bytes_of_slots}
+use Rattle.fl_serde.specs.Leaves.{bytes_of_slot, bytes_of_slots, width_of_type}
 use Rattle.std.proofs.lemmas.List.FromFn.{length-map-range_with_len, map-range_with_len_more}
 use Rattle.std.proofs.Math.Numerals.{add-one}
 use Rattle.fastlanes.specs.Layout.{bit_value, from_bits}
@@ -31,3 +34,14 @@ pub bits_more : (bits : List Bool) (start j byte new : ℕ) (on : Bool) → new 
     → new ≡ from_bits (λ i. bit_value (get_or bits (start + i) false)) (j + 1)
 unfolding from_bits
 bits_more bits start j byte new on added before is = rw (add-one j, added, before, is) refl
+
+-- the low bytes of a pattern are its bytes in its type
+pub low_bytes : (ptype : PType) (n : ℕ) → take (bits_of_type ptype / 8) (to_le_bytes w64 n) ≡ to_le_bytes (width_of_type ptype) n
+low_bytes U8 n = refl
+low_bytes U16 n = refl
+low_bytes U32 n = refl
+low_bytes U64 n = refl
+low_bytes I8 n = refl
+low_bytes I16 n = refl
+low_bytes I32 n = refl
+low_bytes I64 n = refl

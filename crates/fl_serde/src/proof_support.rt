@@ -20,8 +20,13 @@ use crate::nodes::patches_message;
 use fl_array::bitpacking::{BitPackedArray, BitWidthsView};
 use fl_array::delta::DeltaArray;
 use fl_array::for_::{FoRArray, FoRReferences};
+use fl_array::laws::{
+    bitpacked_is_well_formed, delta_is_well_formed, for_is_well_formed, rle_is_well_formed,
+};
 use fl_array::rle::RLEArray;
 use fl_array::{ArrayRef, Node};
+use fl_bitpacking::laws::parts_are_consistent;
+use fl_column::laws::stored_integers_are_in_range;
 use fl_column::{BoolArray, ConstantArray, PValue, PrimitiveArray, Scalar};
 use fl_metadata::{PatchesMetadata, written_is_read};
 use fl_patches::Patches;
@@ -57,7 +62,7 @@ fn prove_scalar_fits(scalar: Scalar)
 fn prove_primitive(array: &PrimitiveArray)
     ensures { IsReadBack (tree.Primitive array.now) }
 {
-    array.prove_in_range();
+    stored_integers_are_in_range(array);
     let _validity = array.validity();
 }
 
@@ -99,7 +104,7 @@ fn prove_offsets_in_range(offsets: Option<&PrimitiveArray>)
     ensures { IsTrue (option_all (λ o. list_all (fits o.ptype) o.slots) (option_copied offsets.entry)) }
 {
     if let Some(offsets) = offsets {
-        offsets.prove_in_range();
+        stored_integers_are_in_range(offsets);
     }
 }
 
@@ -107,9 +112,8 @@ fn prove_offsets_in_range(offsets: Option<&PrimitiveArray>)
 fn prove_patches_in_range(patches: &Patches)
     ensures { ArePatchesOfTypes patches.now }
 {
-    patches.prove_well_formed();
-    patches.indices().prove_in_range();
-    patches.values().prove_in_range();
+    stored_integers_are_in_range(patches.indices());
+    stored_integers_are_in_range(patches.values());
     prove_offsets_in_range(patches.chunk_offsets());
 }
 
@@ -130,8 +134,8 @@ fn prove_global(array: &BitPackedArray, width: u8)
     ensures { IsReadBack (tree_of_bitpacked array.now) }
 {
     written_is_read();
-    array.prove_well_formed();
-    array.packed_data().prove_well_formed();
+    bitpacked_is_well_formed(array);
+    parts_are_consistent(array.packed_data());
     prove_patches(array.packed_data().patches());
 }
 
@@ -142,8 +146,8 @@ fn prove_blocked(array: &BitPackedArray, boundaries: &ArrayRef)
     ensures { IsReadBack (tree_of_bitpacked array.now) }
 {
     written_is_read();
-    array.prove_well_formed();
-    array.packed_data().prove_well_formed();
+    bitpacked_is_well_formed(array);
+    parts_are_consistent(array.packed_data());
     prove_patches(array.packed_data().patches());
 }
 
@@ -154,7 +158,7 @@ fn prove_for(array: &FoRArray, reference: &Scalar)
     ensures { IsReadBack (tree_of_for array.now) }
 {
     written_is_read();
-    array.prove_well_formed();
+    for_is_well_formed(array);
     prove_scalar_fits(*reference);
 }
 
@@ -166,8 +170,7 @@ fn prove_for_chunked(array: &FoRArray, references: &ArrayRef)
     ensures { IsReadBack (tree_of_for array.now) }
 {
     written_is_read();
-    array.prove_well_formed();
-    array.prove_no_constant();
+    for_is_well_formed(array);
 }
 
 /// A delta array is read as it was written, as its bases and its deltas are.
@@ -177,7 +180,7 @@ fn prove_delta(array: &DeltaArray)
     ensures { IsReadBack (tree_of_delta array.now) }
 {
     written_is_read();
-    array.prove_well_formed();
+    delta_is_well_formed(array);
     prove_few(array.deltas());
 }
 
@@ -189,7 +192,7 @@ fn prove_rle(array: &RLEArray)
     ensures { IsReadBack (tree_of_rle array.now) }
 {
     written_is_read();
-    array.prove_well_formed();
+    rle_is_well_formed(array);
     let (values, indices, offsets) = (array.values(), array.indices(), array.offsets());
     prove_few(values);
     prove_few(indices);

@@ -15,82 +15,29 @@ use fl_column::{FastLanesError, NativePType, PType, PhysicalPType, PrimitiveArra
 use fl_types::match_each_integer_ptype;
 use std::alloc::{AllocError, Global};
 
-/// An integer type whose values are stored as bytes.
-trait StoredPType: PhysicalPType {
-    /// Adds the bytes of the value.
-    fn push_bytes(self, bytes: &mut Vec<u8>) -> Result<(), AllocError>
-        ensures { OnOk result (bytes.new.items ≡ bytes.old.items ++ bytes_of_slot Self.PTYPE (Self.value self)) };
-}
-
-#[tactic(auto, using(fl_types::proofs::Patterns::patterns))]
-impl StoredPType for u8 {
-    fn push_bytes(self, bytes: &mut Vec<u8>) -> Result<(), AllocError> {
-        bytes.extend_from_slice(&self.to_le_bytes())
-    }
-}
-
-#[tactic(auto, using(fl_types::proofs::Patterns::patterns))]
-impl StoredPType for u16 {
-    fn push_bytes(self, bytes: &mut Vec<u8>) -> Result<(), AllocError> {
-        bytes.extend_from_slice(&self.to_le_bytes())
-    }
-}
-
-#[tactic(auto, using(fl_types::proofs::Patterns::patterns))]
-impl StoredPType for u32 {
-    fn push_bytes(self, bytes: &mut Vec<u8>) -> Result<(), AllocError> {
-        bytes.extend_from_slice(&self.to_le_bytes())
-    }
-}
-
-#[tactic(auto, using(fl_types::proofs::Patterns::patterns))]
-impl StoredPType for u64 {
-    fn push_bytes(self, bytes: &mut Vec<u8>) -> Result<(), AllocError> {
-        bytes.extend_from_slice(&self.to_le_bytes())
-    }
-}
-
-#[tactic(auto, using(fl_types::proofs::Patterns::patterns))]
-impl StoredPType for i8 {
-    fn push_bytes(self, bytes: &mut Vec<u8>) -> Result<(), AllocError> {
-        bytes.extend_from_slice(&self.to_le_bytes())
-    }
-}
-
-#[tactic(auto, using(fl_types::proofs::Patterns::patterns))]
-impl StoredPType for i16 {
-    fn push_bytes(self, bytes: &mut Vec<u8>) -> Result<(), AllocError> {
-        bytes.extend_from_slice(&self.to_le_bytes())
-    }
-}
-
-#[tactic(auto, using(fl_types::proofs::Patterns::patterns))]
-impl StoredPType for i32 {
-    fn push_bytes(self, bytes: &mut Vec<u8>) -> Result<(), AllocError> {
-        bytes.extend_from_slice(&self.to_le_bytes())
-    }
-}
-
-#[tactic(auto, using(fl_types::proofs::Patterns::patterns))]
-impl StoredPType for i64 {
-    fn push_bytes(self, bytes: &mut Vec<u8>) -> Result<(), AllocError> {
-        bytes.extend_from_slice(&self.to_le_bytes())
-    }
+/// Adds the bytes of a value.
+#[tactic(auto, using(crate::proofs::LeafLaws::low_bytes))]
+fn push_bytes<T: PhysicalPType>(item: T, bytes: &mut Vec<u8>) -> Result<(), AllocError>
+    ensures { OnOk result (bytes.new.items ≡ bytes.old.items ++ bytes_of_slot T.PTYPE (T.value item)) }
+{
+    let pattern = item.pattern().to_le_bytes();
+    let all = &pattern[..];
+    bytes.extend_from_slice(&all[..T::Physical::T / 8])
 }
 
 /// The bytes of these integers.
-fn bytes_of_items<T: StoredPType>(alloc: Global, items: &[T]) -> Result<Vec<u8>, AllocError>
+fn bytes_of_items<T: PhysicalPType>(alloc: Global, items: &[T]) -> Result<Vec<u8>, AllocError>
     ensures { IfOk result (λ v. v.items ≡ bytes_of_slots T.PTYPE (map T.value items.now)) }
 {
     let mut bytes = Vec::new(alloc);
     bytes.reserve(std::mem::size_of_val(items))?;
     for item in items {
-        item.push_bytes(&mut bytes)?;
+        push_bytes(*item, &mut bytes)?;
     }
     Ok(bytes)
 }
 
-fn bytes_of_typed<T: StoredPType>(
+fn bytes_of_typed<T: PhysicalPType>(
     alloc: Global,
     array: &PrimitiveArray,
 ) -> Result<Vec<u8>, AllocError>

@@ -25,8 +25,10 @@ use bytes::Bytes;
 use fl_array::bitpacking::{BitPackedArray, BitWidthsView};
 use fl_array::delta::DeltaArray;
 use fl_array::for_::{FoRArray, FoRReferences};
+use fl_array::laws::{delta_is_well_formed, for_is_well_formed};
 use fl_array::rle::RLEArray;
 use fl_array::{ArrayRef, Node};
+use fl_bitpacking::laws::parts_are_consistent;
 use fl_bitpacking::packed_data::PackedData;
 use fl_column::{ConstantArray, DType, FastLanesError, PType, Scalar, Validity};
 use fl_metadata::{
@@ -91,7 +93,7 @@ fn constant_metadata(alloc: Global, array: &ConstantArray) -> Result<Vec<u8>, Fa
 fn global_metadata(alloc: Global, data: &PackedData, width: u8) -> Result<Vec<u8>, FastLanesError>
     ensures { Answers (λ v. v.items) result (Ok (metadata_of (tree.BitPackedGlobal data.now width))) }
 {
-    data.prove_well_formed();
+    parts_are_consistent(data);
     let metadata = BitPackedMetadata {
         bit_width: u32::from(width),
         offset: data.offset() as u32,
@@ -108,7 +110,7 @@ fn blocked_metadata(
 ) -> Result<Vec<u8>, FastLanesError>
     ensures { Answers (λ v. v.items) result (Ok (metadata_of (tree.BitPackedBlocked data.now boundaries.now))) }
 {
-    data.prove_well_formed();
+    parts_are_consistent(data);
     let metadata = BitPackedBlockedMetadata {
         offset: data.offset() as u32,
         block_offsets: ptype_or_u8(boundaries.dtype()),
@@ -135,7 +137,7 @@ fn bitpacked_metadata(alloc: Global, array: &BitPackedArray) -> Result<Vec<u8>, 
 fn for_metadata(alloc: Global, array: &FoRArray) -> Result<Vec<u8>, FastLanesError>
     ensures { Answers (λ v. v.items) result (Ok (metadata_of (tree_of_for array.now))) }
 {
-    array.prove_well_formed();
+    for_is_well_formed(array);
     match array.references() {
         FoRReferences::Global(reference) => scalar_bytes(alloc, *reference),
         FoRReferences::Blocked(_) => {
@@ -151,7 +153,7 @@ fn for_metadata(alloc: Global, array: &FoRArray) -> Result<Vec<u8>, FastLanesErr
 fn delta_metadata(alloc: Global, array: &DeltaArray) -> Result<Vec<u8>, FastLanesError>
     ensures { Answers (λ v. v.items) result (Ok (metadata_of (tree_of_delta array.now))) }
 {
-    array.prove_well_formed();
+    delta_is_well_formed(array);
     let metadata = DeltaMetadata {
         deltas_len: array.deltas().len() as u64,
         offset: array.offset() as u32,

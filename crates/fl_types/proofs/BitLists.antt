@@ -63,11 +63,11 @@ bits_more P old new t on below same top here j h =
     ]
 
 -- bit i of words to which one was added
-is_set_below : (words : List ℕ) (word i : ℕ) → i < 64 * length words → is_set (words ++ word ∷ []) i ≡ is_set words i
+pub is_set_below : (words : List ℕ) (word i : ℕ) → i < 64 * length words → is_set (words ++ word ∷ []) i ≡ is_set words i
 unfolding is_set
 is_set_below words word i h = ap (λ w. bit_of_word w (i % 64)) (get_or_append_left words (word ∷ []) 0 (i / 64) (omega arith))
 
-is_set_last : (words : List ℕ) (word i : ℕ) → 64 * length words ≤ i → i < 64 * length words + 64 → is_set (words ++ word ∷ []) i ≡ bit_of_word word (i - 64 * length words)
+pub is_set_last : (words : List ℕ) (word i : ℕ) → 64 * length words ≤ i → i < 64 * length words + 64 → is_set (words ++ word ∷ []) i ≡ bit_of_word word (i - 64 * length words)
 unfolding is_set
 is_set_last words word i low high =
     let at : i / 64 ≡ length words = omega arith in

@@ -1,3 +1,4 @@
+pub mod AddedBits
 pub mod BitLists
 pub mod Maps
 pub mod MaskLaws
@@ -5,3 +6,4 @@ pub mod MovedBits
 pub mod Patterns
 pub mod RefusalLaws
 pub mod Refused
+pub mod WordBits

@@ -1,26 +1,26 @@
 -- Bits that are moved to the front of their words, and one that is put at an index.
-use Rattle.std.proofs.Common.{◌≡◌, ◌≢◌, ℕ, ◌+◌, ◌-◌, ◌*◌, ◌/◌, ◌%◌, ◌^◌, ◌<◌, ◌≤◌, ◌==◌, List, Bool, false, length, get_or, set, take, max, refl, ap, sym, ◌∙◌, inl, inr, arith, add-zero, length-set}
+use Rattle.std.proofs.Common.{◌≡◌, ◌≢◌, ℕ, ◌+◌, ◌-◌, ◌*◌, ◌/◌, ◌%◌, ◌^◌, ◌<◌, ◌≤◌, ◌==◌, List, Bool, length, get_or, set, take, refl, ap, sym, ◌∙◌, inl, inr, arith, add-zero, length-set}
 use Rattle.std.specs.Int.{bit_at, bit_not, w64}
 use Rattle.std.specs.Int.Bits.{bit_and, bit_or}
 use Rattle.std.proofs.Math.Nat.{div-add-mod'}
 use Rattle.std.proofs.lemmas.Bool.{cases_eq, cases_lt}
 use Rattle.std.proofs.lemmas.Nat.{shr-shr, pow_pos}
-use Rattle.std.proofs.lemmas.Nat.Bits.{bit_at_or, bit_at_above, bit_at_cat_low, bit_at_cat_high, bit_at-lt, bit_at-zero}
-use Rattle.std.proofs.lemmas.List.{same_lists, get_or-set_same, get_or-set_other, get_or-take, get_or_default}
+use Rattle.std.proofs.lemmas.Nat.Bits.{bit_at_or, bit_at_above, bit_at_cat_low, bit_at_cat_high, bit_at-zero}
+use Rattle.std.proofs.lemmas.List.{same_lists, get_or-set_same, get_or-set_other, get_or-take}
 use Rattle.std.proofs.lemmas.List.FromFn.{get_or-map-range_with_len}
-use Rattle.fl_types.specs.Bits.{bit_of_word, bits_from, first_bits, is_set, tabulate}
+use Rattle.fl_types.specs.Bits.{bit_of_word, bits_from, first_bits, is_set}
 use Rattle.fl_types.proofs.BitLists.{bit_left, is_set_in, is_set_out, is_set_at, length_first_bits, same_tables}
 
-from_shift : (low shift j : ℕ) → bit_at (low / 2 ^ shift) j ≡ bit_at low (shift + j)
+pub from_shift : (low shift j : ℕ) → bit_at (low / 2 ^ shift) j ≡ bit_at low (shift + j)
 from_shift low shift j = ap (λ (n : ℕ). n % 2) (shr-shr low shift j)
 
-below_shift : (x k j : ℕ) → j < k → bit_at (x * 2 ^ k) j ≡ 0
+pub below_shift : (x k j : ℕ) → j < k → bit_at (x * 2 ^ k) j ≡ 0
 below_shift x k j h = ap (λ (n : ℕ). bit_at n j) (sym (add-zero (x * 2 ^ k))) ∙ (bit_at_cat_low x k 0 j h ∙ bit_at-zero j)
 
-above_shift : (x k j : ℕ) → k ≤ j → bit_at (x * 2 ^ k) j ≡ bit_at x (j - k)
+pub above_shift : (x k j : ℕ) → k ≤ j → bit_at (x * 2 ^ k) j ≡ bit_at x (j - k)
 above_shift x k j h = ap (λ (n : ℕ). bit_at n j) (sym (add-zero (x * 2 ^ k))) ∙ bit_at_cat_high x k 0 j (pow_pos k) h
 
-low_bit : (n w j : ℕ) → j < w → bit_at (n % 2 ^ w) j ≡ bit_at n j
+pub low_bit : (n w j : ℕ) → j < w → bit_at (n % 2 ^ w) j ≡ bit_at n j
 low_bit n w j h = sym (bit_at_cat_low (n / 2 ^ w) w (n % 2 ^ w) j h) ∙ ap (λ (m : ℕ). bit_at m j) (div-add-mod' n (2 ^ w))
 
 -- bit j of a word whose low bits are the high ones of `low`, and whose high bits are the low ones of `high`

@@ -71,6 +71,15 @@ impl BitList {
         bit_of(self.words.as_slice(), i)
     }
 
+    /// The booleans from `64 * k` on as a word, the first in its lowest bit. Bits behind the last boolean are not
+    /// set.
+    pub fn word(&self, k: usize) -> u64
+        requires { 64 * k < length self.now }
+        ensures { (j : ℕ) → j < 64 → bit_of_word result j ≡ slice_index_or self.now (64 * k + j) false }
+    {
+        low_bits(self.words[k], self.len - 64 * k)
+    }
+
     /// The answers of `bit` at 0 to `len - 1`. Each word is made of 64 answers at once.
     pub fn from_fn<F: Fn(usize) -> bool>(
         alloc: Global,
@@ -109,6 +118,21 @@ impl BitList {
         Ok(())
     }
 
+    /// Appends the lowest `count` bits of a word, the lowest first. A list cannot grow beyond `usize::MAX`.
+    pub fn push_word(&mut self, word: u64, count: usize) -> Result<(), FastLanesError>
+        requires { count ≤ 64 }
+        ensures ok { OnOk result (self.new ≡ self.old ++ tabulate (bit_of_word word) count) }
+        ensures err { OnErr result (self.new ≡ self.old) }
+        ensures memory { IfErr result (λ e. e ≡ OutOfMemory) }
+    {
+        let Some(len) = self.len.checked_add(count) else {
+            return Err(FastLanesError::OutOfMemory);
+        };
+        push_bits(&mut self.words, self.len, word, count)?;
+        self.len = len;
+        Ok(())
+    }
+
     /// Sets the boolean at an index.
     pub fn set(&mut self, i: usize, bit: bool)
         requires { i < length self.old }
@@ -123,7 +147,9 @@ impl BitList {
         requires range { end ≤ length self.now }
         ensures { Answers (λ b. b) result (Ok (between start end self.now)) }
     {
-        BitList::from_fn(alloc, end - start, |i| self.get(start + i))
+        let len = end - start;
+        let words = words_from(alloc, self.words.as_slice(), start, len)?;
+        Ok(BitList { words, len })
     }
 
     /// A copy.
@@ -140,13 +166,12 @@ impl BitList {
     pub fn count_true(&self) -> usize
         ensures { result ≡ true_count self.now }
     {
-        let mut count = 0;
-        for i in 0..self.len() {
-            if self.get(i) {
-                count += 1;
-            }
+        let full = self.len / 64;
+        let count = count_ones(&self.words[..full]);
+        match self.len % 64 {
+            0 => count,
+            rest => count + low_bits(self.words[full], rest).count_ones() as usize,
         }
-        count
     }
 }
 
@@ -160,8 +185,8 @@ impl PartialEq for BitList {
         if self.len() != other.len() {
             return false;
         }
-        for i in 0..self.len() {
-            if self.get(i) != other.get(i) {
+        for k in 0..word_count(self.len()) {
+            if self.word(k) != other.word(k) {
                 return false;
             }
         }
@@ -227,6 +252,39 @@ fn push_bit(words: &mut Vec<u64>, len: usize, bit: bool) -> Result<(), AllocErro
     }
 }
 
+/// The word whose lowest `at` bits are those of `low`, and whose others are the lowest ones of `word`.
+fn joined(low: u64, at: usize, word: u64) -> u64
+    requires { at < 64 }
+    ensures low { (j : ℕ) → j < at → bit_of_word result j ≡ bit_of_word low j }
+    ensures high { (j : ℕ) → at + j < 64 → bit_of_word result (at + j) ≡ bit_of_word word j }
+{
+    low_bits(low, at) | word << at
+}
+
+/// Adds the lowest `count` bits of a word after the first `len` of these words.
+fn push_bits(words: &mut Vec<u64>, len: usize, word: u64, count: usize) -> Result<(), AllocError>
+    requires words { length words.old.items ≡ (len + 63) / 64 }
+    requires count { count ≤ 64 }
+    requires few { len + count < 2 ^ 64 }
+    ensures count { OnOk result (length words.new.items ≡ (len + count + 63) / 64) }
+    ensures before { OnOk result ((i : ℕ) → i < len → is_set words.new.items i ≡ is_set words.old.items i) }
+    ensures added { OnOk result ((j : ℕ) → j < count → is_set words.new.items (len + j) ≡ bit_of_word word j) }
+    ensures err { OnErr result (words.new.items ≡ words.old.items) }
+{
+    let (k, at) = (len / 64, len % 64);
+    if at == 0 {
+        if count > 0 {
+            words.push(word)?;
+        }
+        return Ok(());
+    }
+    if at + count > 64 {
+        words.push(word >> (64 - at))?;
+    }
+    words[k] = joined(words[k], at, word);
+    Ok(())
+}
+
 /// Puts a bit at an index of these words.
 fn set_bit(words: &mut Vec<u64>, i: usize, bit: bool)
     requires { i < 64 * length words.old.items }
@@ -253,11 +311,55 @@ fn word_from(words: &[u64], at: usize) -> u64
     }
 }
 
+/// The lowest `count` bits of a word, which is all of it from 64 on.
+fn low_bits(word: u64, count: usize) -> u64
+    ensures low { (j : ℕ) → j < count → bit_of_word result j ≡ bit_of_word word j }
+    ensures clear { (j : ℕ) → count ≤ j → bit_of_word result j ≡ false }
+{
+    if count < 64 {
+        word & ((1 << count) - 1)
+    } else {
+        word
+    }
+}
+
+/// How many bits of these words are set.
+fn count_ones(words: &[u64]) -> usize
+    requires { 64 * length words.now < 2 ^ 64 }
+    ensures { result ≡ true_count (first_bits words.now (64 * length words.now)) }
+{
+    let mut count = 0;
+    for word in words {
+        count += word.count_ones() as usize;
+    }
+    count
+}
+
 /// How many words hold this many bits.
 fn word_count(len: usize) -> usize
     ensures { result ≡ (len + 63) / 64 }
 {
     len / 64 + usize::from(len % 64 != 0)
+}
+
+/// Words of the `len` bits from bit `start` on.
+fn words_from(
+    alloc: Global,
+    words: &[u64],
+    start: usize,
+    len: usize,
+) -> Result<Vec<u64>, AllocError>
+    requires room { start + len ≤ 64 * length words.now }
+    requires few { start + len < 2 ^ 64 }
+    ensures count { IfOk result (λ v. length v.items ≡ (len + 63) / 64) }
+    ensures bits { IfOk result (λ v. (i : ℕ) → i < len → is_set v.items i ≡ is_set words.now (start + i)) }
+{
+    let count = word_count(len);
+    let mut moved = Vec::with_capacity(alloc, count)?;
+    for k in 0..count {
+        moved.push(word_from(words, start + 64 * k))?;
+    }
+    Ok(moved)
 }
 
 /// Moves the `len` bits from bit `start` on to the front of these words.

@@ -41,10 +41,6 @@ pub trait NativePType: Copy + Integral {
     fn unsigned_abs(self) -> u64
         ensures { result ≡ unsigned_abs (Self.value self) };
 
-    /// The value is in the type's range.
-    fn prove_in_range(self)
-        ensures { IsTrue (fits PTYPE (Self.value self)) };
-
     /// The slots, which have this type.
     fn as_slice(slots: &PrimitiveBuffer) -> &[Self]
         requires { ptype_of slots.now ≡ PTYPE }
@@ -55,10 +51,11 @@ pub trait NativePType: Copy + Integral {
         ensures slots { integers_of result ≡ map Self.value items.items }
         ensures typed { ptype_of result ≡ PTYPE };
 
-    /// The value with its type.
+    /// The value with its type, whose range it is in.
     fn into_pvalue(self) -> PValue
         ensures value { integer_of result ≡ Self.value self }
-        ensures typed { ptype_of_value result ≡ PTYPE };
+        ensures typed { ptype_of_value result ≡ PTYPE }
+        ensures range { IsTrue (fits PTYPE (Self.value self)) };
 
     /// The value, where it has this type.
     fn from_pvalue(value: PValue) -> Option<Self>
@@ -112,8 +109,6 @@ impl NativePType for u8 {
         self as u64
     }
 
-    fn prove_in_range(self) {}
-
     fn as_slice(slots: &PrimitiveBuffer) -> &[u8] {
         match slots {
             PrimitiveBuffer::U8(items) => items.as_slice(),
@@ -165,8 +160,6 @@ impl NativePType for u16 {
     fn unsigned_abs(self) -> u64 {
         self as u64
     }
-
-    fn prove_in_range(self) {}
 
     fn as_slice(slots: &PrimitiveBuffer) -> &[u16] {
         match slots {
@@ -220,8 +213,6 @@ impl NativePType for u32 {
         self as u64
     }
 
-    fn prove_in_range(self) {}
-
     fn as_slice(slots: &PrimitiveBuffer) -> &[u32] {
         match slots {
             PrimitiveBuffer::U32(items) => items.as_slice(),
@@ -273,8 +264,6 @@ impl NativePType for u64 {
     fn unsigned_abs(self) -> u64 {
         self
     }
-
-    fn prove_in_range(self) {}
 
     fn as_slice(slots: &PrimitiveBuffer) -> &[u64] {
         match slots {
@@ -328,8 +317,6 @@ impl NativePType for i8 {
         i8::unsigned_abs(self) as u64
     }
 
-    fn prove_in_range(self) {}
-
     fn as_slice(slots: &PrimitiveBuffer) -> &[i8] {
         match slots {
             PrimitiveBuffer::I8(items) => items.as_slice(),
@@ -381,8 +368,6 @@ impl NativePType for i16 {
     fn unsigned_abs(self) -> u64 {
         i16::unsigned_abs(self) as u64
     }
-
-    fn prove_in_range(self) {}
 
     fn as_slice(slots: &PrimitiveBuffer) -> &[i16] {
         match slots {
@@ -436,8 +421,6 @@ impl NativePType for i32 {
         i32::unsigned_abs(self) as u64
     }
 
-    fn prove_in_range(self) {}
-
     fn as_slice(slots: &PrimitiveBuffer) -> &[i32] {
         match slots {
             PrimitiveBuffer::I32(items) => items.as_slice(),
@@ -489,8 +472,6 @@ impl NativePType for i64 {
     fn unsigned_abs(self) -> u64 {
         i64::unsigned_abs(self)
     }
-
-    fn prove_in_range(self) {}
 
     fn as_slice(slots: &PrimitiveBuffer) -> &[i64] {
         match slots {

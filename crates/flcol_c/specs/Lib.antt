@@ -12,3 +12,5 @@ pub mod Statuses
 pub mod Taken
 pub mod Values
 pub mod Compressing
+pub mod Blocks
+pub mod Schemes

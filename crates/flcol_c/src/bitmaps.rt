@@ -1,12 +1,13 @@
-//! Bitmaps as Arrow has them: bit `i` stands in byte `i / 8`, the lowest bit first.
+//! Bitmaps as Arrow has them: bit `i` stands in byte `i / 8`, the lowest bit first. They are read and written by words of 64 bits.
 
-ghost use Rattle.std.specs.Prelude.{◌≡◌, ◌≢◌, ◌<◌, ◌≤◌, ◌+◌, ◌*◌, ◌^◌, ℕ, Ok, false, length};
-ghost use Rattle.fl_types.specs.Bits.{bit_of_word};
+ghost use Rattle.std.specs.Prelude.{◌≡◌, ◌<◌, ◌≤◌, ◌*◌, ℕ, IfOk, Ok, false, length, slice_index, slice_index_or};
+ghost use Rattle.fl_types.specs.Bits.{is_set};
 ghost use Rattle.fl_types.specs.Refusals.{Answers};
 ghost use Rattle.flcol_c.specs.Bitmaps.{IsClearFrom, bit_in, bitmap_len, bitmap_validity, bits_in};
 
+use fastlanes::FastLanes;
 use fl_types::{BitList, FastLanesError, Validity};
-use std::alloc::Global;
+use std::alloc::{AllocError, Global};
 
 /// How many bytes hold this many bits.
 pub(crate) fn bitmap_len(len: usize) -> usize
@@ -24,12 +25,31 @@ fn bit_at(bitmap: &[u8], i: usize) -> bool
     bitmap[i / 8] >> (i % 8) & 1 == 1
 }
 
+/// The first `count` words of 64 bits, with room for one more.
+fn words_of(alloc: Global, bitmap: &[u8], count: usize) -> Result<Vec<u64>, AllocError>
+    requires { 8 * count ≤ length bitmap.now }
+    ensures count { IfOk result (λ v. length v.items ≡ count) }
+    ensures bits { IfOk result (λ v. (i : ℕ) → i < 64 * count → is_set v.items i ≡ bit_in bitmap.now i) }
+{
+    let mut words = Vec::with_capacity(alloc, count + 1)?;
+    for k in 0..count {
+        words.push(u64::word(bitmap, k))?;
+    }
+    Ok(words)
+}
+
 /// The first `len` bits.
 pub(crate) fn bits_of(alloc: Global, bitmap: &[u8], len: usize) -> Result<BitList, FastLanesError>
     requires { len ≤ 8 * length bitmap.now }
     ensures { Answers (λ b. b) result (Ok (bits_in bitmap.now len)) }
 {
-    BitList::from_fn(alloc, len, |i| bit_at(bitmap, i))
+    let whole = len - len % 64;
+    let words = words_of(alloc, bitmap, len / 64)?;
+    let mut bits = BitList::from_words(words, 0, whole);
+    for i in whole..len {
+        bits.push(bit_at(bitmap, i))?;
+    }
+    Ok(bits)
 }
 
 /// Which of `len` items are valid. No item may be null where there is no byte.
@@ -52,42 +72,41 @@ pub(crate) fn validity_of(
     Ok(Validity::Array(bits_of(alloc, bitmap, len)?))
 }
 
-/// The byte with bit `at`, which is not set, as `on` says.
-#[tactic(auto, using(crate::proofs::BitmapLaws::put_bit))]
-fn with_bit(byte: u8, at: usize, on: bool) -> u8
-    requires within { at < 8 }
-    requires clear { bit_of_word byte at ≡ false }
-    ensures bit { bit_of_word result at ≡ on }
-    ensures others { (j : ℕ) → j ≢ at → bit_of_word result j ≡ bit_of_word byte j }
+/// Writes the bits to a bitmap of as many bytes as hold them. Bits behind them are not set.
+pub(crate) fn write_bits(bitmap: &mut [u8], bits: &BitList)
+    requires { length bitmap.old ≡ bitmap_len (length bits.now) }
+    ensures { (i : ℕ) → bit_in bitmap.new i ≡ slice_index_or bits.now i false }
 {
-    if on { byte | 1 << at } else { byte }
-}
-
-/// The byte whose lowest bits are the answers of `bit` at `start` to `start + count - 1`, the others not set.
-fn byte_of<F: Fn(usize) -> bool>(start: usize, count: usize, bit: &F) -> u8
-    requires count { count ≤ 8 }
-    requires start { start + count < 2 ^ 64 }
-    requires callable { (j : ℕ) → j < count → F.pre bit.now (start + j) }
-    ensures bits { (j : ℕ) → j < count → F.post bit.now (start + j) (bit_of_word result j) }
-    ensures clear { (j : ℕ) → count ≤ j → bit_of_word result j ≡ false }
-{
-    let mut byte = 0u8;
-    for j in 0..count {
-        byte = with_bit(byte, j, bit(start + j));
+    let whole = bits.len() / 64;
+    for k in 0..whole {
+        bits.word(k).put_word(bitmap, k);
     }
-    byte
+    for at in 8 * whole..bitmap.len() {
+        bitmap[at] = ((bits.word(whole) >> (8 * (at - 8 * whole))) % 256) as u8;
+    }
 }
 
-/// Writes the answers of `bit` at 0 to `len - 1`. Bits behind them are not set.
-pub(crate) fn write_bits<F: Fn(usize) -> bool>(bitmap: &mut [u8], len: usize, bit: &F)
-    requires room { length bitmap.old ≡ bitmap_len len }
-    requires callable { (i : ℕ) → i < len → F.pre bit.now i }
-    ensures bits { (i : ℕ) → i < len → F.post bit.now i (bit_in bitmap.new i) }
+/// Writes a byte to each place.
+fn fill(bytes: &mut [u8], byte: u8)
+    ensures { (k : ℕ) → k < length bytes.old → slice_index bytes.new k ≡ byte }
+{
+    for place in bytes.iter_mut() {
+        *place = byte;
+    }
+}
+
+/// Writes `len` bits that all are `on` to a bitmap of as many bytes as hold them. Bits behind them are not set.
+pub(crate) fn write_run(bitmap: &mut [u8], len: usize, on: bool)
+    requires { length bitmap.old ≡ bitmap_len len }
+    ensures bits { (i : ℕ) → i < len → bit_in bitmap.new i ≡ on }
     ensures clear { IsClearFrom len bitmap.new }
 {
-    for k in 0..bitmap.len() {
-        let start = 8 * k;
-        let count = (len - start).min(8);
-        bitmap[k] = byte_of(start, count, bit);
+    if !on {
+        fill(bitmap, 0);
+        return;
+    }
+    fill(bitmap, u8::MAX);
+    if len % 8 != 0 {
+        bitmap[len / 8] = (1 << (len % 8)) - 1;
     }
 }

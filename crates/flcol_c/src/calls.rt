@@ -1,5 +1,6 @@
 //! The calls that C makes.
 
+pub mod blocks;
 pub mod encode;
 pub mod give_back;
 pub mod look;

@@ -8,7 +8,7 @@ ghost use Rattle.fl_array.specs.Codes.{coded_tree};
 use crate::unboxed::Unboxed;
 use fl_array::ArrayRef;
 use std::alloc::Global;
-use std::marker::Model;
+use std::marker::{Model, Send};
 
 /// What a word points to, as C sees it.
 #[repr(C)]
@@ -100,3 +100,6 @@ impl ArrayHandle {
         Some(self.lend())
     }
 }
+
+// It may go to another thread, as its array may.
+unsafe impl Send for ArrayHandle {}

@@ -3,6 +3,7 @@
 
 mod answering;
 mod bitmaps;
+mod blocks;
 pub mod calls;
 mod compressing;
 mod containers;
@@ -15,6 +16,7 @@ mod making;
 mod operations;
 pub mod ranges;
 mod reading;
+mod schemes;
 mod typed;
 pub mod unboxed;
 mod validities;

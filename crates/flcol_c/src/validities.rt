@@ -4,7 +4,7 @@ ghost use Rattle.std.specs.Prelude.{◌≡◌, ◌<◌, ℕ, IsTrue, None, lengt
 ghost use Rattle.fl_types.specs.Validities.{covers, is_valid_at};
 ghost use Rattle.flcol_c.specs.Bitmaps.{IsClearFrom, bit_in, bitmap_len, null_total, room_fault, validity_in};
 
-use crate::bitmaps::{bitmap_len, write_bits};
+use crate::bitmaps::{bitmap_len, write_bits, write_run};
 use crate::fault::Fault;
 use fl_types::{FastLanesError, Validity};
 
@@ -46,9 +46,9 @@ fn write_bitmap(bitmap: &mut [u8], validity: &Validity, len: usize)
     ensures clear { IsClearFrom len bitmap.new }
 {
     match validity {
-        Validity::NonNullable | Validity::AllValid => write_bits(bitmap, len, &|_i| true),
-        Validity::AllInvalid => write_bits(bitmap, len, &|_i| false),
-        Validity::Array(bits) => write_bits(bitmap, len, &|i| bits.get(i)),
+        Validity::NonNullable | Validity::AllValid => write_run(bitmap, len, true),
+        Validity::AllInvalid => write_run(bitmap, len, false),
+        Validity::Array(bits) => write_bits(bitmap, bits),
     }
 }
 

@@ -56,8 +56,7 @@ pub(crate) fn write_answers(answers: &BoolArray, bits: &mut [u8], validity: &mut
     ensures clear_valid { IsClearFrom (length answers.now.bits) validity.new }
 {
     let list = answers.bits();
-    let len = list.len();
     let valid = answers.validity();
-    write_bits(bits, len, &|i| list.get(i));
-    write_validity(validity, valid, len);
+    write_bits(bits, list);
+    write_validity(validity, valid, list.len());
 }

@@ -1,17 +1,15 @@
 -- Lines of answers, one item after another.
-use Rattle.std.proofs.Common.{◌≡◌, ◌<◌, ◌≤◌, ◌+◌, ℕ, ℤ, List, [], ◌∷◌, ◌++◌, length, map, get_or, take, Bool, true, false, Option, None, Some, IsTrue, refl, sym, ap, ◌∙◌, arith}
-use Rattle.std.specs.Prelude.{flat_map, option_map}
-use Rattle.std.proofs.lemmas.List.{flat_map_more, get_or-map, length-map, take_all, take_more}
+use Rattle.std.proofs.Common.{◌≡◌, ◌<◌, ◌+◌, ℕ, ℤ, List, [], ◌++◌, length, map, get_or, take, Bool, true, false, Option, None, Some, IsTrue, refl, ◌∙◌, arith}
+use Rattle.std.specs.Prelude.{option_map}
+use Rattle.std.proofs.lemmas.List.{flat_map_more, get_or-map, length-map, take_more}
 use Rattle.fl_types.specs.declared.dtype.DType.{DType}
 use Rattle.fl_types.specs.declared.dtype.DType.TheVariants as dtypes
 use Rattle.fl_types.specs.declared.dtype.Nullability.{Nullability}
 use Rattle.fl_types.specs.Values.{bool_number}
-use Rattle.fl_types.specs.declared.dtype.PType.{PType}
-use Rattle.fl_column.specs.Columns.{column_of_primitive}
 use Rattle.fl_types.specs.declared.validity.Validity.{Validity}
-use Rattle.fl_types.specs.Validities.{covers, is_valid_at, items_of, nullability_of}
-use Rattle.fl_column.proofs.ItemLaws.{get_or-items_of, length-items_of}
-use Rattle.flcol_engine.specs.Printing.{column_text, line, text_of_item, text_of_items}
+use Rattle.fl_types.specs.Validities.{covers, is_valid_at, items_of}
+use Rattle.fl_column.proofs.ItemLaws.{get_or-items_of}
+use Rattle.flcol_engine.specs.Printing.{line, text_of_item, text_of_items}
 
 -- one more item is printed
 pub item_printed : (dtype : DType) (items : List (Option ℤ)) (i : ℕ) (text : List ℕ) → i < length items → text ≡ text_of_items dtype (take i items)
@@ -36,14 +34,3 @@ bool_printed nullability bools i n text piece below len before is =
     let h : i < length bools = omega (arith, len, same) in
     let item : get_or (map (option_map bool_number) bools) i None ≡ option_map bool_number (get_or bools i None) = get_or-map (option_map bool_number) bools i None None h in
     rw (is, ← item) (item_printed (dtypes.Bool nullability) (map (option_map bool_number) bools) i text (rw length-map h) before)
-
--- one more item of a plain array is printed
-pub slot_printed : (dtype : DType) (v : Validity) (xs : List ℤ) (i : ℕ) (text : List ℕ) → IsTrue (covers v (length xs)) → i < length xs → text ≡ text_of_items dtype (take i (items_of v xs))
-    → text ++ line (text_of_item dtype (get_or (items_of v xs) i None)) ≡ text_of_items dtype (take (i + 1) (items_of v xs))
-slot_printed dtype v xs i text bit h before = item_printed dtype (items_of v xs) i text (rw (length-items_of v xs bit) h) before
-
--- all items of a plain array are printed
-pub all_printed : (ptype t : PType) (v w : Validity) (xs ys : List ℤ) (i : ℕ) (text : List ℕ) → IsTrue (covers v (length xs)) → length xs ≤ i → t ≡ ptype → w ≡ v → ys ≡ xs → text ≡ text_of_items (dtypes.Primitive ptype (nullability_of v)) (take i (items_of v xs))
-    → column_text (column_of_primitive (record { ptype = t; slots = ys; validity = w })) ≡ text
-all_printed ptype t v w xs ys i text bit end typed valid slots before =
-    rw (typed, valid, slots, before, take_all i (items_of v xs) (rw (length-items_of v xs bit) end)) refl

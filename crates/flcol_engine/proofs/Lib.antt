@@ -7,6 +7,8 @@ pub mod ColumnLemmas
 pub mod PrintLemmas
 pub mod WordLemmas
 pub mod AnswerLemmas
+pub mod LengthLemmas
+pub mod DigitLemmas
 pub mod OperationLemmas
 pub mod ConstantLemmas
 pub mod EncodingLemmas

@@ -1,19 +1,26 @@
 -- Items that are read one by one into slots and a validity.
-use Rattle.std.proofs.Common.{◌≡◌, ◌≢◌, ℕ, ℤ, pos, ◌<◌, zero, suc, Bool, true, false, not, cond, ◌&&◌, List, [], ◌∷◌, ◌++◌, length, map, replicate, None, Some, Err, refl, sym, ap, ◌∙◌, arith, append_assoc}
-use Rattle.std.specs.Prelude.{Option, option_map, ok_or, is_some, unwrap_or, slice_index_or, IsOkAnd}
+use Rattle.std.proofs.Common.{◌≡◌, ◌≢◌, ℕ, ℤ, pos, ◌<◌, ◌+◌, ◌-◌, take, drop, zero, suc, Bool, true, false, not, cond, ◌&&◌, List, [], ◌∷◌, ◌++◌, length, map, replicate, None, Some, Err, refl, sym, ap, ◌∙◌, arith, append_assoc}
+use Rattle.std.specs.Prelude.{Option, option_map, ok_or, is_some, unwrap_or, slice_index_or, nat_lt, IsOkAnd}
+use Rattle.std.specs.Char.{is_ascii_digit}
+use Rattle.std.specs.Str.Parse.{digits_value}
 use Rattle.std.specs.List.{list_all}
+use Rattle.std.proofs.lemmas.Bool.{ne_eqb}
 use Rattle.std.proofs.lemmas.Bool.Decides.{Decides-eqb}
-use Rattle.std.proofs.lemmas.List.{map-append, length-map, append-nil}
+use Rattle.std.proofs.lemmas.List.{map-append, length-drop, length-map, append-nil}
 use Rattle.std.proofs.lemmas.List.Folds.{list_all-append}
 use Rattle.fl_types.specs.declared.dtype.Nullability.{Nullability}
 use Rattle.fl_types.specs.declared.dtype.Nullability.TheVariants.{NonNullable, Nullable}
 use Rattle.fl_types.specs.declared.dtype.PType.{PType}
 use Rattle.fl_types.specs.declared.validity.Validity.{Validity}
 use Rattle.fl_types.specs.declared.validity.Validity.TheVariants as valid
+use Rattle.fl_types.specs.Integers.{fits}
+use Rattle.fl_types.specs.Types.{can_be_null}
 use Rattle.fl_types.specs.Validities.{covers, full_validity}
 use Rattle.fl_column.specs.Columns.{PrimitiveParts}
 use Rattle.flcol_engine.specs.declared.fault.Fault.TheVariants as faults
-use Rattle.flcol_engine.specs.Text.{AreParts, column_in_text, item_in_line, items_in_lines, lines_of, primitive_of_column, validity_of_bits}
+use Rattle.flcol_engine.specs.Digits.{BeginsWithNumber}
+use Rattle.flcol_engine.proofs.TextLemmas.{digit_range}
+use Rattle.flcol_engine.specs.Text.{AreParts, BeginsWithItem, column_in_text, item_in_line, items_in_lines, lines_of, number_in_digits, primitive_of_column, validity_of_bits}
 
 -- ---- bits that are all alike
 -- bits that are all set
@@ -144,14 +151,13 @@ nothing_parsed ptype n slots validity text none full = record { items = []; part
     no_front (Some xs) = refl
 
 -- one more line is read
-pub line_parsed : (ptype : PType) (n : Nullability) (slots more : List ℤ) (old new : Validity) (rest next text line : List ℕ) (item : Option ℤ) → IsParsed ptype n slots old rest text
-    → lines_of rest ≡ line ∷ lines_of next → item_in_line ptype n line ≡ Some item
+pub item_parsed : (ptype : PType) (n : Nullability) (slots more : List ℤ) (old new : Validity) (rest next text : List ℕ) (item : Option ℤ) → IsParsed ptype n slots old rest text → BeginsWithItem ptype n rest item next
     → ((n : Nullability) (items : List (Option ℤ)) → AreParts n items slots old → AreParts n (items ++ item ∷ []) more new)
     → IsParsed ptype n more new next text
-line_parsed ptype n slots more old new rest next text line item parsed first read grown = record {
+item_parsed ptype n slots more old new rest next text item parsed begins grown = record {
   items = parsed.items ++ item ∷ [];
   parts = grown n parsed.items parsed.parts;
-  lines = sym (one_item (items_in_lines ptype n (lines_of next))) ∙ (sym (rw (first, read) refl) ∙ parsed.lines);
+  lines = sym (one_item (items_in_lines ptype n (lines_of next))) ∙ (ap (with_front parsed.items) (sym begins.first) ∙ parsed.lines);
 }
   where
     one_item : (items : Option (List (Option ℤ))) → with_front parsed.items (option_map (λ xs. item ∷ xs) items) ≡ with_front (parsed.items ++ item ∷ []) items
@@ -159,10 +165,10 @@ line_parsed ptype n slots more old new rest next text line item parsed first rea
     one_item (Some xs) = ap Some (sym (append_assoc parsed.items (item ∷ []) xs))
 
 -- a line that says no item
-pub bad_line : (ptype : PType) (n : Nullability) (slots : List ℤ) (old : Validity) (rest next text line : List ℕ) → IsParsed ptype n slots old rest text
-    → lines_of rest ≡ line ∷ lines_of next → item_in_line ptype n line ≡ None → ok_or (column_in_text ptype n text) faults.BadColumn ≡ Err faults.BadColumn
-bad_line ptype n slots old rest next text line parsed first read =
-    let none : None ≡ items_in_lines ptype n (lines_of text) = sym (rw (first, read) refl) ∙ parsed.lines in
+pub bad_line : (ptype : PType) (n : Nullability) (slots : List ℤ) (old : Validity) (rest text : List ℕ) → IsParsed ptype n slots old rest text
+    → items_in_lines ptype n (lines_of rest) ≡ None → ok_or (column_in_text ptype n text) faults.BadColumn ≡ Err faults.BadColumn
+bad_line ptype n slots old rest text parsed bad =
+    let none : None ≡ items_in_lines ptype n (lines_of text) = sym (ap (with_front parsed.items) bad) ∙ parsed.lines in
     rw (← none) refl
 
 -- all lines are read
@@ -184,3 +190,48 @@ parts_covered n items slots validity parts = rw (parts.integers, parts.nulls) (c
         at_tests true q = refl
         at_tests false true = refl
         at_tests false false = (Decides-eqb _ _).1 (rw (length-map, length-map) refl)
+
+-- ---- the first line's item
+-- a line that says an item
+pub line_begins : (ptype : PType) (n : Nullability) (text line rest : List ℕ) (item : Option ℤ) → lines_of text ≡ line ∷ lines_of rest → length rest < length text → item_in_line ptype n line ≡ Some item → BeginsWithItem ptype n text item rest
+line_begins ptype n text line rest item first less read = record { first = rw (first, read) refl; shorter = less }
+
+-- a line that says none
+pub line_refused : (ptype : PType) (n : Nullability) (text line rest : List ℕ) → lines_of text ≡ line ∷ lines_of rest → item_in_line ptype n line ≡ None → items_in_lines ptype n (lines_of text) ≡ None
+line_refused ptype n text line rest first read = rw (first, read) refl
+
+-- a number is neither a null nor has it a minus
+number_item : (ptype : PType) (n : Nullability) (ds : List ℕ) (k : ℕ) → number_in_digits ds ≡ Some k → fits ptype (pos k) ≡ true → item_in_line ptype n ds ≡ Some (Some (pos k))
+number_item ptype n [] k e fit = cc
+number_item ptype n (c ∷ cs) k e fit = at_digit (is_ascii_digit c) refl
+  where
+    refused : is_ascii_digit c ≡ false → number_in_digits (c ∷ cs) ≡ None
+    refused other = rw other (at_test (nat_lt 0 (suc (length cs))))
+      where
+        at_test : (b : Bool) → cond (b && false) (Some (digits_value 10 (c ∷ cs))) None ≡ None
+        at_test true = refl
+        at_test false = refl
+
+    no_null : {A : Type 0} (b : Bool) (x y z : A) → y ≡ z → cond (b && false) x y ≡ z
+    no_null true x y z e = e
+    no_null false x y z e = e
+
+    at_digit : (b : Bool) → is_ascii_digit c ≡ b → item_in_line ptype n (c ∷ cs) ≡ Some (Some (pos k))
+    at_digit false other = absurd (let none : None ≡ Some k = sym (refused other) ∙ e in cc)
+    at_digit true digit =
+        let range = digit_range c digit in
+        let no_minus : c ≢ 45 = λ same. omega (arith, range.0, same) in
+        let no_letter : c ≢ 110 = λ same. omega (arith, range.1, same) in
+        rw (ne_eqb c 110 no_letter) (no_null (can_be_null n) _ _ _ (rw (ne_eqb c 45 no_minus, e) (rw fit refl)))
+
+-- a short number that is one of the type
+pub number_begins : {X : Type 0} (value : X → ℤ) (ptype : PType) (n : Nullability) (text rest : List ℕ) (k count : ℕ) (x : X) → BeginsWithNumber text k count → Some (value x) ≡ cond (fits ptype (pos k)) (Some (pos k)) None → rest ≡ drop (count + 1) text → BeginsWithItem ptype n text (Some (value x)) rest
+number_begins value ptype n text rest k count x begins typed is =
+    let parts = at_test (fits ptype (pos k)) typed in
+    let less = begins.within in
+    let len : length rest ≡ length text - (count + 1) = ap length is ∙ length-drop (count + 1) text in
+    line_begins ptype n text (take count text) rest (Some (value x)) (begins.line ∙ ap (λ r. take count text ∷ lines_of r) (sym is)) (omega (arith, less, len)) (number_item ptype n (take count text) k begins.number parts.0 ∙ ap (λ z. Some (Some z)) (sym parts.1))
+  where
+    at_test : (b : Bool) → Some (value x) ≡ cond b (Some (pos k)) None → (b ≡ true) × (value x ≡ pos k)
+    at_test true e = (refl, cc)
+    at_test false e = cc

@@ -35,7 +35,7 @@ pub record IsReading (ds : List ℕ) (i n : ℕ) : Type 0 where
 one_more : (ds : List ℕ) (i : ℕ) → i < length ds → drop i ds ≡ get_or ds i 0 ∷ drop (i + 1) ds
 one_more ds i h = rw (add-one, drop-cons ds i 0) refl
 
-digit_value_is : (c : ℕ) → 48 ≤ c → c ≤ 57 → digit_value c ≡ c - 48
+pub digit_value_is : (c : ℕ) → 48 ≤ c → c ≤ 57 → digit_value c ≡ c - 48
 digit_value_is c low high = grind (arith, nat_tests)
 
 grows : (n : ℕ) (cs : List ℕ) → n ≤ digits_value_after 10 n cs
@@ -52,7 +52,7 @@ above max ds large = at_test (nat_lt 0 (length ds) && all_ascii_digits ds)
     at_test true = rw (not_within max (digits_value 10 ds) large) refl
     at_test false = refl
 
-digit_range : (c : ℕ) → is_ascii_digit c ≡ true → (48 ≤ c) × (c ≤ 57)
+pub digit_range : (c : ℕ) → is_ascii_digit c ≡ true → (48 ≤ c) × (c ≤ 57)
 digit_range c e = (grind (arith, nat_tests), grind (arith, nat_tests))
 
 -- a number that is too large with the digits so far is too large with all

@@ -3,6 +3,7 @@ pub mod Text
 pub mod Faults
 pub mod Engine
 pub mod Printing
+pub mod Digits
 pub mod Words
 pub mod Replies
 pub mod Encodings

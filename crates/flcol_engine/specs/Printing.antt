@@ -1,10 +1,13 @@
 -- Answers as text: a line for each.
-use Rattle.std.specs.Prelude.{◌++◌, ℕ, ℤ, pos, List, [], ◌∷◌, codes, flat_map, Bool, true, false, Option, Some, None}
+use Rattle.std.specs.Prelude.{◌++◌, ℕ, ℤ, pos, List, [], ◌∷◌, codes, drop, get_or, flat_map, Bool, true, false, Option, Some, None}
 use Rattle.std.specs.Fmt.{signed_decimal}
 use Rattle.std.specs.Ordering.{int_eq}
 use Rattle.fl_types.specs.declared.dtype.DType.{DType}
 use Rattle.fl_types.specs.declared.dtype.DType.TheVariants as dtypes
 use Rattle.fl_types.specs.Values.{ScalarParts}
+use Rattle.fl_types.specs.declared.dtype.PType.{PType}
+use Rattle.fl_types.specs.declared.validity.Validity.{Validity}
+use Rattle.fl_types.specs.Validities.{items_of, nullability_of}
 use Rattle.fl_column.specs.Columns.{Column}
 
 -- a line: a text, ended by a line feed
@@ -33,3 +36,11 @@ column_text c = text_of_items c.dtype c.items
 -- a scalar, as it is printed
 abbrev pub scalar_text : ScalarParts → List ℕ
 scalar_text scalar = line (text_of_item scalar.dtype scalar.value)
+
+-- the line of the item at an index of a plain array
+abbrev pub item_line : PType → Validity → List ℤ → ℕ → List ℕ
+item_line ptype validity slots i = line (text_of_item (dtypes.Primitive ptype (nullability_of validity)) (get_or (items_of validity slots) i None))
+
+-- the lines of its items from an index on
+abbrev pub item_lines : PType → Validity → List ℤ → ℕ → List ℕ
+item_lines ptype validity slots i = text_of_items (dtypes.Primitive ptype (nullability_of validity)) (drop i (items_of validity slots))

@@ -1,5 +1,5 @@
 -- A column as text: a line for each item, a number or `null`.
-use Rattle.std.specs.Prelude.{◌≡◌, ◌++◌, ◌&&◌, ◌==◌, ◌^◌, ℕ, ℤ, pos, neg_ℤ, unsigned_abs, Bool, not, List, [], ◌∷◌, length, map, nat_lt, nat_le, if◌then◌else◌, Option, Some, None, option_map, option_and_then, is_some, unwrap_or, bytes_eq, codes}
+use Rattle.std.specs.Prelude.{◌≡◌, ◌++◌, ◌<◌, ◌&&◌, ◌==◌, ◌^◌, ℕ, ℤ, pos, neg_ℤ, unsigned_abs, Bool, not, List, [], ◌∷◌, length, map, nat_lt, nat_le, if◌then◌else◌, Option, Some, None, option_map, option_and_then, is_some, unwrap_or, bytes_eq, codes}
 use Rattle.std.specs.List.{list_all}
 use Rattle.std.specs.Fmt.{signed_decimal}
 use Rattle.std.specs.Str.{all_ascii_digits}
@@ -60,6 +60,11 @@ items_in_lines ptype nullability (line ∷ lines) = option_and_then (λ item. op
 -- the column of a type that a text says, where it says one
 abbrev pub column_in_text : PType → Nullability → List ℕ → Option Column
 column_in_text ptype nullability text = option_map (λ items. record { dtype = Primitive ptype nullability; items = items }) (items_in_lines ptype nullability (lines_of text))
+
+-- the first line of a text says this item, and this is behind it
+pub record BeginsWithItem (ptype : PType) (nullability : Nullability) (text : List ℕ) (item : Option ℤ) (rest : List ℕ) : Type 0 where
+  pub first : items_in_lines ptype nullability (lines_of text) ≡ option_map (λ items. item ∷ items) (items_in_lines ptype nullability (lines_of rest))
+  pub shorter : length rest < length text
 
 -- ---- arrays
 -- the validity of items that are null where their bit is not set: bits only where some are set and some are not

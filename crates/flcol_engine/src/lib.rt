@@ -4,6 +4,7 @@
 mod arg_parts;
 pub mod args;
 pub mod commands;
+mod digits;
 pub mod encodes;
 pub mod encoding;
 pub mod engine;

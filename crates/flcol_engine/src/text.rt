@@ -1,15 +1,17 @@
 //! A column as text: a line for each item, a number or `null`.
 
-ghost use Rattle.std.specs.Prelude.{◌≡◌, ◌<◌, ◌≢◌, ◌∷◌, ◌++◌, [], ℕ, ℤ, Bool, IfErr, IfOk, IsTrue, List, OnOk, is_some, Option, Some, not, length, map, ok_or, option_map, replicate};
+ghost use Rattle.std.specs.Prelude.{◌≡◌, ◌<◌, ◌≢◌, ◌∷◌, ◌++◌, [], ℕ, ℤ, Bool, IfErr, IfOk, IfNone, IfSome, IsTrue, None, if◌then◌else◌, List, OnOk, is_some, Option, Some, not, length, map, ok_or, option_map, replicate};
 ghost use Rattle.std.specs.List.{AllByRecursion};
 ghost use Rattle.fl_types.specs.declared.dtype.DType.TheVariants.{Primitive};
 ghost use Rattle.fl_types.specs.declared.dtype.Nullability.{Nullability};
 ghost use Rattle.fl_types.specs.declared.dtype.Nullability.TheVariants.{Nullable};
 ghost use Rattle.fl_types.specs.declared.error.FastLanesError.TheVariants.{OutOfMemory};
+ghost use Rattle.fl_types.specs.Integers.{fits};
 ghost use Rattle.fl_column.specs.Columns.{Column, column_of_primitive, is_column};
-ghost use Rattle.flcol_engine.specs.Text.{AreParts, column_in_text, integer_in_text, integer_of_64_bits, integer_of_type, item_in_line, items_text, lines_of, number_in_digits, number_up_to, primitive_of_column, validity_of_bits};
+ghost use Rattle.flcol_engine.specs.Text.{AreParts, BeginsWithItem, column_in_text, integer_in_text, integer_of_64_bits, integer_of_type, item_in_line, items_in_lines, items_text, lines_of, number_in_digits, number_up_to, primitive_of_column, validity_of_bits};
 ghost use Rattle.flcol_engine.specs.Faults.{IsOutcome};
 
+use crate::digits::short_number;
 use crate::fault::Fault;
 use fl_column::{
     BitList, FastLanesError, NativePType, Nullability, PType, PrimitiveArray, Validity,
@@ -88,12 +90,19 @@ pub(crate) fn integer(text: &[u8]) -> Option<i128>
     }
 }
 
+/// An integer as one of the type, where it is one.
+fn typed<T: NativePType>(value: i128) -> Option<T>
+    ensures { option_map T.value result ≡ (if fits T.PTYPE value then Some value else None) }
+{
+    T::from_i128(value)
+}
+
 /// The same where it is one of the type.
 fn typed_integer<T: NativePType>(text: &[u8]) -> Option<T>
     ensures { option_map T.value result ≡ integer_of_type T.PTYPE text.now }
 {
     let value = integer(text)?;
-    T::from_i128(value)
+    typed(value)
 }
 
 /// The item that a line says: a null where one may stand, else an integer of the type.
@@ -177,6 +186,31 @@ fn push_item<T: NativePType>(
     Ok(())
 }
 
+/// The first line's item, and what comes behind the line, where it is a short number without a sign.
+/// `None` says nothing of the text.
+#[inline]
+fn short_item<T: NativePType>(nullability: Nullability, text: &[u8]) -> Option<(Option<T>, &[u8])>
+    ensures { IfSome result (λ r. BeginsWithItem T.PTYPE nullability text.now (option_map T.value r.0) r.1.now) }
+{
+    let (value, count) = short_number(text)?;
+    let item = typed(i128::from(value))?;
+    Some((Some(item), &text[count + 1..]))
+}
+
+/// The first line's item, and what comes behind the line. `None` where the line says no item.
+#[inline]
+fn next_item<T: NativePType>(nullability: Nullability, text: &[u8]) -> Option<(Option<T>, &[u8])>
+    requires { 0 < length text.now }
+    ensures some { IfSome result (λ r. BeginsWithItem T.PTYPE nullability text.now (option_map T.value r.0) r.1.now) }
+    ensures none { IfNone result (items_in_lines T.PTYPE nullability (lines_of text.now) ≡ None) }
+{
+    if let Some(found) = short_item(nullability, text) {
+        return Some(found);
+    }
+    let (line, rest) = first_line(text);
+    Some((item::<T>(nullability, line)?, rest))
+}
+
 #[inline(never)]
 fn parse_typed<T: NativePType>(
     alloc: Global,
@@ -189,8 +223,7 @@ fn parse_typed<T: NativePType>(
     let mut validity = Validity::from(nullability);
     let mut rest = text;
     while !rest.is_empty() {
-        let (line, next) = first_line(rest);
-        let Some(item) = item::<T>(nullability, line) else {
+        let Some((item, next)) = next_item::<T>(nullability, rest) else {
             return Err(Fault::BadColumn);
         };
         push_item(alloc, &mut slots, &mut validity, item)?;

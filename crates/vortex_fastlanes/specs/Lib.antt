@@ -132,4 +132,6 @@ pub use Rattle.fl_serde.specs.RoundTrip
 pub use Rattle.fl_serde.specs.TypeAndLength
 pub use Rattle.fl_serde.specs.Writing
 pub use Rattle.fl_compress.specs.Candidates
+pub use Rattle.fl_compress.specs.EncodedBytes
 pub use Rattle.fl_compress.specs.Smallest
+pub use Rattle.fl_compress.specs.Statistics

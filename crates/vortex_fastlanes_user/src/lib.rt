@@ -10,4 +10,5 @@ mod encoded;
 mod packing;
 pub mod proved;
 pub mod readme;
+pub mod sizes;
 pub mod tutorial;

@@ -7,8 +7,8 @@ ghost use Rattle.fastlanes.specs.Delta.{Transposed, item_delta, summed_item};
 ghost use Rattle.fastlanes.specs.Runs.{changes};
 
 use crate::deltas::{delta, undelta};
+use crate::laws::words_are_in_range;
 use crate::layout::FL_CHUNK_SIZE;
-use crate::proof_support::prove_all_in_range;
 use crate::runs::{rle_decode, rle_encode};
 use crate::transposing::{transpose, untranspose};
 use crate::words::FastLanes;
@@ -50,8 +50,8 @@ pub fn delta_and_back<W: FastLanes>(
     ensures deltas { (r l : ℕ) → r < W.T → l < W.LANES → pattern_at W.pattern deltas.new (place r l) ≡ item_delta W.T (pattern_at W.pattern bases.now) (pattern_at W.pattern items.now) r l }
     ensures back { back.new ≡ items.now }
 {
-    prove_all_in_range(items);
-    prove_all_in_range(bases);
+    words_are_in_range(items);
+    words_are_in_range(bases);
     delta(items, bases, deltas);
     undelta(deltas, bases, back);
 }
@@ -67,8 +67,8 @@ pub fn undelta_and_back<W: FastLanes>(
     ensures items { (r l : ℕ) → r < W.T → l < W.LANES → pattern_at W.pattern items.new (place r l) ≡ summed_item W.T (pattern_at W.pattern bases.now) (pattern_at W.pattern deltas.now) r l }
     ensures back { back.new ≡ deltas.now }
 {
-    prove_all_in_range(deltas);
-    prove_all_in_range(bases);
+    words_are_in_range(deltas);
+    words_are_in_range(bases);
     undelta(deltas, bases, items);
     delta(items, bases, back);
 }

@@ -4,7 +4,7 @@ ghost use Rattle.std.specs.Prelude.{◌≡◌, IfSome, IsTrue};
 ghost use Rattle.std.specs.List.{list_all};
 ghost use Rattle.std.specs.Option.{option_copied};
 ghost use Rattle.fl_types.specs.Integers.{fits};
-ghost use Rattle.fl_types.specs.Values.{fits_in, integer_of, ptype_of_value};
+ghost use Rattle.fl_types.specs.Values.{fits_in};
 ghost use Rattle.fl_column.specs.Columns.{column_of_bools, column_of_constant, column_of_primitive, option_all};
 ghost use Rattle.fl_array.specs.BitPackedArrays.{tree_of_bitpacked};
 ghost use Rattle.fl_array.specs.DeltaArrays.{tree_of_delta};
@@ -18,31 +18,18 @@ use crate::bitpacking::BitPackedArray;
 use crate::delta::DeltaArray;
 use crate::for_::FoRArray;
 use crate::rle::RLEArray;
-use fl_column::{BoolArray, ConstantArray, NativePType, PValue, PrimitiveArray};
+use fl_bitpacking::laws::parts_are_consistent;
+use fl_column::laws::stored_integers_are_in_range;
+use fl_column::{BoolArray, ConstantArray, PrimitiveArray};
 use fl_patches::Patches;
-use fl_types::match_each_integer_ptype;
-
-fn prove_typed<T: NativePType>(value: PValue)
-    requires { ptype_of_value value ≡ T.PTYPE }
-    ensures { IsTrue (fits (ptype_of_value value) (integer_of value)) }
-{
-    let value = T::from_pvalue(value).unwrap();
-    value.prove_in_range();
-}
-
-/// A value is an integer of its type.
-fn prove_value_in_range(value: PValue)
-    ensures { IsTrue (fits (ptype_of_value value) (integer_of value)) }
-{
-    match_each_integer_ptype!(value.ptype(), prove_typed(value))
-}
+use fl_types::laws::value_is_in_range;
 
 /// The items of a plain array are integers of its type, or nulls.
 #[tactic(auto, using(crate::proofs::RangeLaws::plain_fits))]
 fn prove_primitive_in_range(array: &PrimitiveArray)
     ensures { IsTrue (items_fit (column_of_primitive array.now)) }
 {
-    array.prove_in_range();
+    stored_integers_are_in_range(array);
 }
 
 /// The scalar of a constant array is an integer of its type, or a null.
@@ -51,7 +38,7 @@ fn prove_scalar_in_range(array: &ConstantArray)
     ensures { IsTrue (option_all (fits_in array.now.scalar.dtype) array.now.scalar.value) }
 {
     match array.value() {
-        Some(value) => prove_value_in_range(value),
+        Some(value) => value_is_in_range(value),
         None => {}
     }
 }
@@ -77,7 +64,7 @@ fn prove_patches_in_range(patches: Option<&Patches>)
     ensures { IfSome (option_copied patches.entry) (λ p. IsTrue (list_all (fits p.values.ptype) p.values.slots)) }
 {
     match patches {
-        Some(patches) => patches.values().prove_in_range(),
+        Some(patches) => stored_integers_are_in_range(patches.values()),
         None => {}
     }
 }
@@ -85,11 +72,11 @@ fn prove_patches_in_range(patches: Option<&Patches>)
 impl BitPackedArray {
     /// Every item is in the range of the column's type.
     #[tactic(auto, using(crate::proofs::RangeLaws::bitpacked_fits))]
-    pub fn prove_in_range(&self)
+    pub(crate) fn prove_in_range(&self)
         ensures { IsTrue (items_fit (column (tree_of_bitpacked self.now))) }
     {
         let data = self.packed_data();
-        data.prove_well_formed();
+        parts_are_consistent(data);
         prove_patches_in_range(data.patches());
     }
 }
@@ -97,7 +84,7 @@ impl BitPackedArray {
 impl FoRArray {
     /// Every item is in the range of the column's type.
     #[tactic(auto, using(crate::proofs::RangeLaws::for_fits))]
-    pub fn prove_in_range(&self)
+    pub(crate) fn prove_in_range(&self)
         ensures { IsTrue (items_fit (column (tree_of_for self.now))) }
     {
         self.prove_well_formed();
@@ -107,7 +94,7 @@ impl FoRArray {
 impl DeltaArray {
     /// Every item is in the range of the column's type.
     #[tactic(auto, using(crate::proofs::RangeLaws::delta_array_fits))]
-    pub fn prove_in_range(&self)
+    pub(crate) fn prove_in_range(&self)
         ensures { IsTrue (items_fit (column (tree_of_delta self.now))) }
     {
         self.prove_well_formed();
@@ -127,7 +114,7 @@ impl RLEArray {
 
 impl ArrayRef {
     /// Every item is in the range of the column's type.
-    pub fn prove_in_range(&self)
+    pub(crate) fn prove_in_range(&self)
         ensures { IsTrue (items_fit (column self.now)) }
     {
         match &self.node {

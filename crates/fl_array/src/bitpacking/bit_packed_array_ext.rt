@@ -14,6 +14,7 @@ use crate::bitpacking::data::BitPackedData;
 use crate::bitpacking::{BitPackedArray, BitWidthsView};
 use bytes::Bytes;
 use fastlanes::FL_CHUNK_SIZE;
+use fl_bitpacking::laws::parts_are_consistent;
 use fl_bitpacking::unpack_iter::{BitPacked, BitUnpackedChunks, PackedSource};
 use fl_bitpacking::words::packed_words;
 use fl_column::{BitList, DType, FastLanesError, PhysicalPType, PrimitiveArray, Validity};
@@ -137,7 +138,7 @@ impl BitPackedArrayExt for BitPackedArray {
     }
 
     fn offset(&self) -> u16 {
-        self.packed_data().prove_well_formed();
+        parts_are_consistent(self.packed_data());
         self.packed_data().offset() as u16
     }
 

@@ -4,7 +4,7 @@ ghost use Rattle.std.specs.Prelude.{◌≡◌, ◌≤◌, IfSome, Ok, length};
 ghost use Rattle.std.specs.Option.{option_copied};
 ghost use Rattle.fl_types.specs.Refusals.{Answers};
 ghost use Rattle.fl_types.specs.Values.{scalar_parts};
-ghost use Rattle.fl_column.specs.Columns.{column_of_primitive};
+ghost use Rattle.fl_column.specs.Columns.{column_of_primitive, integers_in};
 ghost use Rattle.fl_bitpacking.specs.Columns.{block_count};
 ghost use Rattle.fl_codec.specs.FoRColumns.{chunked_for, global_for};
 ghost use Rattle.fl_types.specs.Values.{integer_of, ptype_of_value};
@@ -37,7 +37,7 @@ pub fn decompress(alloc: Global, array: &FoRArray) -> Result<PrimitiveArray, Fas
 
 impl FoRArray {
     /// The bit-packed child, if the blocks of one are the chunks of the references.
-    fn packed_in_chunks(&self) -> Option<&BitPackedArray>
+    pub fn packed_in_chunks(&self) -> Option<&BitPackedArray>
         ensures parts { option_copied result ≡ packed_in_chunks self.now }
         ensures tree { IfSome result (λ p. tree_of_bitpacked p.now ≡ self.now.encoded) }
         ensures offset { IfSome result (λ p. p.now.parts.offset ≡ offset_of_references self.now.references) }
@@ -63,7 +63,7 @@ impl FoRArray {
     }
 
     /// The decoded references, which are integers of a bit-packed child's type, are those of its blocks.
-    fn prove_references_of_blocks(
+    pub(crate) fn prove_references_of_blocks(
         &self,
         packed: &BitPackedArray,
         references: &ArrayRef,
@@ -74,6 +74,7 @@ impl FoRArray {
         requires offset { packed.now.parts.offset ≡ offset_of_references self.now.references }
         requires plain { Ok (column_of_primitive plain.now) ≡ integer_column (column references.now) }
         ensures typed { plain.now.ptype ≡ packed.now.parts.ptype }
+        ensures same { plain.now.slots ≡ integers_in (column references.now) }
         ensures enough { block_count packed.now.parts ≤ length plain.now.slots }
         ensures sums { chunked_for plain.now.slots packed.now.parts.offset (column (tree_of_bitpacked packed.now)) ≡ column (tree_of_for self.now) }
     {

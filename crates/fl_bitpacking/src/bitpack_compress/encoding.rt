@@ -21,8 +21,8 @@ use crate::refusals::positions_refusal;
 use fl_column::PrimitiveArray;
 use fl_patches::laws::{histogram_counts_each, patches_are_counted};
 use fl_patches::{
-    bit_width_histogram, count_exceptions, find_best_bit_width, find_best_bit_widths,
-    gather_blocked_patches, gather_patches,
+    bit_width_histogram, count_exceptions, counts_negative, find_best_bit_width,
+    find_best_bit_widths, gather_blocked_patches, gather_patches,
 };
 use fl_types::FastLanesError;
 use std::alloc::Global;
@@ -137,14 +137,24 @@ pub fn encode_global(
 }
 
 /// The width of least cost for an array, and how many items have more bits.
+///
+/// # Errors
+/// `NegativeValue` if a valid item is negative, else `WidthTooLarge` if the width is that of the type's
+/// bits.
 fn best_width(alloc: Global, array: &PrimitiveArray) -> Result<(u8, usize), FastLanesError>
+    ensures refusal { AnswersUnless (width_refusal array.now (best_width_of array.now)) result }
     ensures width { IfOk result (λ r. r.0 ≡ best_width_of array.now) }
-    ensures memory { IfErr result (λ e. e ≡ OutOfMemory) }
 {
     histogram_counts_each(array);
     let _len = array.len();
     let histogram = bit_width_histogram(alloc, array)?;
+    if counts_negative(array, &histogram) {
+        return Err(FastLanesError::NegativeValue);
+    }
     let width = find_best_bit_width(array.ptype(), &histogram).unwrap();
+    if usize::from(width) >= array.ptype().bit_width() {
+        return Err(FastLanesError::WidthTooLarge);
+    }
     let exceptions = count_exceptions(width, &histogram);
     Ok((width, exceptions))
 }
@@ -165,7 +175,7 @@ pub fn encode_at_best_width(
     ensures column { IfOk result (λ r. column_of_packed r.0 (global_blocks r.1) ≡ column_of_primitive array.now) }
 {
     let (width, exceptions) = best_width(alloc, array)?;
-    let data = encode_global(alloc, array, width, exceptions)?;
+    let data = pack_global(alloc, array, width, exceptions)?;
     Ok((data, width))
 }
 

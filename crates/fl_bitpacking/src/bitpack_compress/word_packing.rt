@@ -8,7 +8,7 @@ ghost use Rattle.fl_column.specs.Chunks.{chunk_count};
 ghost use Rattle.fl_bitpacking.specs.Blocks.{AreWords, pattern_in};
 
 use crate::bit_packed::write_padded_patterns;
-use fastlanes::proof_support::prove_all_in_range;
+use fastlanes::laws::words_are_in_range;
 use fastlanes::{FL_CHUNK_SIZE, FastLanes, pack};
 use fl_column::patterns::push_values;
 use fl_column::{PhysicalPType, chunk_count, chunk_of};
@@ -35,7 +35,7 @@ fn push_block<T: PhysicalPType>(
     let lanes = T::Physical::LANES;
     let words = &mut words[..width * lanes];
     pack(width, patterns, words);
-    prove_all_in_range(words);
+    words_are_in_range(words);
     push_values(words, packed)?;
     Ok(())
 }
@@ -52,7 +52,6 @@ fn pack_words<T: PhysicalPType>(
     ensures { IfOk result (λ v. AreWords T.PTYPE (map T.value items.now) width (map T.value v.items)) }
 {
     let mut packed = Vec::with_capacity(alloc, total)?;
-    T::Physical::prove_in_memory();
     let mut patterns = [T::Physical::zero(); FL_CHUNK_SIZE];
     let mut words = [T::Physical::zero(); FL_CHUNK_SIZE];
     let blocks = chunk_count(items.len());

@@ -75,7 +75,6 @@ fn unfor_typed<'a, T: BitPacked + WrappingAdd>(
     ensures most { work.new.blocks ≤ work.old.blocks + block_count (parts_of column.now) }
     ensures words { work.new.words ≡ work.old.words }
 {
-    T::prove_fits_in_memory();
     match references {
         References::Global(reference) => {
             let reference = T::from_pvalue(reference).unwrap();

@@ -7,6 +7,7 @@ ghost use Rattle.fl_types.specs.Validities.{covers};
 ghost use Rattle.fl_column.specs.Selections.{any_null};
 ghost use Rattle.fl_bitpacking.specs.Casts.{cast_packed, cast_patches, cast_primitive, cast_validity};
 
+use crate::laws::parts_are_consistent;
 use crate::packed_data::PackedData;
 use fl_column::{NativePType, PrimitiveArray};
 use fl_patches::Patches;
@@ -75,7 +76,6 @@ fn cast_some_patches(
 ) -> Result<Patches, FastLanesError>
     ensures { Answers (λ p. p) result (Ok (cast_patches nullability patches.now)) }
 {
-    patches.prove_well_formed();
     let indices = patches.indices().try_clone(alloc)?;
     let values = cast_primitive(patches.values(), alloc, nullability)?;
     let chunk_offsets = clone_chunk_offsets(patches, alloc)?;
@@ -121,7 +121,7 @@ impl PackedData {
     ) -> Result<PackedData, FastLanesError>
         ensures { Answers (λ d. d) result (Ok (cast_packed nullability self.now)) }
     {
-        self.prove_well_formed();
+        parts_are_consistent(self);
         let packed = self.packed().clone()?;
         let validity = cast_validity(self.validity(), alloc, nullability)?;
         let patches = cast_patches(self.patches(), alloc, nullability)?;

@@ -1,5 +1,6 @@
 //! Tests of a range on packed blocks: a block is compared in the order of its lanes, and not unpacked where its width decides.
 
+mod block_tests;
 mod packed_data;
 pub mod primitive;
 
@@ -10,26 +11,29 @@ ghost use Rattle.fastlanes.specs.Layout.{unpacked_item, word_at};
 ghost use Rattle.fl_types.specs.Bits.{is_set};
 ghost use Rattle.fl_types.specs.Integers.{bits_of_type};
 ghost use Rattle.fl_types.specs.Refusals.{Answers};
+ghost use Rattle.fl_column.specs.Chunks.{chunk_count};
 ghost use Rattle.fl_column.specs.Columns.{column_of_bools};
 ghost use Rattle.fl_column.specs.Numbers.{numbers, numbers_by};
 ghost use Rattle.fl_column.specs.Questions.{tested};
 ghost use Rattle.fl_patches.specs.PatchMaps.{patched, patched_in};
 ghost use Rattle.fl_bitpacking.specs.Blocks.{are_blocks, block_item, blocks_of, boundary_blocks, global_blocks, item_of_blocks};
 ghost use Rattle.fl_bitpacking.specs.Columns.{block_count, column_of_packed};
-ghost use Rattle.fl_bitpacking.specs.Compared.{IsPackedTest};
-ghost use Rattle.fl_bitpacking.specs.Decided.{is_decided, undecided_below, undecided_blocks};
+ghost use Rattle.fl_bitpacking.specs.Compared.{AreBlockTests, IsPackedTest, answer_at, passes_in};
+ghost use Rattle.fl_bitpacking.specs.Decided.{is_decided, undecided_below, undecided_by_block};
 ghost use Rattle.fl_bitpacking.specs.Parts.{AreReadable, Fit, blocks_in, blocks_to_read, parts_of};
 ghost use Rattle.fl_bitpacking.specs.Placed.{ArePlaced, value_beside};
 ghost use Rattle.fl_bitpacking.specs.RangeTests.{IsTestOf, answer_of, in_range, passes};
+ghost use Rattle.fl_bitpacking.specs.References.{AreBlockReferences, of_sum_if_some, plus_block_references};
 
 use crate::bitpack_decompress::PackedColumn;
 use crate::blocks::{PackedBlocks, block_at, prove_count_fits};
-use crate::compute::ordered_word::OrderedWord;
+use crate::compute::compare::block_tests::BlockTests;
 use crate::compute::range_test::{PatternTest, RangeTest};
 use crate::patching::place_of;
-use fastlanes::{Work, transpose_bits, unpack_cmp_bytes};
+use fastlanes::{FL_CHUNK_SIZE, FastLanes, Work, transpose_bits, unpack_cmp_bytes};
 use fl_column::{BoolArray, PhysicalPType, PrimitiveArray};
 use fl_patches::{Patches, Widths};
+use fl_types::laws::integer_is_in_range;
 use fl_types::{BitList, FastLanesError, NativePType, PType, match_each_integer_ptype};
 use std::alloc::{AllocError, Global};
 
@@ -87,7 +91,7 @@ impl PackedTest {
         requires typed { self.ptype ≡ T.PTYPE }
         ensures { result ≡ passes self.range (T.value item) }
     {
-        item.prove_in_range();
+        integer_is_in_range(item);
         self.patterns.is_passed_by(item.pattern())
     }
 }
@@ -95,7 +99,7 @@ impl PackedTest {
 /// Whether a word less `low`, modulo 2 to its bits, is at most `span`.
 #[inline(always)]
 #[tactic(auto, unfolding(crate::specs::RangeTests::in_range))]
-fn is_in_range<W: OrderedWord>(word: W, low: W, span: W) -> bool
+fn is_in_range<W: FastLanes>(word: W, low: W, span: W) -> bool
     ensures { result ≡ in_range W.T (W.pattern low) (W.pattern span) (W.pattern word) }
 {
     word.wrapping_difference(low).at_most(span)
@@ -103,7 +107,7 @@ fn is_in_range<W: OrderedWord>(word: W, low: W, span: W) -> bool
 
 /// Sets bit `i` where the pattern of item `i` of a packed block less `low`, modulo 2 to its bits, is at most `span`, and no
 /// other bit.
-fn compare_block<W: OrderedWord>(
+fn compare_block<W: FastLanes>(
     width: usize,
     block: &[u8],
     low: W,
@@ -166,7 +170,7 @@ fn fill(bits: &mut [u64; 16], on: bool)
 }
 
 /// Sets bit `i` where item `i` of a packed block passes the test, and no other bit.
-fn compare_patterns<W: OrderedWord>(
+fn compare_patterns<W: FastLanes>(
     test: PatternTest,
     width: usize,
     block: &[u8],
@@ -182,7 +186,7 @@ fn compare_patterns<W: OrderedWord>(
     ensures blocks { work.new.blocks ≡ min (work.old.blocks + 1) u64.MAX }
     ensures words { work.new.words ≡ work.old.words }
 {
-    let (low, span) = (W::from_number(test.low), W::from_number(test.span));
+    let (low, span) = (W::from_u64(test.low), W::from_u64(test.span));
     compare_block(width, block, low, span, bits, work);
     if test.negated {
         negate(bits);
@@ -191,7 +195,7 @@ fn compare_patterns<W: OrderedWord>(
 
 /// Sets bit `i` where item `i` of a packed block passes the test, and no other bit. Nothing is unpacked where the block's width
 /// decides the test.
-fn test_block<W: OrderedWord>(
+fn test_block<W: FastLanes>(
     test: PackedTest,
     width: usize,
     block: &[u8],
@@ -216,59 +220,60 @@ fn test_block<W: OrderedWord>(
 }
 
 impl PackedBlocks<'_> {
-    /// Adds the answers of a test for the items of block `j`, whose bytes start at `start`, and gives where those of the next
-    /// block start.
-    fn push_answers<W: OrderedWord>(
+    /// Adds the answers of the tests for the items of block `j`, whose bytes start at `start`, and gives where those of the
+    /// next block start.
+    fn push_answers<W: FastLanes>(
         self,
-        test: PackedTest,
+        tests: BlockTests,
         j: usize,
         start: usize,
         words: &mut Vec<u64>,
         work: &mut Work,
     ) -> Result<usize, AllocError>
-        requires test { IsPackedTest test }
-        requires word { W.T ≡ bits_of_type test.ptype }
-        requires readable { AreReadable (bits_of_type test.ptype) self }
+        requires tests { AreBlockTests (blocks_in self) tests }
+        requires word { W.T ≡ bits_of_type tests.test.ptype }
+        requires readable { AreReadable (bits_of_type tests.test.ptype) self }
         requires block { j < blocks_in self }
         requires start { start ≡ (blocks_of self.widths).start j }
         requires begun { length words.old.items ≡ 16 * j }
         ensures long { OnOk result (length words.new.items ≡ 16 * (j + 1)) }
         ensures before { OnOk result ((p : ℕ) → p < 1024 * j → is_set words.new.items p ≡ is_set words.old.items p) }
-        ensures part { OnOk result ((p : ℕ) → 1024 * j ≤ p → p < 1024 * (j + 1) → is_set words.new.items p ≡ passes test.range (item_of_blocks test.ptype (blocks_of self.entry.widths) self.entry.packed.now p)) }
+        ensures part { OnOk result ((p : ℕ) → 1024 * j ≤ p → p < 1024 * (j + 1) → is_set words.new.items p ≡ answer_at tests.entry (blocks_of self.entry.widths) self.entry.packed.now p) }
         ensures next { IfOk result (λ next. next ≡ (blocks_of self.entry.widths).start (j + 1)) }
-        ensures blocks { work.new.blocks ≡ min (work.old.blocks + (if is_decided test.ptype ((blocks_of self.entry.widths).width j) (passes test.range) then 0 else 1)) u64.MAX }
+        ensures blocks { work.new.blocks ≡ min (work.old.blocks + (if is_decided tests.entry.test.ptype ((blocks_of self.entry.widths).width j) (passes_in tests.entry j) then 0 else 1)) u64.MAX }
         ensures words { work.new.words ≡ work.old.words }
     {
         let width = self.widths.of_block(j);
         let block = block_at(self.packed, start, width);
         let mut bits = [0u64; 16];
+        let test = tests.of_block(j);
         test_block::<W>(test, width, block, &mut bits, work);
         words.extend_from_slice(&bits)?;
         Ok(start + block.len())
     }
 }
 
-/// The answers of a test for all items of packed blocks, also of those that are cut off: bit `i` for the item at position `i`.
-fn test_blocks<W: OrderedWord>(
+/// The answers of the tests for all items of packed blocks, also of those that are cut off: bit `i` for the item at position `i`.
+fn test_blocks<W: FastLanes>(
     alloc: Global,
     blocks: PackedBlocks,
-    test: PackedTest,
+    tests: BlockTests,
     work: &mut Work,
 ) -> Result<Vec<u64>, AllocError>
-    requires test { IsPackedTest test }
-    requires word { W.T ≡ bits_of_type test.ptype }
-    requires readable { AreReadable (bits_of_type test.ptype) blocks }
+    requires tests { AreBlockTests (blocks_in blocks) tests }
+    requires word { W.T ≡ bits_of_type tests.test.ptype }
+    requires readable { AreReadable (bits_of_type tests.test.ptype) blocks }
     ensures long { IfOk result (λ v. length v.items ≡ 16 * blocks_in blocks.entry) }
-    ensures bits { IfOk result (λ v. (p : ℕ) → p < 1024 * blocks_in blocks.entry → is_set v.items p ≡ passes test.range (item_of_blocks test.ptype (blocks_of blocks.entry.widths) blocks.entry.packed.now p)) }
-    ensures blocks { OnOk result (work.new.blocks ≡ min (work.old.blocks + undecided_below test.ptype (blocks_of blocks.entry.widths) (passes test.range) (blocks_in blocks.entry)) u64.MAX) }
-    ensures most { work.new.blocks ≤ work.old.blocks + undecided_below test.ptype (blocks_of blocks.entry.widths) (passes test.range) (blocks_in blocks.entry) }
+    ensures bits { IfOk result (λ v. (p : ℕ) → p < 1024 * blocks_in blocks.entry → is_set v.items p ≡ answer_at tests.entry (blocks_of blocks.entry.widths) blocks.entry.packed.now p) }
+    ensures blocks { OnOk result (work.new.blocks ≡ min (work.old.blocks + undecided_below tests.entry.test.ptype (blocks_of blocks.entry.widths) (passes_in tests.entry) (blocks_in blocks.entry)) u64.MAX) }
+    ensures most { work.new.blocks ≤ work.old.blocks + undecided_below tests.entry.test.ptype (blocks_of blocks.entry.widths) (passes_in tests.entry) (blocks_in blocks.entry) }
     ensures words { work.new.words ≡ work.old.words }
 {
     prove_count_fits(work);
     let mut words = Vec::with_capacity(alloc, 16 * blocks.count())?;
     let mut start = 0;
     for j in 0..blocks.count() {
-        start = blocks.push_answers::<W>(test, j, start, &mut words, work)?;
+        start = blocks.push_answers::<W>(tests, j, start, &mut words, work)?;
     }
     Ok(words)
 }
@@ -277,45 +282,45 @@ fn test_blocks<W: OrderedWord>(
 fn test_words(
     alloc: Global,
     blocks: PackedBlocks,
-    test: PackedTest,
+    tests: BlockTests,
     work: &mut Work,
 ) -> Result<Vec<u64>, AllocError>
-    requires test { IsPackedTest test }
-    requires readable { AreReadable (bits_of_type test.ptype) blocks }
+    requires tests { AreBlockTests (blocks_in blocks) tests }
+    requires readable { AreReadable (bits_of_type tests.test.ptype) blocks }
     ensures long { IfOk result (λ v. length v.items ≡ 16 * blocks_in blocks.entry) }
-    ensures bits { IfOk result (λ v. (p : ℕ) → p < 1024 * blocks_in blocks.entry → is_set v.items p ≡ passes test.range (item_of_blocks test.ptype (blocks_of blocks.entry.widths) blocks.entry.packed.now p)) }
-    ensures blocks { OnOk result (work.new.blocks ≡ min (work.old.blocks + undecided_below test.ptype (blocks_of blocks.entry.widths) (passes test.range) (blocks_in blocks.entry)) u64.MAX) }
-    ensures most { work.new.blocks ≤ work.old.blocks + undecided_below test.ptype (blocks_of blocks.entry.widths) (passes test.range) (blocks_in blocks.entry) }
+    ensures bits { IfOk result (λ v. (p : ℕ) → p < 1024 * blocks_in blocks.entry → is_set v.items p ≡ answer_at tests.entry (blocks_of blocks.entry.widths) blocks.entry.packed.now p) }
+    ensures blocks { OnOk result (work.new.blocks ≡ min (work.old.blocks + undecided_below tests.entry.test.ptype (blocks_of blocks.entry.widths) (passes_in tests.entry) (blocks_in blocks.entry)) u64.MAX) }
+    ensures most { work.new.blocks ≤ work.old.blocks + undecided_below tests.entry.test.ptype (blocks_of blocks.entry.widths) (passes_in tests.entry) (blocks_in blocks.entry) }
     ensures words { work.new.words ≡ work.old.words }
 {
-    match test.ptype {
-        PType::U8 | PType::I8 => test_blocks::<u8>(alloc, blocks, test, work),
-        PType::U16 | PType::I16 => test_blocks::<u16>(alloc, blocks, test, work),
-        PType::U32 | PType::I32 => test_blocks::<u32>(alloc, blocks, test, work),
-        PType::U64 | PType::I64 => test_blocks::<u64>(alloc, blocks, test, work),
+    match tests.test.ptype {
+        PType::U8 | PType::I8 => test_blocks::<u8>(alloc, blocks, tests, work),
+        PType::U16 | PType::I16 => test_blocks::<u16>(alloc, blocks, tests, work),
+        PType::U32 | PType::I32 => test_blocks::<u32>(alloc, blocks, tests, work),
+        PType::U64 | PType::I64 => test_blocks::<u64>(alloc, blocks, tests, work),
     }
 }
 
-/// The answers of a test for the items of packed blocks. Where there is no item, nothing is unpacked.
+/// The answers of the tests for the items of packed blocks. Where there is no item, nothing is unpacked.
 fn test_items(
     alloc: Global,
     blocks: PackedBlocks,
-    test: PackedTest,
+    tests: BlockTests,
     work: &mut Work,
 ) -> Result<BitList, AllocError>
-    requires test { IsPackedTest test }
-    requires readable { AreReadable (bits_of_type test.ptype) blocks }
+    requires tests { AreBlockTests (blocks_in blocks) tests }
+    requires readable { AreReadable (bits_of_type tests.test.ptype) blocks }
     ensures long { IfOk result (λ b. length b ≡ blocks.entry.len) }
-    ensures bits { IfOk result (λ b. (i : ℕ) → i < blocks.entry.len → slice_index_or b i false ≡ passes test.range (item_of_blocks test.ptype (blocks_of blocks.entry.widths) blocks.entry.packed.now (blocks.entry.offset + i))) }
-    ensures blocks { OnOk result (work.new.blocks ≡ min (work.old.blocks + (if blocks.entry.len == 0 then 0 else undecided_below test.ptype (blocks_of blocks.entry.widths) (passes test.range) (blocks_in blocks.entry))) u64.MAX) }
-    ensures most { work.new.blocks ≤ work.old.blocks + (if blocks.entry.len == 0 then 0 else undecided_below test.ptype (blocks_of blocks.entry.widths) (passes test.range) (blocks_in blocks.entry)) }
+    ensures bits { IfOk result (λ b. (i : ℕ) → i < blocks.entry.len → slice_index_or b i false ≡ answer_at tests.entry (blocks_of blocks.entry.widths) blocks.entry.packed.now (blocks.entry.offset + i)) }
+    ensures blocks { OnOk result (work.new.blocks ≡ min (work.old.blocks + (if blocks.entry.len == 0 then 0 else undecided_below tests.entry.test.ptype (blocks_of blocks.entry.widths) (passes_in tests.entry) (blocks_in blocks.entry))) u64.MAX) }
+    ensures most { work.new.blocks ≤ work.old.blocks + (if blocks.entry.len == 0 then 0 else undecided_below tests.entry.test.ptype (blocks_of blocks.entry.widths) (passes_in tests.entry) (blocks_in blocks.entry)) }
     ensures words { work.new.words ≡ work.old.words }
 {
     prove_count_fits(work);
     if blocks.len == 0 {
         return Ok(BitList::new(alloc));
     }
-    let words = test_words(alloc, blocks, test, work)?;
+    let words = test_words(alloc, blocks, tests, work)?;
     Ok(BitList::from_words(words, blocks.offset, blocks.len))
 }
 
@@ -330,119 +335,144 @@ fn passes_at<T: PhysicalPType>(test: PackedTest, values: &[T], k: usize) -> bool
     test.is_passed_by(value)
 }
 
-/// Puts the answers for values in the places of their indices.
+/// Puts the answers for values in the places of their indices. Item 0 is at position `first` of the blocks.
 fn write_answers<T: PhysicalPType, I: NativePType>(
-    test: PackedTest,
+    tests: BlockTests,
     indices: &[I],
     values: &[T],
     offset: usize,
+    first: usize,
     bits: &mut BitList,
 )
-    requires test { IsPackedTest test }
-    requires typed { test.ptype ≡ T.PTYPE }
+    requires tests { AreBlockTests (chunk_count (first + length bits.old)) tests }
+    requires typed { tests.test.ptype ≡ T.PTYPE }
+    requires few { first + length bits.old < 2 ^ 64 }
     requires placed { ArePlaced (numbers_by I.value indices.now) (length values.now) offset (length bits.old) }
     ensures long { length bits.new ≡ length bits.old }
-    ensures bits { (i : ℕ) → i < length bits.old → slice_index_or bits.new i false ≡ unwrap_or (option_map (passes test.range) (value_beside (numbers_by I.value indices.now) (map T.value values.now) (offset + i))) (slice_index_or bits.old i false) }
+    ensures bits { (i : ℕ) → i < length bits.old → slice_index_or bits.new i false ≡ unwrap_or (option_map (passes_in tests.entry ((first + i) / 1024)) (value_beside (numbers_by I.value indices.now) (map T.value values.now) (offset + i))) (slice_index_or bits.old i false) }
 {
     for k in 0..indices.len() {
+        let place = place_of(indices, k, offset);
+        let test = tests.of_block((first + place) / FL_CHUNK_SIZE);
         let answer = passes_at(test, values, k);
-        bits.set(place_of(indices, k, offset), answer);
+        bits.set(place, answer);
     }
 }
 
 fn write_typed<T: PhysicalPType, I: NativePType>(
-    test: PackedTest,
+    tests: BlockTests,
     indices: &PrimitiveArray,
     values: &[T],
     offset: usize,
+    first: usize,
     bits: &mut BitList,
 )
-    requires test { IsPackedTest test }
-    requires typed { test.ptype ≡ T.PTYPE }
+    requires tests { AreBlockTests (chunk_count (first + length bits.old)) tests }
+    requires typed { tests.test.ptype ≡ T.PTYPE }
+    requires few { first + length bits.old < 2 ^ 64 }
     requires indices { indices.now.ptype ≡ I.PTYPE }
     requires placed { ArePlaced (numbers indices.now) (length values.now) offset (length bits.old) }
     ensures long { length bits.new ≡ length bits.old }
-    ensures bits { (i : ℕ) → i < length bits.old → slice_index_or bits.new i false ≡ unwrap_or (option_map (passes test.range) (value_beside (numbers indices.now) (map T.value values.now) (offset + i))) (slice_index_or bits.old i false) }
+    ensures bits { (i : ℕ) → i < length bits.old → slice_index_or bits.new i false ≡ unwrap_or (option_map (passes_in tests.entry ((first + i) / 1024)) (value_beside (numbers indices.now) (map T.value values.now) (offset + i))) (slice_index_or bits.old i false) }
 {
-    write_answers(test, indices.as_slice::<I>(), values, offset, bits);
+    let indices = indices.as_slice::<I>();
+    write_answers(tests, indices, values, offset, first, bits);
 }
 
-/// Puts the answers for values in the places of their indices.
+/// Puts the answers for values in the places of their indices. Item 0 is at position `first` of the blocks.
 fn write_in<T: PhysicalPType>(
-    test: PackedTest,
+    tests: BlockTests,
     indices: &PrimitiveArray,
     values: &[T],
     offset: usize,
+    first: usize,
     bits: &mut BitList,
 )
-    requires test { IsPackedTest test }
-    requires typed { test.ptype ≡ T.PTYPE }
+    requires tests { AreBlockTests (chunk_count (first + length bits.old)) tests }
+    requires typed { tests.test.ptype ≡ T.PTYPE }
+    requires few { first + length bits.old < 2 ^ 64 }
     requires placed { ArePlaced (numbers indices.now) (length values.now) offset (length bits.old) }
     ensures long { length bits.new ≡ length bits.old }
-    ensures bits { (i : ℕ) → i < length bits.old → slice_index_or bits.new i false ≡ unwrap_or (option_map (passes test.range) (value_beside (numbers indices.now) (map T.value values.now) (offset + i))) (slice_index_or bits.old i false) }
+    ensures bits { (i : ℕ) → i < length bits.old → slice_index_or bits.new i false ≡ unwrap_or (option_map (passes_in tests.entry ((first + i) / 1024)) (value_beside (numbers indices.now) (map T.value values.now) (offset + i))) (slice_index_or bits.old i false) }
 {
     match_each_integer_ptype!(
         indices.ptype(),
-        write_typed::<T>(test, indices, values, offset, bits)
+        write_typed::<T>(tests, indices, values, offset, first, bits)
     )
 }
 
-fn test_patches_typed<T: PhysicalPType>(test: PackedTest, patches: &Patches, bits: &mut BitList)
-    requires test { IsPackedTest test }
-    requires typed { test.ptype ≡ T.PTYPE }
+fn test_patches_typed<T: PhysicalPType>(
+    tests: BlockTests,
+    patches: &Patches,
+    first: usize,
+    bits: &mut BitList,
+)
+    requires tests { AreBlockTests (chunk_count (first + length bits.old)) tests }
+    requires typed { tests.test.ptype ≡ T.PTYPE }
+    requires few { first + length bits.old < 2 ^ 64 }
     requires values { patches.now.values.ptype ≡ T.PTYPE }
     requires long { length bits.old ≡ patches.now.array_len }
     ensures long { length bits.new ≡ length bits.old }
-    ensures bits { (i : ℕ) → i < length bits.old → slice_index_or bits.new i false ≡ unwrap_or (option_map (passes test.range) (patched patches.now i)) (slice_index_or bits.old i false) }
+    ensures bits { (i : ℕ) → i < length bits.old → slice_index_or bits.new i false ≡ unwrap_or (option_map (passes_in tests.entry ((first + i) / 1024)) (patched patches.now i)) (slice_index_or bits.old i false) }
 {
-    patches.prove_well_formed();
     let offset = patches.offset();
     let indices = patches.indices();
     let values = patches.values();
-    write_in(test, indices, values.as_slice::<T>(), offset, bits);
+    let values = values.as_slice::<T>();
+    write_in(tests, indices, values, offset, first, bits);
 }
 
-/// Puts the answers for the patches' values in their places.
-fn test_patches(test: PackedTest, patches: &Patches, bits: &mut BitList)
-    requires test { IsPackedTest test }
-    requires typed { patches.now.values.ptype ≡ test.ptype }
+/// Puts the answers for the patches' values in their places. Item 0 is at position `first` of the blocks.
+fn test_patches(tests: BlockTests, patches: &Patches, first: usize, bits: &mut BitList)
+    requires tests { AreBlockTests (chunk_count (first + length bits.old)) tests }
+    requires typed { patches.now.values.ptype ≡ tests.test.ptype }
+    requires few { first + length bits.old < 2 ^ 64 }
     requires long { length bits.old ≡ patches.now.array_len }
     ensures long { length bits.new ≡ length bits.old }
-    ensures bits { (i : ℕ) → i < length bits.old → slice_index_or bits.new i false ≡ unwrap_or (option_map (passes test.range) (patched patches.now i)) (slice_index_or bits.old i false) }
+    ensures bits { (i : ℕ) → i < length bits.old → slice_index_or bits.new i false ≡ unwrap_or (option_map (passes_in tests.entry ((first + i) / 1024)) (patched patches.now i)) (slice_index_or bits.old i false) }
 {
     match_each_integer_ptype!(
         patches.values().ptype(),
-        test_patches_typed(test, patches, bits)
+        test_patches_typed(tests, patches, first, bits)
     )
 }
 
-/// These answers, with those for the patches in their places, if there are patches.
-fn with_patches(test: PackedTest, mut bits: BitList, patches: Option<&Patches>) -> BitList
-    requires test { IsPackedTest test }
-    requires patches { IfSome (option_copied patches) (λ p. (p.array_len ≡ length bits) × (p.values.ptype ≡ test.ptype)) }
+/// These answers, with those for the patches in their places, if there are patches. Item 0 is at position `first` of the blocks.
+fn with_patches(
+    tests: BlockTests,
+    mut bits: BitList,
+    patches: Option<&Patches>,
+    first: usize,
+) -> BitList
+    requires tests { AreBlockTests (chunk_count (first + length bits)) tests }
+    requires patches { IfSome (option_copied patches) (λ p. (p.array_len ≡ length bits) × (p.values.ptype ≡ tests.test.ptype)) }
+    requires few { first + length bits < 2 ^ 64 }
     ensures long { length result ≡ length bits }
-    ensures bits { (i : ℕ) → i < length bits → slice_index_or result i false ≡ unwrap_or (option_map (passes test.range) (patched_in (option_copied patches.entry) i)) (slice_index_or bits i false) }
+    ensures bits { (i : ℕ) → i < length bits → slice_index_or result i false ≡ unwrap_or (option_map (passes_in tests.entry ((first + i) / 1024)) (patched_in (option_copied patches.entry) i)) (slice_index_or bits i false) }
 {
     if let Some(patches) = patches {
-        test_patches(test, patches, &mut bits);
+        test_patches(tests, patches, first, &mut bits);
     }
     bits
 }
 
-/// The answers of a test for the items of these parts, whose blocks have these widths; a null stays a null.
+/// The answers of a test for the items of these parts, whose blocks have these widths, or for the sums of the items and the
+/// references of their blocks; a null stays a null.
 pub(crate) fn test_column(
     alloc: Global,
     column: &PackedColumn,
     widths: Widths,
+    references: Option<&PrimitiveArray>,
     range: RangeTest,
     work: &mut Work,
 ) -> Result<BoolArray, FastLanesError>
     requires test { IsTestOf column.now.ptype range }
+    requires references { AreBlockReferences column.now.ptype (block_count (parts_of column.now)) (option_copied references) }
     requires fit { Fit (parts_of column.now) }
     requires readable { AreReadable (bits_of_type column.now.ptype) (blocks_to_read column.now widths) }
-    ensures column { Answers column_of_bools result (Ok (tested (passes range) (column_of_packed (parts_of column.now) (blocks_of widths.entry)))) }
-    ensures blocks { OnOk result (work.new.blocks ≡ min (work.old.blocks + undecided_blocks (parts_of column.now) (blocks_of widths.entry) (passes range)) u64.MAX) }
-    ensures most { work.new.blocks ≤ work.old.blocks + undecided_blocks (parts_of column.now) (blocks_of widths.entry) (passes range) }
+    ensures column { Answers column_of_bools result (Ok (tested (passes range) (plus_block_references (option_copied references.entry) column.now.offset (column_of_packed (parts_of column.now) (blocks_of widths.entry))))) }
+    ensures blocks { OnOk result (work.new.blocks ≡ min (work.old.blocks + undecided_by_block (parts_of column.now) (blocks_of widths.entry) (of_sum_if_some column.now.ptype (option_copied references.entry) (passes range))) u64.MAX) }
+    ensures most { work.new.blocks ≤ work.old.blocks + undecided_by_block (parts_of column.now) (blocks_of widths.entry) (of_sum_if_some column.now.ptype (option_copied references.entry) (passes range)) }
     ensures words { work.new.words ≡ work.old.words }
 {
     let blocks = PackedBlocks {
@@ -452,8 +482,9 @@ pub(crate) fn test_column(
         len: column.len,
     };
     let test = PackedTest::new(range, column.ptype);
-    let stored = test_items(alloc, blocks, test, work)?;
-    let bits = with_patches(test, stored, column.patches);
+    let tests = BlockTests { test, references };
+    let stored = test_items(alloc, blocks, tests, work)?;
+    let bits = with_patches(tests, stored, column.patches, column.offset);
     let validity = column.validity.try_clone(alloc)?;
     BoolArray::new(bits, validity)
 }
@@ -463,19 +494,22 @@ pub(crate) fn test_global(
     alloc: Global,
     column: &PackedColumn,
     width: usize,
+    references: Option<&PrimitiveArray>,
     range: RangeTest,
     work: &mut Work,
 ) -> Result<BoolArray, FastLanesError>
     requires test { IsTestOf column.now.ptype range }
+    requires references { AreBlockReferences column.now.ptype (block_count (parts_of column.now)) (option_copied references) }
     requires fit { Fit (parts_of column.now) }
     requires width { width ≤ bits_of_type column.now.ptype }
     requires room { 128 * width * block_count (parts_of column.now) ≤ length column.now.packed.now }
-    ensures column { Answers column_of_bools result (Ok (tested (passes range) (column_of_packed (parts_of column.now) (global_blocks width)))) }
-    ensures blocks { OnOk result (work.new.blocks ≡ min (work.old.blocks + undecided_blocks (parts_of column.now) (global_blocks width) (passes range)) u64.MAX) }
-    ensures most { work.new.blocks ≤ work.old.blocks + undecided_blocks (parts_of column.now) (global_blocks width) (passes range) }
+    ensures column { Answers column_of_bools result (Ok (tested (passes range) (plus_block_references (option_copied references.entry) column.now.offset (column_of_packed (parts_of column.now) (global_blocks width))))) }
+    ensures blocks { OnOk result (work.new.blocks ≡ min (work.old.blocks + undecided_by_block (parts_of column.now) (global_blocks width) (of_sum_if_some column.now.ptype (option_copied references.entry) (passes range))) u64.MAX) }
+    ensures most { work.new.blocks ≤ work.old.blocks + undecided_by_block (parts_of column.now) (global_blocks width) (of_sum_if_some column.now.ptype (option_copied references.entry) (passes range)) }
     ensures words { work.new.words ≡ work.old.words }
 {
-    test_column(alloc, column, Widths::Global(width), range, work)
+    let widths = Widths::Global(width);
+    test_column(alloc, column, widths, references, range, work)
 }
 
 /// The same of parts whose block `j` lies between the boundaries `j` and `j + 1`, in bytes counted from the first boundary.
@@ -486,17 +520,20 @@ pub(crate) fn test_blocked(
     alloc: Global,
     column: &PackedColumn,
     boundaries: &PrimitiveArray,
+    references: Option<&PrimitiveArray>,
     range: RangeTest,
     work: &mut Work,
 ) -> Result<BoolArray, FastLanesError>
     requires test { IsTestOf column.now.ptype range }
+    requires references { AreBlockReferences column.now.ptype (block_count (parts_of column.now)) (option_copied references) }
     requires fit { Fit (parts_of column.now) }
     requires count { length boundaries.now.slots ≡ block_count (parts_of column.now) + 1 }
     requires blocks { IsTrue (are_blocks (bits_of_type column.now.ptype) (length column.now.packed.now) (numbers boundaries.now)) }
-    ensures column { Answers column_of_bools result (Ok (tested (passes range) (column_of_packed (parts_of column.now) (boundary_blocks (numbers boundaries.now))))) }
-    ensures blocks { OnOk result (work.new.blocks ≡ min (work.old.blocks + undecided_blocks (parts_of column.now) (boundary_blocks (numbers boundaries.now)) (passes range)) u64.MAX) }
-    ensures most { work.new.blocks ≤ work.old.blocks + undecided_blocks (parts_of column.now) (boundary_blocks (numbers boundaries.now)) (passes range) }
+    ensures column { Answers column_of_bools result (Ok (tested (passes range) (plus_block_references (option_copied references.entry) column.now.offset (column_of_packed (parts_of column.now) (boundary_blocks (numbers boundaries.now)))))) }
+    ensures blocks { OnOk result (work.new.blocks ≡ min (work.old.blocks + undecided_by_block (parts_of column.now) (boundary_blocks (numbers boundaries.now)) (of_sum_if_some column.now.ptype (option_copied references.entry) (passes range))) u64.MAX) }
+    ensures most { work.new.blocks ≤ work.old.blocks + undecided_by_block (parts_of column.now) (boundary_blocks (numbers boundaries.now)) (of_sum_if_some column.now.ptype (option_copied references.entry) (passes range)) }
     ensures words { work.new.words ≡ work.old.words }
 {
-    test_column(alloc, column, Widths::Boundaries(boundaries), range, work)
+    let widths = Widths::Boundaries(boundaries);
+    test_column(alloc, column, widths, references, range, work)
 }

@@ -172,7 +172,7 @@ fn pattern_typed<T: PhysicalPType>(value: PValue) -> u64
 }
 
 /// The pattern of a value.
-fn pattern(value: PValue) -> u64
+pub(crate) fn pattern(value: PValue) -> u64
     ensures { result ≡ pattern_of (ptype_of_value value) (integer_of value) }
 {
     match_each_integer_ptype!(value.ptype(), pattern_typed(value))
@@ -296,7 +296,7 @@ impl RangeTest {
 
 impl PatternTest {
     /// The same test of the sums of the patterns and another one: the range begins lower by as much.
-    fn of_sums(self, reference: u64) -> PatternTest
+    pub(crate) fn of_sums(self, reference: u64) -> PatternTest
         requires low { self.low ≤ self.greatest }
         requires reference { reference ≤ self.greatest }
         ensures { result ≡ record self { low = (self.low + (self.greatest + 1 - reference)) % (self.greatest + 1) } }

@@ -421,7 +421,6 @@ impl PackedData {
         requires room { 128 * width * block_count self.now ≤ length self.now.packed }
         ensures { Answers column_of_primitive result (take_column (column_of_primitive indices.now) (column_of_packed self.now (global_blocks width))) }
     {
-        self.prove_well_formed();
         take_global(alloc, &self.column(), width, indices, work)
     }
 
@@ -443,7 +442,6 @@ impl PackedData {
         ensures blocks { 17 * work.new.blocks ≤ 17 * work.old.blocks + length (column_of_primitive indices.now).items }
         ensures words { work.new.words ≤ work.old.words + 2 * length (column_of_primitive indices.now).items }
     {
-        self.prove_well_formed();
         take_blocked(alloc, &self.column(), boundaries, indices, work)
     }
 
@@ -463,7 +461,6 @@ impl PackedData {
         ensures blocks { 17 * work.new.blocks ≤ 17 * work.old.blocks + length (column_of_primitive indices.now).items }
         ensures words { work.new.words ≤ work.old.words + 2 * length (column_of_primitive indices.now).items }
     {
-        self.prove_well_formed();
         let widths = Widths::Global(0);
         take_named(alloc, &self.column(), widths, indices, false, work)
     }

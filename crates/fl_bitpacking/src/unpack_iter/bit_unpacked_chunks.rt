@@ -118,7 +118,6 @@ impl<'a, T: BitPacked> BitUnpackedChunks<'a, T> {
         ensures* after { sem 𝓛 (lends_chunk_items T.row T.BitCount self.entry (unpacked_one self.old) result) }
         ensures items { integers_lent T.value result ≡ Some (block_items_at T.PTYPE self.old.bit_width self.old.packed (1024 * j + span.from) (span.to - span.from)) }
     {
-        T::prove_fits_in_memory();
         let (by, packed, bit_width) = (BitPackingStrategy, self.packed, self.bit_width);
         unpack_at(&by, packed, bit_width, j, self.scratch, &mut self.work);
         UnpackedItems {
@@ -191,7 +190,6 @@ impl<'a, T: BitPacked> BitUnpackedChunks<'a, T> {
         ensures words { self.new.work.words ≡ self.old.work.words }
         ensures same { self.new ≡ record self.old { work = self.new.work } }
     {
-        T::prove_fits_in_memory();
         let blocks = PackedBlocks {
             widths: Widths::Global(self.bit_width),
             packed: self.packed,

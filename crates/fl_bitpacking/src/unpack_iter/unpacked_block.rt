@@ -59,7 +59,6 @@ impl<T: BitPacked> UnpackedBlock<T> {
         ensures blocks { work.new.blocks ≡ min (work.old.blocks + 1) u64.MAX }
         ensures words { work.new.words ≡ work.old.words }
     {
-        T::prove_fits_in_memory();
         let (by, bit_width) = (BitPackingStrategy, self.bit_width);
         unpack_at(&by, packed, bit_width, j, &mut self.items, work);
     }

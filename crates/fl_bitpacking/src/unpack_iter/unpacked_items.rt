@@ -50,7 +50,6 @@ impl<'a, T: BitPacked> UnpackedItems<'a, T> {
     pub fn items(&self) -> Option<&[T]>
         ensures { option_copied result ≡ items_lent self.now }
     {
-        T::prove_fits_in_memory();
         match &self.span {
             Some(span) => {
                 let block = &self.block[..];

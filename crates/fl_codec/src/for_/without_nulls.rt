@@ -1,13 +1,14 @@
 //! Frames of reference of items none of which is null: loops over integers, in which the compiler works on
 //! several at once.
 
-ghost use Rattle.std.specs.Prelude.{◌≡◌, ◌<◌, ◌≤◌, ◌+◌, ◌-◌, ◌*◌, ◌/◌, ◌^◌, ◌+ℤ◌, ◌-ℤ◌, ℕ, pos, Some, IfOk, length, map, min, option_map, slice_index_or};
+ghost use Rattle.std.specs.Prelude.{◌≡◌, ◌<◌, ◌≤◌, ◌+◌, ◌-◌, ◌*◌, ◌/◌, ◌^◌, ◌++◌, ◌+ℤ◌, ◌-ℤ◌, ℕ, pos, Some, IfOk, OnOk, length, map, min, option_map, slice_index_or};
 ghost use Rattle.fl_types.specs.Integers.{wrap};
 ghost use Rattle.fl_codec.specs.Chunks.{chunks_of};
 ghost use Rattle.fl_codec.specs.FoRColumns.{chunked_slots, chunked_sums, least_valid, min_valid, turned};
 
 use crate::chunks::{chunk_count, chunk_end};
 use fastlanes::FL_CHUNK_SIZE;
+use fl_column::chunk_of;
 use fl_types::NativePType;
 use num_traits::{WrappingAdd, WrappingSub};
 use std::alloc::{AllocError, Global};
@@ -58,18 +59,22 @@ fn subtract<T: NativePType + WrappingSub>(items: &[T], reference: T, slots: &mut
     }
 }
 
-/// Writes each integer less the reference of its chunk of 1024.
-fn subtract_chunks<T: NativePType + WrappingSub>(items: &[T], references: &[T], slots: &mut [T])
-    requires slots { length slots.old ≡ length items.now }
-    requires references { length references.now ≡ chunks_of (length items.now) }
-    ensures { (j : ℕ) → j < length items.now → slice_index_or (map T.value slots.new) j (pos 0) ≡ wrap T.PTYPE (slice_index_or (map T.value items.now) j (pos 0) -ℤ slice_index_or (map T.value references.now) (j / 1024) (pos 0)) }
+/// Adds each integer less a reference to the slots. They are written while the memory that is made for them is in
+/// the cache.
+fn push_differences<T: NativePType + WrappingSub>(
+    items: &[T],
+    reference: T,
+    slots: &mut Vec<T>,
+) -> Result<(), AllocError>
+    requires { length slots.old.items + length items.now < 2 ^ 64 }
+    ensures { OnOk result (map T.value slots.new.items ≡ map T.value slots.old.items ++ map (λ z. wrap T.PTYPE (z -ℤ T.value reference)) (map T.value items.now)) }
 {
-    for k in 0..references.len() {
-        let start = FL_CHUNK_SIZE * k;
-        let end = chunk_end(k, items.len());
-        let part = &mut slots[start..end];
-        subtract(&items[start..end], references[k], part);
-    }
+    let start = slots.len();
+    let end = start + items.len();
+    slots.resize(end, T::zero())?;
+    let part = &mut slots[start..end];
+    subtract(items, reference, part);
+    Ok(())
 }
 
 /// Writes each integer plus a reference.
@@ -124,9 +129,10 @@ pub(crate) fn differences<T: NativePType + WrappingSub>(
 ) -> Result<Vec<T>, AllocError>
     ensures { IfOk result (λ v. map T.value v.items ≡ map (λ z. wrap T.PTYPE (z -ℤ T.value reference)) (map T.value items.now)) }
 {
-    let mut slots = Vec::new(alloc);
-    slots.resize(items.len(), T::zero())?;
-    subtract(items, reference, &mut slots);
+    let mut slots = Vec::with_capacity(alloc, items.len())?;
+    for k in 0..chunk_count(items.len()) {
+        push_differences(chunk_of(items, k), reference, &mut slots)?;
+    }
     Ok(slots)
 }
 
@@ -139,9 +145,10 @@ pub(crate) fn chunked_differences<T: NativePType + WrappingSub>(
     requires { length references.now ≡ chunks_of (length items.now) }
     ensures { IfOk result (λ v. map T.value v.items ≡ chunked_slots T.PTYPE (map T.value references.now) (map (λ z. Some z) (map T.value items.now))) }
 {
-    let mut slots = Vec::new(alloc);
-    slots.resize(items.len(), T::zero())?;
-    subtract_chunks(items, references, &mut slots);
+    let mut slots = Vec::with_capacity(alloc, items.len())?;
+    for k in 0..references.len() {
+        push_differences(chunk_of(items, k), references[k], &mut slots)?;
+    }
     Ok(slots)
 }
 

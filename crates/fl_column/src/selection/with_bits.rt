@@ -53,7 +53,7 @@ fn take_bits(
 }
 
 /// The validity of items with these bits, without them where no item is null.
-fn validity_of(bits: BitList) -> Validity
+pub(crate) fn validity_of(bits: BitList) -> Validity
     ensures { result ≡ validity_of_bits bits }
 {
     if has_unset(&bits) {

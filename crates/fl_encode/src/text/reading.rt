@@ -13,9 +13,9 @@ use std::alloc::{AllocFailed, Global};
 /// Where reading stopped.
 #[derive(Clone, Copy, Debug, PartialEq, Eq)]
 pub(crate) enum Stop {
-    /// A growth of memory was refused.
+    /// Memory ran out.
     OutOfMemory,
-    /// At a wrong byte, from which on there are so many bytes.
+    /// At a wrong byte. The number is that of the bytes from it to the end.
     Left(usize),
 }
 
@@ -60,7 +60,7 @@ pub(crate) enum Frame {
 /// A child's scheme, if it has one.
 type Child = Option<Box<Scheme>>;
 
-/// What stands behind a byte, if the text begins with it.
+/// What follows a byte, if the text begins with it.
 fn tail_behind(byte: u8, text: &[u8]) -> Option<&[u8]>
     ensures { option_copied result ≡ tail_behind byte text.now }
 {
@@ -70,7 +70,7 @@ fn tail_behind(byte: u8, text: &[u8]) -> Option<&[u8]>
     }
 }
 
-/// What stands behind a word, if the text begins with it.
+/// What follows a word, if the text begins with it.
 fn rest_behind<'a>(word: &[u8], text: &'a [u8]) -> Option<&'a [u8]>
     ensures { option_copied result ≡ rest_behind word.now text.now }
 {
@@ -83,7 +83,7 @@ fn rest_behind<'a>(word: &[u8], text: &'a [u8]) -> Option<&'a [u8]>
     }
 }
 
-/// How many bytes a word and the text begin with alike.
+/// The length of the longest prefix that a word and the text have in common.
 fn common(word: &[u8], text: &[u8]) -> usize
     ensures value { result ≡ common word.now text.now }
     ensures within { result ≤ length text.now }
@@ -97,7 +97,7 @@ fn common(word: &[u8], text: &[u8]) -> usize
     }
 }
 
-/// The byte that has to come next, and what stands behind it.
+/// Reads a byte that has to come next, and returns what follows it.
 fn expected(byte: u8, text: &[u8]) -> Result<&[u8], Stop>
     ensures { Finds (λ rest. rest.now) result (expected byte text.now) }
 {
@@ -107,7 +107,7 @@ fn expected(byte: u8, text: &[u8]) -> Result<&[u8], Stop>
     }
 }
 
-/// The number with the digits that it goes on with, as far as it is at most 255, and what stands behind them.
+/// The number with the digits that follow it, as far as it is at most 255, and what follows them.
 fn digits_behind(number: u8, text: &[u8]) -> (u8, &[u8])
     ensures number { result.0 ≡ (digits_behind number text.now).0 }
     ensures rest { result.1.now ≡ (digits_behind number text.now).1 }
@@ -125,7 +125,7 @@ fn digits_behind(number: u8, text: &[u8]) -> (u8, &[u8])
     }
 }
 
-/// A width, and what stands behind it.
+/// A width, and what follows it.
 fn read_width(text: &[u8]) -> Result<(u8, &[u8]), Stop>
     ensures { Finds (λ w. (w.0, w.1.now)) result (width_in text.now) }
 {
@@ -135,7 +135,7 @@ fn read_width(text: &[u8]) -> Result<(u8, &[u8]), Stop>
     }
 }
 
-/// The packing behind `bitpacked`, and what stands behind it.
+/// The packing after `bitpacked`, and what follows it.
 fn read_packing(text: &[u8]) -> Result<(Packing, &[u8]), Stop>
     ensures { Finds (λ p. (p.0, p.1.now)) result (packing_behind text.now) }
 {
@@ -148,7 +148,7 @@ fn read_packing(text: &[u8]) -> Result<(Packing, &[u8]), Stop>
     }
 }
 
-/// How many bytes the text begins with as some word does.
+/// The length of the longest prefix that the text has in common with a word.
 fn furthest(text: &[u8]) -> usize
     ensures value { result ≡ furthest text.now }
     ensures within { result ≤ length text.now }
@@ -160,7 +160,7 @@ fn furthest(text: &[u8]) -> usize
     plain.max(packed).max(frames.max(nested))
 }
 
-/// The word for a frame of reference, of what stands behind its `for`, and what stands behind it.
+/// The word for a frame of reference, from the bytes after its `for`, and what follows it.
 fn read_frame_word(text: &[u8]) -> (Frame, &[u8])
     ensures frame { result.0 ≡ (frame_in text.now).0 }
     ensures rest { result.1.now ≡ (frame_in text.now).1 }
@@ -177,7 +177,7 @@ fn read_frame_word(text: &[u8]) -> (Frame, &[u8])
     }
 }
 
-/// The word for an encoding that has children, and what stands behind it.
+/// The word for an encoding that has children, and what follows it.
 fn read_nested_head(text: &[u8]) -> Result<(Head, &[u8]), Stop>
     ensures { Finds (λ h. (h.0, h.1.now)) result (nested_head_in text.now) }
 {
@@ -194,7 +194,7 @@ fn read_nested_head(text: &[u8]) -> Result<(Head, &[u8]), Stop>
     }
 }
 
-/// The word for an encoding, and what stands behind it.
+/// The word for an encoding, and what follows it.
 fn read_head(text: &[u8]) -> Result<(Head, &[u8]), Stop>
     ensures { Finds (λ h. (h.0, h.1.now)) result (head_in text.now) }
 {
@@ -276,7 +276,7 @@ fn read_three(
     Ok((first, second, third, rest))
 }
 
-/// The scheme of a word for a frame of reference, and of the children behind it.
+/// The scheme of a word for a frame of reference and of the children after it.
 #[cycle(read)]
 fn read_frame(
     alloc: Global,
@@ -314,7 +314,7 @@ fn read_frame(
     }
 }
 
-/// The scheme of an encoding's word, and of the children behind it.
+/// The scheme of an encoding's word and of the children after it.
 #[cycle(read)]
 fn read_children(
     alloc: Global,
@@ -345,7 +345,7 @@ fn read_children(
     }
 }
 
-/// A scheme that is less deep than `depth`, and what stands behind it.
+/// A scheme of a depth below `depth`, and what follows it.
 #[cycle(read)]
 fn read_scheme(alloc: Global, depth: usize, text: &[u8]) -> Result<(Scheme, &[u8]), Stop>
     ensures { Finds (λ s. (shape s.0, s.1.now)) result (scheme_in depth text.now) }
@@ -357,7 +357,7 @@ fn read_scheme(alloc: Global, depth: usize, text: &[u8]) -> Result<(Scheme, &[u8
     read_children(alloc, depth - 1, head, rest)
 }
 
-/// The scheme that a text says as a whole.
+/// The scheme whose text is the whole text.
 pub(crate) fn read_whole(alloc: Global, text: &[u8]) -> Result<Scheme, Stop>
     ensures { Finds shape result (after (scheme_in (length text.now) text.now) whole) }
 {

@@ -9,12 +9,13 @@ ghost use Rattle.flcol_container.specs.Container.{dtype_byte};
 ghost use Rattle.flcol_c.specs.Held.{IsKept, held_fault};
 ghost use Rattle.flcol_c.specs.Looks.{are_in_order};
 ghost use Rattle.flcol_c.specs.Reading.{nulls_in};
+ghost use Rattle.flcol_c.specs.Schemes.{scheme_fault, text_fault, text_of};
 ghost use Rattle.flcol_c.specs.Statuses.{IsStatusOf, refusal_in, status_at};
 
-use crate::fault::{DONE, Fault};
+use crate::fault::{DONE, Fault, status_of};
 use crate::handle::ArrayHandle;
 use crate::kept::take;
-use crate::looks;
+use crate::{looks, schemes};
 use fl_serde::nbytes;
 use std::alloc::Global;
 
@@ -135,6 +136,40 @@ pub extern "C" fn flcol_is_sorted(
         }
         Err(fault) => fault.status(),
     }
+}
+
+/// Writes how many bytes the text of the array's scheme has.
+#[unsafe(no_mangle)]
+pub extern "C" fn flcol_scheme_len(alloc: Global, array: &mut ArrayHandle, len: &mut usize) -> i32
+    ensures kept { IsKept array.old array.new }
+    ensures status { IsStatusOf (held_fault scheme_fault array.old.tree) result }
+    ensures found { result ≡ pos 0 → IfSome array.old.tree (λ t. len.new ≡ length (text_of t)) }
+    ensures unfound { result ≢ pos 0 → len.new ≡ len.old }
+{
+    let Some(source) = array.array() else {
+        return Fault::NoArray.status();
+    };
+    match schemes::text_of(alloc, source) {
+        Ok(text) => {
+            *len = text.len();
+            DONE
+        }
+        Err(fault) => fault.status(),
+    }
+}
+
+/// Writes the text of the array's scheme to exactly its bytes.
+#[unsafe(no_mangle)]
+pub extern "C" fn flcol_scheme(alloc: Global, array: &mut ArrayHandle, text: &mut [u8]) -> i32
+    ensures kept { IsKept array.old array.new }
+    ensures status { IsStatusOf (held_fault (text_fault (length text.old)) array.old.tree) result }
+    ensures written { result ≡ pos 0 → IfSome array.old.tree (λ t. text.new ≡ text_of t) }
+    ensures unwritten { result ≢ pos 0 → text.new ≡ text.old }
+{
+    let Some(source) = array.array() else {
+        return Fault::NoArray.status();
+    };
+    status_of(schemes::write_text(alloc, source, text))
 }
 
 /// Frees the array, if there is one.

@@ -21,12 +21,12 @@ returns g c = record {
 pub returns-then-width-eq0 : goal.returns-then-width-eq0
 returns-then-width-eq0 g c = record {
   items = λ i h.
-      c.fill.ensures.items i h ∙ none_added g.W.FastLanes.T g.W.FastLanes.LANES c.args.width (g.S.Storage.word c.args.words.now) i (g.W.FastLanes.pattern c.args.reference) c.if-width-eq0.true c.prove_in_range.ensures;
+      c.fill.ensures.items i h ∙ none_added g.W.FastLanes.T g.W.FastLanes.LANES c.args.width (g.S.Storage.word c.args.words.now) i (g.W.FastLanes.pattern c.args.reference) c.if-width-eq0.true c.word_is_in_range.ensures;
 }
 
 pub copy_words-requires : goal.copy_words-requires
 copy_words-requires g c =
-    let size = c.prove_in_memory.ensures in
+    let size = g.met.W.FastLanes.few_bytes in
     let count = whole_count g.W.FastLanes.T g.W.FastLanes.LANES c.args.width g.met.W.FastLanes.shape (omega arith) (omega arith) in
     (omega arith, c.requires.block ∙ count)
 

@@ -10,6 +10,7 @@ ghost use Rattle.fl_array.specs.BitPackedArrays.{GlobalWidth, tree_of_bitpacked}
 ghost use Rattle.fl_array.specs.Trees.{column};
 
 use crate::bitpacking::{BitPackedArray, StoredWidths};
+use fl_bitpacking::laws::parts_are_consistent;
 use fl_column::{FastLanesError, Nullability};
 use std::alloc::Global;
 
@@ -20,7 +21,7 @@ impl BitPackedArray {
         ensures { result ≡ list_any is_none (column (tree_of_bitpacked self.now)).items }
     {
         let data = self.packed_data();
-        data.prove_well_formed();
+        parts_are_consistent(data);
         data.has_null()
     }
 

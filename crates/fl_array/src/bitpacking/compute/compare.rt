@@ -1,20 +1,25 @@
 //! Comparisons of bit-packed arrays on their packed blocks, with a count of the blocks that they unpack.
 
-ghost use Rattle.std.specs.Prelude.{◌≡◌, ◌+◌, IfOk, Ok, OnOk, min};
+ghost use Rattle.std.specs.Prelude.{◌≡◌, ◌+◌, ◌≤◌, IfOk, Ok, OnOk, length, min};
+ghost use Rattle.std.specs.Option.{option_copied};
 ghost use Rattle.fl_types.specs.Refusals.{Answers};
 ghost use Rattle.fl_types.specs.Values.{integer_of};
 ghost use Rattle.fl_column.specs.Columns.{column_of_bools, column_of_primitive};
 ghost use Rattle.fl_column.specs.Questions.{holds, is_between, tested};
-ghost use Rattle.fl_bitpacking.specs.Decided.{undecided_blocks};
+ghost use Rattle.fl_codec.specs.FoRColumns.{chunked_for};
+ghost use Rattle.fl_bitpacking.specs.Columns.{block_count};
+ghost use Rattle.fl_bitpacking.specs.Decided.{undecided_by_block};
 ghost use Rattle.fl_bitpacking.specs.RangeTests.{IsTestOf, passes};
+ghost use Rattle.fl_bitpacking.specs.References.{AreBlockReferences, of_sum_if_some, plus_block_references};
 ghost use Rattle.fl_array.specs.BitPackedArrays.{BlockBoundaries, GlobalWidth, blocks_of_widths, tree_of_bitpacked};
 ghost use Rattle.fl_array.specs.Trees.{column};
-ghost use Rattle.fl_array.specs.UnpackedBlocks.{IsComparisonOf};
+ghost use Rattle.fl_array.specs.UnpackedBlocks.{IsComparisonOf, IsComparisonOfSums};
 
 use crate::array::ArrayRef;
 use crate::bitpacking::{BitPackedArray, BitWidthsView};
 use fastlanes::Work;
 use fl_bitpacking::RangeTest;
+use fl_bitpacking::laws::parts_are_consistent;
 use fl_column::{
     BetweenOptions, BoolArray, CompareOperator, FastLanesError, PValue, PrimitiveArray,
 };
@@ -26,18 +31,21 @@ impl BitPackedArray {
         &self,
         alloc: Global,
         width: u8,
+        references: Option<&PrimitiveArray>,
         range: RangeTest,
         work: &mut Work,
     ) -> Result<BoolArray, FastLanesError>
         requires test { IsTestOf self.now.parts.ptype range }
+        requires references { AreBlockReferences self.now.parts.ptype (block_count self.now.parts) (option_copied references) }
         requires widths { GlobalWidth width ≡ self.now.widths }
-        ensures column { Answers column_of_bools result (Ok (tested (passes range) (column (tree_of_bitpacked self.now)))) }
-        ensures blocks { OnOk result (work.new.blocks ≡ min (work.old.blocks + undecided_blocks self.now.parts (blocks_of_widths self.now.widths) (passes range)) u64.MAX) }
+        ensures column { Answers column_of_bools result (Ok (tested (passes range) (plus_block_references (option_copied references.entry) self.now.parts.offset (column (tree_of_bitpacked self.now))))) }
+        ensures blocks { OnOk result (work.new.blocks ≡ min (work.old.blocks + undecided_by_block self.now.parts (blocks_of_widths self.now.widths) (of_sum_if_some self.now.parts.ptype (option_copied references.entry) (passes range))) u64.MAX) }
         ensures words { work.new.words ≡ work.old.words }
     {
         self.prove_well_formed();
+        let width = usize::from(width);
         self.packed_data()
-            .test_global(alloc, usize::from(width), range, work)
+            .test_global(alloc, width, references, range, work)
     }
 
     /// The answers of a test, where the blocks lie between these boundaries, which `plain` has decoded.
@@ -46,39 +54,45 @@ impl BitPackedArray {
         alloc: Global,
         boundaries: &ArrayRef,
         plain: &PrimitiveArray,
+        references: Option<&PrimitiveArray>,
         range: RangeTest,
         work: &mut Work,
     ) -> Result<BoolArray, FastLanesError>
         requires test { IsTestOf self.now.parts.ptype range }
+        requires references { AreBlockReferences self.now.parts.ptype (block_count self.now.parts) (option_copied references) }
         requires same { BlockBoundaries boundaries.now ≡ self.now.widths }
         requires plain { column_of_primitive plain.now ≡ column boundaries.now }
-        ensures column { Answers column_of_bools result (Ok (tested (passes range) (column (tree_of_bitpacked self.now)))) }
-        ensures blocks { OnOk result (work.new.blocks ≡ min (work.old.blocks + undecided_blocks self.now.parts (blocks_of_widths self.now.widths) (passes range)) u64.MAX) }
+        ensures column { Answers column_of_bools result (Ok (tested (passes range) (plus_block_references (option_copied references.entry) self.now.parts.offset (column (tree_of_bitpacked self.now))))) }
+        ensures blocks { OnOk result (work.new.blocks ≡ min (work.old.blocks + undecided_by_block self.now.parts (blocks_of_widths self.now.widths) (of_sum_if_some self.now.parts.ptype (option_copied references.entry) (passes range))) u64.MAX) }
         ensures words { work.new.words ≡ work.old.words }
     {
         self.prove_well_formed();
         let _len = plain.len();
-        self.packed_data().test_blocked(alloc, plain, range, work)
+        self.packed_data()
+            .test_blocked(alloc, plain, references, range, work)
     }
 
-    /// The answers of a test for the items; a null stays a null.
+    /// The answers of a test for the items or, if there are references, for the sums of the items and the references of their
+    /// blocks; a null stays a null.
     fn test(
         &self,
         alloc: Global,
+        references: Option<&PrimitiveArray>,
         range: RangeTest,
         work: &mut Work,
     ) -> Result<BoolArray, FastLanesError>
-        requires { IsTestOf self.now.parts.ptype range }
-        ensures column { Answers column_of_bools result (Ok (tested (passes range) (column (tree_of_bitpacked self.now)))) }
-        ensures blocks { OnOk result (work.new.blocks ≡ min (work.old.blocks + undecided_blocks self.now.parts (blocks_of_widths self.now.widths) (passes range)) u64.MAX) }
+        requires test { IsTestOf self.now.parts.ptype range }
+        requires references { AreBlockReferences self.now.parts.ptype (block_count self.now.parts) (option_copied references) }
+        ensures column { Answers column_of_bools result (Ok (tested (passes range) (plus_block_references (option_copied references.entry) self.now.parts.offset (column (tree_of_bitpacked self.now))))) }
+        ensures blocks { OnOk result (work.new.blocks ≡ min (work.old.blocks + undecided_by_block self.now.parts (blocks_of_widths self.now.widths) (of_sum_if_some self.now.parts.ptype (option_copied references.entry) (passes range))) u64.MAX) }
         ensures words { work.new.words ≡ work.old.words }
     {
         match self.bit_widths() {
-            BitWidthsView::Global(width) => self.test_global(alloc, width, range, work),
+            BitWidthsView::Global(width) => self.test_global(alloc, width, references, range, work),
             BitWidthsView::Blocked(boundaries) => {
                 self.prove_boundaries_are_integers(boundaries);
                 let plain = boundaries.to_primitive(alloc)?;
-                self.test_blocked(alloc, boundaries, &plain, range, work)
+                self.test_blocked(alloc, boundaries, &plain, references, range, work)
             }
         }
     }
@@ -98,9 +112,33 @@ impl BitPackedArray {
         ensures answer { Answers (λ r. column_of_bools r.0) result (Ok (tested (passes range) (column (tree_of_bitpacked self.now)))) }
         ensures work { IfOk result (λ r. IsComparisonOf self.now (passes range) r.1) }
     {
-        self.packed_data().prove_well_formed();
+        parts_are_consistent(self.packed_data());
         let mut work = Work::new();
-        let answers = self.test(alloc, range, &mut work)?;
+        let answers = self.test(alloc, None, range, &mut work)?;
+        Ok((answers, work))
+    }
+
+    /// The answers of a test for the sums of the items and the references of their blocks, modulo 2 to the type's bits, and what
+    /// was unpacked of the packed bytes for it; a null stays a null. There is a reference of the array's type for each block. A
+    /// block is unpacked once if its own width does not decide the test of its sums.
+    ///
+    /// # Errors
+    /// Only `OutOfMemory`.
+    pub fn test_sums_counted(
+        &self,
+        alloc: Global,
+        references: &PrimitiveArray,
+        range: RangeTest,
+    ) -> Result<(BoolArray, Work), FastLanesError>
+        requires test { IsTestOf self.now.parts.ptype range }
+        requires typed { references.now.ptype ≡ self.now.parts.ptype }
+        requires enough { block_count self.now.parts ≤ length references.now.slots }
+        ensures answer { Answers (λ r. column_of_bools r.0) result (Ok (tested (passes range) (chunked_for references.now.slots self.now.parts.offset (column (tree_of_bitpacked self.now))))) }
+        ensures work { IfOk result (λ r. IsComparisonOfSums self.now references.now.slots (passes range) r.1) }
+    {
+        parts_are_consistent(self.packed_data());
+        let mut work = Work::new();
+        let answers = self.test(alloc, Some(references), range, &mut work)?;
         Ok((answers, work))
     }
 

@@ -111,27 +111,18 @@ fn patch_typed<T: NativePType, I: NativePType>(
     patch_values(patches, indices, values, positions, items);
 }
 
-/// Puts these values of the patches of these positions in place of what is stored.
-fn patch_in<T: NativePType>(patches: &Patches, values: &[T], positions: &[usize], items: &mut [T])
-    requires rising { IsTrue (is_rising (numbers patches.now.indices)) }
-    requires even { length values.now ≡ length patches.now.indices.slots }
-    requires long { length items.old ≡ length positions.now }
-    ensures { (i : ℕ) → i < length items.old → value_at T.value items.new i ≡ unwrap_or (value_beside (numbers patches.now.indices) (map T.value values.now) (patches.now.offset + slice_index positions.now i)) (value_at T.value items.old i) }
-{
-    match_each_integer_ptype!(
-        patches.indices().ptype(),
-        patch_typed::<T>(patches, values, positions, items)
-    )
-}
-
 /// Puts the patches of these positions in place of what is stored.
 fn patch_items<T: NativePType>(patches: &Patches, positions: &[usize], items: &mut [T])
     requires values { patches.now.values.ptype ≡ T.PTYPE }
     requires long { length items.old ≡ length positions.now }
     ensures { (i : ℕ) → i < length items.old → value_at T.value items.new i ≡ unwrap_or (patched patches.now (slice_index positions.now i)) (value_at T.value items.old i) }
 {
-    patches.prove_well_formed();
-    patch_in(patches, patches.values().as_slice::<T>(), positions, items);
+    let (indices, values) = (patches.indices(), patches.values());
+    let values = values.as_slice::<T>();
+    match_each_integer_ptype!(
+        indices.ptype(),
+        patch_typed::<T>(patches, values, positions, items)
+    )
 }
 
 /// The items at these positions, as they are stored, with the patches of the positions in their places,

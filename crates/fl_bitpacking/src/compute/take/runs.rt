@@ -199,7 +199,6 @@ pub(crate) fn take_stored<T: BitPacked + PhysicalPType>(
     ensures blocks { 17 * work.new.blocks ≤ 17 * work.old.blocks + length positions.now }
     ensures words { work.new.words ≤ work.old.words + 2 * length positions.now }
 {
-    T::prove_fits_in_memory();
     let mut items = Vec::new(alloc);
     items.resize(positions.len(), T::zero())?;
     let mut scratch = [T::zero(); FL_CHUNK_SIZE];

@@ -16,4 +16,4 @@ returns-clause-deltas g c r l p q =
     let start = segment_inside T lanes l shape q in
     let inside : segment l < length c.args.block.now = let long = c.told-block in omega arith in
     let base = ap (λ xs. pattern_at pattern xs l) c.first_row.ensures.row ∙ (pattern_at_take pattern c.transpose.new.stored lanes l q ∙ first_stored T lanes _ _ l (some_rows T lanes shape) q c.transpose.ensures.moved) in
-    c.delta.ensures.deltas r l p q ∙ encoded_here T lanes (pattern_at pattern c.first_row.result.now) (pattern_at pattern c.args.block.now) (pattern_at pattern c.transpose.new.stored) r l p q base (c.prove_all_in_range.ensures (segment l) inside) c.transpose.ensures.moved
+    c.delta.ensures.deltas r l p q ∙ encoded_here T lanes (pattern_at pattern c.first_row.result.now) (pattern_at pattern c.args.block.now) (pattern_at pattern c.transpose.new.stored) r l p q base (c.words_are_in_range.ensures (segment l) inside) c.transpose.ensures.moved

@@ -16,7 +16,7 @@ loop-q-preserved g c =
     let q = c.loop-q.q in
     let taken = ap value c.unwrap_or-last.ensures ∙ unwrap_or-option_map value c.item_in_chunk.result c.loop-q.last in
     let here = carried_next (value c.args.before) (value c.loop-q.last) (value c.unwrap_or-last.result) (option_map value c.item_in_chunk.result) items q taken c.item_in_chunk.ensures c.loop-q.invariant.last in
-    let fit : IsTrue (fits ptype (filled_from (value c.args.before) items q)) = subst (λ z. IsTrue (fits ptype z)) here c.prove_in_range.ensures in
+    let fit : IsTrue (fits ptype (filled_from (value c.args.before) items q)) = subst (λ z. IsTrue (fits ptype z)) here c.integer_is_in_range.ensures in
     let inside : q < length c.loop-q.block = let whole = c.loop-q.invariant.whole in omega arith in
     record {
       last = here;

@@ -19,7 +19,7 @@ loop-q-preserved g c =
     let item = c.index-items-start.result in
     let read = get_or-chunk all c.args.k q None (omega arith) ∙ item_read value c.args.items.now (1024 * c.args.k + q) item (omega arith) c.index-items-start.is in
     let here = carried_next (value c.args.before) (value c.loop-q.last) (value item) (Some (value item)) items q refl (sym read) c.loop-q.invariant.last in
-    let fit : IsTrue (fits ptype (filled_from (value c.args.before) items q)) = subst (λ z. IsTrue (fits ptype z)) here c.prove_in_range.ensures in
+    let fit : IsTrue (fits ptype (filled_from (value c.args.before) items q)) = subst (λ z. IsTrue (fits ptype z)) here c.integer_is_in_range.ensures in
     let inside : q < length c.loop-q.block = let whole = c.loop-q.invariant.whole in omega arith in
     record {
       last = here;

@@ -9,7 +9,7 @@ returns-in-NonNullable-clause-slots g c =
     let value = g.T.Number.value in
     let ptype = g.T.NativePType.PTYPE in
     let references = map value c.args.references.now in
-    if_made (λ v. map value v.items ≡ chunked_slots ptype references (all_valid (map value c.args.items.now))) (λ v. map value v.items ≡ chunked_slots ptype references (items_of c.args.validity.now (map value c.args.items.now))) c.chunked_differences.result c.chunked_differences.ensures
+    if_made (λ v. map value v.items ≡ chunked_slots ptype references (all_valid (map value c.args.items.now))) (λ v. map value v.items ≡ chunked_slots ptype references (items_of c.args.validity.now (map value c.args.items.now))) c.chunked_differences-in-NonNullable.result c.chunked_differences-in-NonNullable.ensures
     (λ v made. full_chunks value ptype references c.args.validity.now c.args.items.now v.items c.in-NonNullable.is made)
 
 pub returns-in-NonNullable-clause-long : goal.returns-in-NonNullable-clause-long
@@ -17,5 +17,5 @@ returns-in-NonNullable-clause-long g c =
     let value = g.T.Number.value in
     let ptype = g.T.NativePType.PTYPE in
     let references = map value c.args.references.now in
-    if_made (λ v. map value v.items ≡ chunked_slots ptype references (all_valid (map value c.args.items.now))) (λ v. length v.items ≡ length c.args.items.now) c.chunked_differences.result c.chunked_differences.ensures
+    if_made (λ v. map value v.items ≡ chunked_slots ptype references (all_valid (map value c.args.items.now))) (λ v. length v.items ≡ length c.args.items.now) c.chunked_differences-in-NonNullable.result c.chunked_differences-in-NonNullable.ensures
     (λ v made. chunks_long value ptype references c.args.items.now v.items made)

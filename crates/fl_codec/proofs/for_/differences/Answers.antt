@@ -10,5 +10,5 @@ returns-in-NonNullable-clause-slots g c =
     let value = g.T.Number.value in
     let ptype = g.T.NativePType.PTYPE in
     let reference = value c.args.reference in
-    if_made (λ v. map value v.items ≡ map (λ z. wrap ptype (z -ℤ reference)) (map value c.args.items.now)) (λ v. map value v.items ≡ map (minus_reference ptype reference) (items_of c.args.validity.now (map value c.args.items.now))) c.differences.result c.differences.ensures
+    if_made (λ v. map value v.items ≡ map (λ z. wrap ptype (z -ℤ reference)) (map value c.args.items.now)) (λ v. map value v.items ≡ map (minus_reference ptype reference) (items_of c.args.validity.now (map value c.args.items.now))) c.differences-in-NonNullable.result c.differences-in-NonNullable.ensures
     (λ v made. full_differences value ptype reference c.args.validity.now c.args.items.now v.items c.in-NonNullable.is made)

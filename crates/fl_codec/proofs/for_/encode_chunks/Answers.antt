@@ -11,7 +11,7 @@ pub chunk_references-requires-clause-covers : goal.chunk_references-requires-cla
 chunk_references-requires-clause-covers g c = covered_read g.T.Number.value c.args.array.now c.validity.result.now c.as_slice.result.now c.validity.ensures.value c.validity.ensures.covers c.as_slice.ensures
 
 pub chunk_references-requires-clause-fit : goal.chunk_references-requires-clause-fit
-chunk_references-requires-clause-fit g c = fit_read g.T.Number.value c.args.array.now g.T.NativePType.PTYPE c.as_slice.result.now c.requires c.prove_in_range.ensures.slots c.as_slice.ensures
+chunk_references-requires-clause-fit g c = fit_read g.T.Number.value c.args.array.now g.T.NativePType.PTYPE c.as_slice.result.now c.requires c.stored_integers_are_in_range.ensures.slots c.as_slice.ensures
 
 pub less_references-requires-clause-references : goal.less_references-requires-clause-references
 less_references-requires-clause-references g c =

@@ -10,7 +10,7 @@ pub least_between-requires-clause-covers : goal.least_between-requires-clause-co
 least_between-requires-clause-covers g c = covered_read g.T.Number.value c.args.array.now c.validity.result.now c.as_slice-items.result.now c.validity.ensures.value c.validity.ensures.covers c.as_slice-items.ensures
 
 pub least_between-requires-clause-fit : goal.least_between-requires-clause-fit
-least_between-requires-clause-fit g c = fit_read g.T.Number.value c.args.array.now g.T.NativePType.PTYPE c.as_slice-items.result.now c.requires c.prove_in_range.ensures.slots c.as_slice-items.ensures
+least_between-requires-clause-fit g c = fit_read g.T.Number.value c.args.array.now g.T.NativePType.PTYPE c.as_slice-items.result.now c.requires c.stored_integers_are_in_range.ensures.slots c.as_slice-items.ensures
 
 pub returns-in-None : goal.returns-in-None
 returns-in-None g c =

@@ -1,7 +1,6 @@
-use Rattle.std.proofs.Common.{◌+◌, ◌++◌, ◌<◌, ◌≤◌, length, map, vec_len, vec_capacity, ap, sym, ◌∙◌, arith}
+use Rattle.std.proofs.Common.{◌++◌, map, ap, sym, ◌∙◌, arith}
 use Rattle.std.proofs.lemmas.List.{append-nil, take_all}
 use Rattle.fl_types.specs.Integers.{read_as}
-use Rattle.fl_types.proofs.Refused.{no_value}
 use Rattle.fl_column.proofs.PatternLaws.{values_pushed}
 use Rattle.fl_column.proofs.patterns.push_values.Goals as goal
 

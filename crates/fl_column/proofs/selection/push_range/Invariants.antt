@@ -1,4 +1,4 @@
-use Rattle.std.proofs.Common.{◌≡◌, ◌+◌, ◌++◌, map, length}
+use Rattle.std.proofs.Common.{◌≡◌, ◌+◌, ◌++◌, map}
 use Rattle.fl_types.specs.Bits.{between}
 use Rattle.fl_types.specs.Validities.{items_of}
 use Rattle.fl_column.proofs.selection.push_range.Given as goal

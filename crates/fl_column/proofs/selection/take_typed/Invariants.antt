@@ -1,4 +1,4 @@
-use Rattle.std.proofs.Common.{◌≡◌, map, take, length}
+use Rattle.std.proofs.Common.{◌≡◌, take}
 use Rattle.fl_types.specs.Validities.{items_of}
 use Rattle.fl_column.specs.Selections.{items_at}
 use Rattle.fl_types.specs.Buffers.{integers_of}

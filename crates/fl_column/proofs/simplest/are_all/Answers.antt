@@ -1,4 +1,4 @@
-use Rattle.std.proofs.Common.{◌≡◌, ◌∙◌, Bool, arith, ap, false, get_or, sym, true}
+use Rattle.std.proofs.Common.{◌∙◌, arith, ap, false, sym}
 use Rattle.std.specs.Bool.{beq}
 use Rattle.std.proofs.lemmas.Option.{get_or_from_slice_get}
 use Rattle.fl_column.proofs.ListLaws.{all_fails, all_more}

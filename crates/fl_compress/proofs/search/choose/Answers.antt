@@ -1,6 +1,7 @@
 use Rattle.std.proofs.Common.{sym, ◌∙◌}
 use Rattle.fl_compress.specs.Choices.{chosen}
-use Rattle.fl_compress.proofs.AnswerLaws.{search_without_runs, whole_search}
+use Rattle.fl_encode.specs.Shapes.{shape}
+use Rattle.fl_compress.proofs.AnswerLaws.{free_candidate, search_without_runs, whole_search}
 use Rattle.fl_compress.proofs.search.choose.Goals as goal
 
 pub returns-then-not-has_level : goal.returns-then-not-has_level
@@ -9,3 +10,6 @@ returns-then-not-has_level c = search_without_runs c.args.limits.now c.args.arra
 pub returns : goal.returns
 returns c =
     whole_search c.args.limits.now c.args.array.now (chosen c.in_ok-best.best) (chosen c.in_ok-runs.runs) (chosen c.cheaper.result) (sym c.has_level.ensures ∙ c.if-not-has_level.false) c.in_ok-best.ensures.choice c.in_ok-runs.ensures c.cheaper.ensures.choice
+
+pub returns-then-best-eq0 : goal.returns-then-best-eq0
+returns-then-best-eq0 c = free_candidate c.args.limits.now c.args.array.now (shape c.in_ok-best.best.scheme) c.in_ok-best.best.bytes c.in_ok-best.ensures.choice c.if-best-eq0.true

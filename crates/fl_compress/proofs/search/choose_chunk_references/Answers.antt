@@ -7,10 +7,10 @@ use Rattle.fl_compress.specs.Choices.{chosen}
 use Rattle.fl_compress.proofs.AnswerLaws.{chunks_choice, nulls_choice, whole_choice}
 use Rattle.fl_compress.proofs.search.choose_chunk_references.Goals as goal
 
-pub returns-in_ok-child-in-Global : goal.returns-in_ok-child-in-Global
-returns-in_ok-child-in-Global c =
-    whole_choice c.args.order c.args.array.now c.in-Global.field-0.child (global_parts c.in-Global.field-0) c.args.limits.now c.args.depth (chosen c.in_ok-child-in-Global.child) (chosen c.plain.result) c.over_chunk_references.result
-    (ok_is _ _ c.in_ok-child.ensures ∙ ap for_parts c.in-Global.is) refl c.in_ok-child-in-Global.ensures.choice c.plain.ensures c.over_chunk_references.ensures
+pub returns-in-Global : goal.returns-in-Global
+returns-in-Global c =
+    whole_choice c.args.order c.args.array.now c.in-Global.field-0.child (global_parts c.in-Global.field-0) c.args.limits.now c.args.depth (chosen c.choose_packed-child.result) (chosen c.plain.result) c.over_chunk_references.result
+    (ok_is _ _ c.in_ok-child.ensures ∙ ap for_parts c.in-Global.is) refl c.choose_packed-child.ensures.choice c.plain.ensures c.over_chunk_references.ensures
 
 pub returns-in-Chunked : goal.returns-in-Chunked
 returns-in-Chunked c =

@@ -10,8 +10,8 @@ use Rattle.fl_compress.proofs.search.choose_one_reference.Goals as goal
 
 pub returns-in_ok-choice-in-Ok : goal.returns-in_ok-choice-in-Ok
 returns-in_ok-choice-in-Ok c =
-    one_choice c.args.order c.args.array.now c.in-Ok.field-0.child (global_parts c.in-Ok.field-0) (packed_schemes c.args.limits.now c.args.depth) (shape c.in_ok-child-in-Ok.child.scheme) c.in_ok-child-in-Ok.child.bytes (chosen c.in_ok-choice-in-Ok.choice)
-    c.in-Ok.ensures refl c.in_ok-child-in-Ok.ensures.choice c.in_ok-choice-in-Ok.ensures
+    one_choice c.args.order c.args.array.now c.in-Ok.field-0.child (global_parts c.in-Ok.field-0) (packed_schemes c.args.limits.now c.args.depth) (shape c.choose_packed-child.result.scheme) c.choose_packed-child.result.bytes (chosen c.in_ok-choice-in-Ok.choice)
+    c.in-Ok.ensures refl c.choose_packed-child.ensures.choice c.in_ok-choice-in-Ok.ensures
 
 pub returns-in-Err-NoMinimum : goal.returns-in-Err-NoMinimum
 returns-in-Err-NoMinimum c =

@@ -1,7 +1,7 @@
 use Rattle.std.proofs.Common.{◌-◌, Err, Ok, ap, length}
 use Rattle.fl_encode.specs.declared.text.SchemeError.TheVariants.{WrongByte}
 use Rattle.fl_encode.specs.Texts.{positioned}
-use Rattle.fl_encode.proofs.GrammarReads.{parsed_by_grammar}
+use Rattle.fl_encode.proofs.GrammarStops.{parsed_by_grammar}
 use Rattle.fl_encode.proofs.TextBounds.{stops_within}
 use Rattle.fl_encode.proofs.text.parse.Goals as goal
 

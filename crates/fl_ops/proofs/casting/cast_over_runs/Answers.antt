@@ -10,4 +10,4 @@ over-requires-clause-index_type c = indices_type (nullability_in c.args.target) 
 pub returns-clause-column : goal.returns-clause-column
 returns-clause-column c =
     let made : c.into_array.result ≡ RLE c.args.values c.args.indices c.args.array.now.offsets c.args.array.now.window = search rules in
-    runs_cast_ok c.args.array.now c.args.values c.args.indices c.args.target c.prove_well_formed.ensures c.requires.integer c.requires.values c.requires.indices ∙ ap (λ (t : Tree). Ok (column t)) (sym made)
+    runs_cast_ok c.args.array.now c.args.values c.args.indices c.args.target c.rle_is_well_formed.ensures c.requires.integer c.requires.values c.requires.indices ∙ ap (λ (t : Tree). Ok (column t)) (sym made)

@@ -10,8 +10,8 @@ use Rattle.fl_serde.proofs.proof_support.prove_global.Goals as goal
 pub returns : goal.returns
 returns c =
     let parts = c.args.array.now.parts in
-    let offset = subst (λ (d : BitPackedParts). d.offset < 1024) c.packed_data.ensures c.prove_well_formed-2.ensures.fit.offset in
+    let offset = subst (λ (d : BitPackedParts). d.offset < 1024) c.packed_data.ensures c.parts_are_consistent.ensures.fit.offset in
     let near : parts.offset < 2 ^ 32 = omega (arith, offset) in
     let narrow : c.args.width < 2 ^ 32 = omega arith in
     let held = c.patches.ensures ∙ ap (λ (d : BitPackedParts). d.patches) c.packed_data-2.ensures in
-    global_is_back parts c.args.array.now.widths c.args.width c.requires c.prove_well_formed.ensures narrow near (subst (λ o. IfSome o ArePatchesOfTypes) held c.prove_patches.ensures.patches) (subst (λ o. IfSome (option_map patches_message o) PatchesFit) held c.prove_patches.ensures.message) c.written_is_read.ensures.bit_packed
+    global_is_back parts c.args.array.now.widths c.args.width c.requires c.bitpacked_is_well_formed.ensures narrow near (subst (λ o. IfSome o ArePatchesOfTypes) held c.prove_patches.ensures.patches) (subst (λ o. IfSome (option_map patches_message o) PatchesFit) held c.prove_patches.ensures.message) c.written_is_read.ensures.bit_packed

@@ -1,4 +1,4 @@
-use Rattle.std.proofs.Common.{◌<◌, ◌/◌, ◌%◌, length, arith, refl, add-zero}
+use Rattle.std.proofs.Common.{◌<◌, ◌/◌, ◌%◌, length, arith}
 use Rattle.std.proofs.lemmas.List.{get_or_read}
 use Rattle.fl_types.proofs.BitLists.{bit_cleared}
 use Rattle.fl_types.proofs.MovedBits.{put_here, put_others}

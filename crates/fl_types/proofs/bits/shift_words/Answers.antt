@@ -1,4 +1,4 @@
-use Rattle.std.proofs.Common.{◌≡◌, ◌+◌, ◌*◌, ◌<◌, length, arith, ap, ◌∙◌, length-set}
+use Rattle.std.proofs.Common.{◌≡◌, ◌+◌, ◌*◌, arith, ap, ◌∙◌, length-set}
 use Rattle.fl_types.specs.Bits.{is_set}
 use Rattle.fl_types.proofs.MovedBits.{moved_more, kept_bits}
 use Rattle.fl_types.proofs.bits.shift_words.Goals as goal

@@ -1,4 +1,4 @@
-use Rattle.std.proofs.Common.{◌+◌, ◌%◌, ◌<◌, arith, refl, sym, ◌∙◌}
+use Rattle.std.proofs.Common.{arith, refl, sym, ◌∙◌}
 use Rattle.std.proofs.lemmas.Bool.{eqb-true}
 use Rattle.fl_types.proofs.MovedBits.{word_of_one, word_of_two}
 use Rattle.fl_types.proofs.bits.word_from.Goals as goal

@@ -1,36 +1,46 @@
-use Rattle.std.proofs.Common.{◌*◌, refl, arith, ◌∙◌, length-set}
-use Rattle.flcol_c.proofs.BitmapLaws.{Marked, byte_marked, byte_more, each_bit, no_bit_left}
+use Rattle.std.proofs.Common.{inl, inr, ◌≡◌, ℕ, ◌<◌, ◌≤◌, ◌*◌, ◌+◌, ◌/◌, ◌%◌, length, length-set, false, refl, ap, sym, ◌∙◌, arith}
+use Rattle.std.specs.Prelude.{slice_index, slice_index_or}
+use Rattle.std.proofs.lemmas.Bool.{cases_lt}
+use Rattle.std.proofs.lemmas.List.{get_or_past}
+use Rattle.flcol_c.specs.Bitmaps.{bit_in}
+use Rattle.flcol_c.proofs.BitmapLaws.{byte_more, no_bit_behind, word_in}
 use Rattle.flcol_c.proofs.bitmaps.write_bits.Goals as goal
 
-pub loop-k-init : goal.loop-k-init
-loop-k-init g c = record { whole = refl; marked = λ i h. absurd (omega arith) }
-
-pub loop-k-preserved : goal.loop-k-preserved
-loop-k-preserved g c =
-    let k = c.loop-k.k in
+pub loop-at-init : goal.loop-at-init
+loop-at-init c =
     let bitmap = c.loop-k.bitmap in
-    let kept = c.loop-k.invariant in
-    let more = c.loop-k-test.true in
-    let few = c.min-count.ensures in
-    let room = c.requires.room in
-    let byte = c.byte_of in
+    let end = c.loop-k-test.false in
     record {
-      whole = length-set bitmap k byte.result ∙ kept.whole;
-      marked = byte_more (Marked (goal.F-post g c.args.bit.now) c.args.len) bitmap byte.result k (omega arith) kept.marked
-          (byte_marked (goal.F-post g c.args.bit.now) byte.result (8 * k) c.min-count.result c.args.len (omega arith) (omega arith) byte.ensures.bits byte.ensures.clear);
+      long = refl;
+      bits = λ i h.
+          let place : 64 * (i / 64) + i % 64 ≡ i = omega arith in
+          ap (bit_in bitmap) (sym place) ∙ sym (word_in bitmap (i / 64) _ (i % 64) c.loop-k.invariant.bytes refl (omega arith)) ∙ c.loop-k.invariant.words (i / 64) (omega arith) (i % 64) (omega arith) ∙ ap (λ m. slice_index_or c.args.bits.now m false) place;
     }
 
-pub returns-clause-bits : goal.returns-clause-bits
-returns-clause-bits g c =
-    let kept = c.loop-k.invariant in
-    let whole = kept.whole in
-    let room = c.requires.room in
-    let end = c.loop-k-test.false in
-    each_bit (goal.F-post g c.args.bit.now) c.loop-k.bitmap c.args.len (whole ∙ room) (λ i h. kept.marked i (omega arith))
+pub loop-at-preserved : goal.loop-at-preserved
+loop-at-preserved c =
+    let at = c.loop-at.at in
+    let whole = c.len-whole.result / 64 in
+    let bitmap = c.loop-at.bitmap in
+    let long = c.loop-at.invariant.long in
+    let more = c.loop-at-test.true in
+    let bytes = c.requires in
+    let count = c.len-whole.ensures in
+    let kept = c.loop-k.invariant.long in
+    let begun = c.loop-at.auto.at in
+    record {
+      long = length-set bitmap at _ ∙ long;
+      bits = byte_more bitmap c.args.bits.now c.word-in-loop-at.result whole at (omega arith) (omega arith) (omega arith) c.word-in-loop-at.ensures c.loop-at.invariant.bits;
+    }
 
-pub returns-clause-clear : goal.returns-clause-clear
-returns-clause-clear g c =
-    let kept = c.loop-k.invariant in
-    let whole = kept.whole in
-    let end = c.loop-k-test.false in
-    no_bit_left (goal.F-post g c.args.bit.now) c.loop-k.bitmap c.args.len (λ i h. kept.marked i (omega arith))
+pub returns : goal.returns
+returns c i =
+    let bitmap = c.loop-at.bitmap in
+    let long = c.loop-at.invariant.long in
+    let kept = c.loop-k.invariant.long in
+    let end = c.loop-at-test.false in
+    let bytes = c.requires in
+    elim (cases_lt i (8 * length bitmap)) [
+      | inl low ↦ c.loop-at.invariant.bits i (omega arith)
+      | inr high ↦ no_bit_behind bitmap i high ∙ sym (get_or_past c.args.bits.now i false (omega arith))
+    ]

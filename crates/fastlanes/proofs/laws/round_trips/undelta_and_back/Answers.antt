@@ -10,6 +10,6 @@ returns-clause-back g c = same_block g.W.FastLanes.pattern g.W.FastLanes.T g.W.F
     let there = place_read g.W.FastLanes.T g.W.FastLanes.LANES r l g.met.W.FastLanes.shape p q in
     let long : length c.args.deltas.now ≡ 1024 = omega arith in
     c.delta.ensures.deltas r l p q ∙ differences_back g.W.FastLanes.T g.W.FastLanes.LANES (pattern_at g.W.FastLanes.pattern c.args.bases.now) (pattern_at g.W.FastLanes.pattern c.undelta.new.items) (pattern_at g.W.FastLanes.pattern c.args.deltas.now) r l p q
-    (c.prove_all_in_range-2.ensures l (omega arith))
-    (c.prove_all_in_range.ensures (place r l) (rw long there.2))
+    (c.words_are_in_range-2.ensures l (omega arith))
+    (c.words_are_in_range.ensures (place r l) (rw long there.2))
     c.undelta.ensures.items)

@@ -1,5 +1,5 @@
 use Rattle.std.proofs.Common.{Ok, Err, refl, ◌∙◌}
-use Rattle.fl_bitpacking.specs.Encoders.{best_widths_of, widths_refusal}
+use Rattle.fl_bitpacking.specs.Encoders.{widths_refusal}
 use Rattle.fl_patches.proofs.Parts.{ok_same}
 use Rattle.fl_array.proofs.BitPackedEncoding.{also_answered, column_between, passed_on}
 use Rattle.fl_array.proofs.bitpacking.bitpack_compress.bitpack_encode_blocked.Goals as goal

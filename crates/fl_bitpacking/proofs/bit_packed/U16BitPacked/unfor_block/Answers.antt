@@ -5,4 +5,4 @@ use Rattle.fl_bitpacking.proofs.BlockSums.{unsigned_sums}
 use Rattle.fl_bitpacking.proofs.bit_packed.U16BitPacked.unfor_block.Goals as goal
 
 pub returns-clause-items : goal.returns-clause-items
-returns-clause-items c = unsigned_sums U16 16 64 c.args.width c.args.reference c.unfor_pack_bytes.new.items c.args.block.now bits_16 refl refl c.requires.width c.prove_in_range.ensures c.unfor_pack_bytes.array_long c.unfor_pack_bytes.ensures.items
+returns-clause-items c = unsigned_sums U16 16 64 c.args.width c.args.reference c.unfor_pack_bytes.new.items c.args.block.now bits_16 refl refl c.requires.width c.word_is_in_range.ensures c.unfor_pack_bytes.array_long c.unfor_pack_bytes.ensures.items

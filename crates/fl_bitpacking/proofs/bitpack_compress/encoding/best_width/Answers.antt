@@ -7,4 +7,4 @@ count_exceptions-exceptions-requires c =
     let items = ok_same _ _ c.in_ok-histogram.ensures.counts in
     let few = c.histogram_counts_each.ensures.few c.unwrap-width.result in
     let long = c.len-len.ensures.slots in
-    rw (c.deref-2.ensures.value, items) (omega arith)
+    rw (c.deref-3.ensures.value, items) (omega arith)

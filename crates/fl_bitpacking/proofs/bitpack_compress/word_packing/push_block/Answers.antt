@@ -25,7 +25,7 @@ returns-clause-packed g c =
     let block = front_words g.T.Physical.FastLanes.T g.T.Physical.FastLanes.LANES c.args.width c.LANES-lanes.result c.args.words.now words g.met.T.Physical.FastLanes.shape c.requires.width c.LANES-lanes.ensures c.requires.words c.pack.auto.packed in
     let packed = packed_by_items _ _ c.args.width _ _ _ g.met.T.Physical.FastLanes.shape (λ i h. sym (c.write_padded_patterns.ensures.patterns i h)) c.pack.ensures in
     block_added g.T.Physical.FastLanes.pattern g.T.Number.value g.T.NativePType.PTYPE g.T.Physical.FastLanes.T g.T.Physical.FastLanes.LANES c.args.width _ c.args.packed.now.items _ words g.met.T.Physical.FastLanes.shape g.met.T.PhysicalPType.width_law block
-    c.in_ok-push_values.ensures.values c.prove_all_in_range.ensures packed
+    c.in_ok-push_values.ensures.values c.words_are_in_range.ensures packed
 
 pub overflow_mul-words : goal.overflow_mul-words
 overflow_mul-words g c =

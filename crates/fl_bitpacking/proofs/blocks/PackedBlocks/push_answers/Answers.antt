@@ -1,11 +1,17 @@
-use Rattle.std.proofs.Common.{◌≡◌, ℕ, ◌+◌, ◌-◌, ◌*◌, ◌∙◌, cond, min, ap, sym, subst, refl, arith}
-use Rattle.fl_bitpacking.specs.Blocks.{blocks_of}
-use Rattle.fl_bitpacking.specs.Decided.{is_decided}
+use Rattle.std.proofs.Common.{◌+◌, ◌-◌, ◌*◌, ◌∙◌, ap, sym, refl, arith}
+use Rattle.fl_types.specs.Integers.{bits_of_type}
+use Rattle.fl_bitpacking.specs.Blocks.{block_item, blocks_of}
+use Rattle.fl_bitpacking.specs.Compared.{passes_in}
+use Rattle.fl_bitpacking.specs.Parts.{blocks_in}
 use Rattle.fl_bitpacking.specs.RangeTests.{passes}
+use Rattle.fl_bitpacking.proofs.BlockTestLaws.{answered_in, counted_by, tests_of_fewer}
 use Rattle.fl_bitpacking.proofs.Bounds.{width_named}
 use Rattle.fl_bitpacking.proofs.ComparedLaws.{bit_added, bit_before}
 use Rattle.fl_bitpacking.proofs.Joined.{item_read}
 use Rattle.fl_bitpacking.proofs.blocks.PackedBlocks.push_answers.Goals as goal
+
+pub of_block-test-requires : goal.of_block-test-requires
+of_block-test-requires g c = let inside = c.requires.block in tests_of_fewer (blocks_in c.args.self) (c.args.j + 1) c.args.tests (omega arith) c.requires.tests
 
 pub block_at-block-requires : goal.block_at-block-requires
 block_at-block-requires g c =
@@ -14,21 +20,27 @@ block_at-block-requires g c =
     let width = c.of_block-width.ensures ∙ sym (width_named c.args.self.widths c.args.j (c.requires.readable.names c.args.j c.requires.block)) in
     omega arith
 
+pub test_block-requires-clause-word : goal.test_block-requires-clause-word
+test_block-requires-clause-word g c = c.requires.word ∙ ap bits_of_type (sym c.of_block-test.ensures.typed)
+
 pub test_block-requires-clause-width : goal.test_block-requires-clause-width
 test_block-requires-clause-width g c =
     let narrow = c.requires.readable.within.narrow c.args.j c.requires.block in
     let width = c.of_block-width.ensures ∙ sym (width_named c.args.self.widths c.args.j (c.requires.readable.names c.args.j c.requires.block)) in
+    let typed = ap bits_of_type c.of_block-test.ensures.typed in
     omega arith
 
 pub returns-in_err-extend_from_slice-clause-blocks : goal.returns-in_err-extend_from_slice-clause-blocks
 returns-in_err-extend_from_slice-clause-blocks g c =
     let width = c.of_block-width.ensures ∙ sym (width_named c.args.self.widths c.args.j (c.requires.readable.names c.args.j c.requires.block)) in
-    subst (λ (w : ℕ). c.test_block.new.work.blocks ≡ min (c.args.work.now.blocks + cond (is_decided c.args.test.ptype w (passes c.args.test.range)) 0 1) 18446744073709551615) width c.test_block.ensures.blocks
+    let test = c.of_block-test.result in
+    counted_by c.test_block.new.work.blocks c.args.work.now.blocks c.of_block-width.result _ test.ptype c.args.tests.test.ptype (passes test.range) (passes_in c.args.tests c.args.j) c.of_block-test.ensures.typed c.of_block-test.ensures.sums width c.test_block.ensures.blocks
 
 pub returns-clause-blocks : goal.returns-clause-blocks
 returns-clause-blocks g c =
     let width = c.of_block-width.ensures ∙ sym (width_named c.args.self.widths c.args.j (c.requires.readable.names c.args.j c.requires.block)) in
-    subst (λ (w : ℕ). c.test_block.new.work.blocks ≡ min (c.args.work.now.blocks + cond (is_decided c.args.test.ptype w (passes c.args.test.range)) 0 1) 18446744073709551615) width c.test_block.ensures.blocks
+    let test = c.of_block-test.result in
+    counted_by c.test_block.new.work.blocks c.args.work.now.blocks c.of_block-width.result _ test.ptype c.args.tests.test.ptype (passes test.range) (passes_in c.args.tests c.args.j) c.of_block-test.ensures.typed c.of_block-test.ensures.sums width c.test_block.ensures.blocks
 
 pub returns-clause-before : goal.returns-clause-before
 returns-clause-before g c p h = rw (c.in_ok-extend_from_slice.ensures.items) (bit_before c.args.words.now.items _ c.args.j p c.requires.begun h)
@@ -38,8 +50,16 @@ returns-clause-part g c p low high =
     let blocks = blocks_of c.args.self.widths in
     let width = c.of_block-width.ensures ∙ sym (width_named c.args.self.widths c.args.j (c.requires.readable.names c.args.j c.requires.block)) in
     let q = p - 1024 * c.args.j in
-    rw (c.in_ok-extend_from_slice.ensures.items) (bit_added c.args.words.now.items _ c.args.j p c.requires.begun low ∙ (c.test_block.ensures.bits q (omega arith)
-    ∙ ap (passes c.args.test.range) (item_read c.args.test.ptype blocks c.args.self.packed.now c.block_at-block.result.now c.args.j c.args.start c.of_block-width.result q p _ c.requires.start width c.block_at-block.ensures.bytes (omega arith) (omega arith) refl)))
+    let tests = c.args.tests in
+    let test = c.of_block-test.result in
+    let block = c.block_at-block.result.now in
+    rw (c.in_ok-extend_from_slice.ensures.items)
+    (answered_in tests blocks c.args.self.packed.now c.args.j q p _ (omega arith) (omega arith)
+    (bit_added c.args.words.now.items _ c.args.j p c.requires.begun low
+    ∙ (c.test_block.ensures.bits q (omega arith)
+    ∙ (c.of_block-test.ensures.sums (block_item test.ptype c.of_block-width.result block q)
+    ∙ (ap (λ t. passes_in tests c.args.j (block_item t c.of_block-width.result block q)) c.of_block-test.ensures.typed
+    ∙ ap (passes_in tests c.args.j) (item_read tests.test.ptype blocks c.args.self.packed.now block c.args.j c.args.start c.of_block-width.result q p _ c.requires.start width c.block_at-block.ensures.bytes (omega arith) (omega arith) refl))))))
 
 pub returns-clause-next : goal.returns-clause-next
 returns-clause-next g c =

@@ -16,7 +16,7 @@ returns-clause-bits g c i h =
     answers_placed T lanes c.args.width (g.W.FastLanes.pattern c.args.low) (g.W.FastLanes.pattern c.args.span) word c.unpack_cmp_bytes.new.bits c.transpose_bits.new.output g.met.W.FastLanes.shape
     (λ r l p q.
     let item = item_of_row T lanes c.args.width word r l in
-    let found = g.met.W.OrderedWord.word_law item (item_small T lanes c.args.width word r l c.requires.width) in
+    let found = g.met.W.FastLanes.each_number item (item_small T lanes c.args.width word r l c.requires.width) in
     let e = c.unpack_cmp_bytes.ensures.bits r l p q found.0 found.1 in
     let answer : has_bit c.unpack_cmp_bytes.new.bits (l * T + r) ≡ in_range T (g.W.FastLanes.pattern c.args.low) (g.W.FastLanes.pattern c.args.span) (g.W.FastLanes.pattern found.0) = search rules in
     rw found.1 at answer)

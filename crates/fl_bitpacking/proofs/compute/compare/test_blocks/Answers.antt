@@ -2,13 +2,13 @@ use Rattle.std.proofs.Common.{◌+◌, ◌*◌, ◌∙◌, inl, inr, refl, sym, 
 use Rattle.std.proofs.lemmas.Bool.{cases_lt}
 use Rattle.fl_bitpacking.specs.Blocks.{blocks_of}
 use Rattle.fl_bitpacking.specs.Parts.{blocks_in}
-use Rattle.fl_bitpacking.specs.RangeTests.{passes}
+use Rattle.fl_bitpacking.specs.Compared.{passes_in}
 use Rattle.fl_bitpacking.proofs.ComparedLaws.{undecided_more, undecided_none, undecided_within}
 use Rattle.fl_bitpacking.proofs.compute.compare.test_blocks.Goals as goal
 
 pub loop-j-init : goal.loop-j-init
 loop-j-init g c =
-    let none = undecided_none c.args.test.ptype (blocks_of c.args.blocks.widths) (passes c.args.test.range) in
+    let none = undecided_none c.args.tests.test.ptype (blocks_of c.args.blocks.widths) (passes_in c.args.tests) in
     let fits = c.prove_count_fits.ensures in
     let empty = c.in_ok-words.ensures.items in
     record {
@@ -22,7 +22,7 @@ loop-j-init g c =
 pub loop-j-preserved : goal.loop-j-preserved
 loop-j-preserved g c =
     let j = c.loop-j.j in
-    let more = undecided_more c.args.test.ptype (blocks_of c.args.blocks.widths) (passes c.args.test.range) j in
+    let more = undecided_more c.args.tests.test.ptype (blocks_of c.args.blocks.widths) (passes_in c.args.tests) j in
     let counted = c.loop-j.invariant.blocks in
     let counts = c.push_answers.ensures.blocks in
     let read = c.loop-j.invariant.words in
@@ -41,9 +41,9 @@ loop-j-preserved g c =
 pub returns-in_err-start-clause-most : goal.returns-in_err-start-clause-most
 returns-in_err-start-clause-most g c =
     let blocks = blocks_of c.args.blocks.widths in
-    let test = passes c.args.test.range in
-    let more = undecided_more c.args.test.ptype blocks test c.loop-j.j in
-    let within = undecided_within c.args.test.ptype blocks test (c.loop-j.j + 1) (blocks_in c.args.blocks) (omega arith) in
+    let test = passes_in c.args.tests in
+    let more = undecided_more c.args.tests.test.ptype blocks test c.loop-j.j in
+    let within = undecided_within c.args.tests.test.ptype blocks test (c.loop-j.j + 1) (blocks_in c.args.blocks) (omega arith) in
     let counted = c.loop-j.invariant.blocks in
     let counts = c.push_answers.ensures.blocks in
     omega arith

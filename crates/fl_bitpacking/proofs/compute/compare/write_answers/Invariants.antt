@@ -1,6 +1,6 @@
-use Rattle.std.proofs.Common.{◌≡◌, ℕ, ◌+◌, ◌<◌, false, length, get_or, map, option_map, unsigned_abs, unwrap_or}
+use Rattle.std.proofs.Common.{◌≡◌, ℕ, ◌+◌, ◌/◌, ◌<◌, false, length, get_or, map, option_map, unsigned_abs, unwrap_or}
 use Rattle.fl_patches.specs.PatchMaps.{rank_of}
-use Rattle.fl_bitpacking.specs.RangeTests.{passes}
+use Rattle.fl_bitpacking.specs.Compared.{passes_in}
 use Rattle.fl_bitpacking.proofs.FoundBelow.{found_below}
 use Rattle.fl_bitpacking.proofs.compute.compare.write_answers.Given as goal
 
@@ -8,5 +8,5 @@ use Rattle.fl_bitpacking.proofs.compute.compare.write_answers.Given as goal
 abbrev pub invariant-loop-k : goal.invariant-loop-k
 invariant-loop-k g l = record {
   whole : length l.bits ≡ length l.initial.bits;
-  put : (i : ℕ) → i < length l.bits → get_or l.bits i false ≡ unwrap_or (option_map (passes l.test.range) (found_below (map g.T.Number.value l.values) l.k (rank_of (l.offset + i) (map unsigned_abs (map g.I.Number.value l.indices))))) (get_or l.initial.bits i false);
+  put : (i : ℕ) → i < length l.bits → get_or l.bits i false ≡ unwrap_or (option_map (passes_in l.tests ((l.first + i) / 1024)) (found_below (map g.T.Number.value l.values) l.k (rank_of (l.offset + i) (map unsigned_abs (map g.I.Number.value l.indices))))) (get_or l.initial.bits i false);
 }

@@ -43,7 +43,7 @@ returns-clause-global c =
     let p = c.args.self.now in
     let same : c.in_ok-sliced.sliced ≡ sliced_parts (128 * c.args.width * first_block p.offset c.args.start) (128 * c.args.width * end_block p.offset c.args.end) c.args.start c.args.end p =
     ok_same _ _ c.in_ok-sliced.ensures.parts ∙ global_bytes p c.args.width c.args.start c.args.end _ _ c.first_block.ensures c.end_block.ensures in
-    let fit = subst AreConsistent same c.prove_well_formed.ensures in
+    let fit = subst AreConsistent same c.parts_are_consistent.ensures in
     let holds : BitPackedParts → Type 0 = λ q. global_refusal q c.args.width ≡ None in
     subst holds (sym same) (no_global_refusal _ c.args.width (global_slice p c.args.width c.args.start c.args.end (are_global p c.args.width c.requires.global) c.requires.order c.requires.range fit))
 

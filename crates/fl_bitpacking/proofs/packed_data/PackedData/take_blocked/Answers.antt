@@ -10,4 +10,4 @@ use Rattle.fl_bitpacking.proofs.packed_data.PackedData.take_blocked.Goals as goa
 pub returns-clause-column : goal.returns-clause-column
 returns-clause-column c =
     let by : BitPackedParts → Type 0 = λ parts. Answers column_of_primitive c.take_blocked.result (take_column (column_of_primitive c.args.indices.now) (column_of_packed parts (boundary_blocks (numbers c.args.boundaries.now)))) in
-    subst by c.column.ensures c.take_blocked.ensures.column
+    subst by c.column.ensures.parts c.take_blocked.ensures.column

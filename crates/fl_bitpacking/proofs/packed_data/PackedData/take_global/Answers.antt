@@ -9,4 +9,4 @@ use Rattle.fl_bitpacking.proofs.packed_data.PackedData.take_global.Goals as goal
 pub returns : goal.returns
 returns c =
     let by : BitPackedParts → Type 0 = λ parts. Answers column_of_primitive c.take_global.result (take_column (column_of_primitive c.args.indices.now) (column_of_packed parts (global_blocks c.args.width))) in
-    subst by c.column.ensures c.take_global.ensures
+    subst by c.column.ensures.parts c.take_global.ensures

@@ -11,4 +11,4 @@ pub returns-clause-column : goal.returns-clause-column
 returns-clause-column c =
     let by : Column → Type 0 = λ x. Answers column_of_primitive c.take_named.result (take_column (column_of_primitive c.args.indices.now) x) in
     let of_parts : BitPackedParts → Type 0 = λ parts. by (column_of_packed parts (global_blocks 0)) in
-    subst by (equal_column c.args.self.now c.args.boundaries.now) (subst of_parts c.column.ensures c.take_named.ensures.column)
+    subst by (equal_column c.args.self.now c.args.boundaries.now) (subst of_parts c.column.ensures.parts c.take_named.ensures.column)

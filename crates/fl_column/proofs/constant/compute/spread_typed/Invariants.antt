@@ -1,4 +1,4 @@
-use Rattle.std.proofs.Common.{◌≡◌, map, take, length, option_map, option_and_then}
+use Rattle.std.proofs.Common.{◌≡◌, map, take, option_map, option_and_then}
 use Rattle.fl_column.proofs.constant.compute.spread_typed.Given as goal
 
 -- the items so far

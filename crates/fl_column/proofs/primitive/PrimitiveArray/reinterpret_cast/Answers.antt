@@ -8,7 +8,7 @@ use Rattle.fl_column.proofs.primitive.PrimitiveArray.reinterpret_cast.Goals as g
 pub returns-then-eq : goal.returns-then-eq
 returns-then-eq c =
     let same : c.args.self.ptype ≡ c.args.ptype = search rules in
-    ap (λ p. Ok p) (sym (reread_same c.args.self c.args.ptype same c.prove_in_range.ensures.slots))
+    ap (λ p. Ok p) (sym (reread_same c.args.self c.args.ptype same c.stored_integers_are_in_range.ensures.slots))
 
 pub from_buffer-requires : goal.from_buffer-requires
 from_buffer-requires c = rw (c.in_ok-reinterpret_slots.ensures.slots, length-map, c.into_parts-slots.ensures.slots, c.into_parts-slots.ensures.validity) c.into_parts-slots.ensures.covers

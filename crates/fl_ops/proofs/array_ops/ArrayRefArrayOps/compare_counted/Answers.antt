@@ -1,8 +1,6 @@
-use Rattle.std.proofs.Common.{sym}
-use Rattle.fl_bitpacking.specs.RangeTests.{passes}
-use Rattle.fl_ops.proofs.ComparedLaws.{not_packed}
 use Rattle.fl_ops.proofs.array_ops.ArrayRefArrayOps.compare_counted.Goals as goal
 
 pub returns-in_ok-answers-in-None-clause-work : goal.returns-in_ok-answers-in-None-clause-work
 returns-in_ok-answers-in-None-clause-work c =
-    rw c.integer_for-integer.ensures.value at (c.encoded_comparison.ensures.work c.new.result (not_packed c.encoded_comparison.result.0.now (passes c.encoded_comparison.result.1) c.new.result c.encoded_comparison.ensures.inner (sym c.in-None.ensures.parts)))
+    let none = rw c.in-None.is at c.in_ok-answers.ensures.none in
+    rw c.integer_for-integer.ensures.value at (c.encoded_comparison.ensures.work c.new.result (none c.new.result))

@@ -11,27 +11,27 @@ use Rattle.fl_types.proofs.Refused.{no_value, no_memory_there}
 use Rattle.fl_patches.proofs.patches.Patches.filter.Goals as goal
 
 pub find_by_mask-requires-clause-first : goal.find_by_mask-requires-clause-first
-find_by_mask-requires-clause-first c = let p = c.args.self.now in rw (c.offset.ensures, c.indices.ensures) (none_before p (sound p c.prove_well_formed.ensures))
+find_by_mask-requires-clause-first c = let p = c.args.self.now in rw (c.offset.ensures, c.indices.ensures.indices) (none_before p (sound p c.indices.ensures.accepted))
 
 pub find_by_mask-requires-clause-last : goal.find_by_mask-requires-clause-last
-find_by_mask-requires-clause-last c = let p = c.args.self.now in rw (c.offset.ensures, c.indices.ensures, c.requires) (all_before p (sound p c.prove_well_formed.ensures))
+find_by_mask-requires-clause-last c = let p = c.args.self.now in rw (c.offset.ensures, c.indices.ensures.indices, c.requires) (all_before p (sound p c.indices.ensures.accepted))
 
 pub finish-requires : goal.finish-requires
 finish-requires c =
     let p = c.args.self.now in
     let f = c.in_ok-found.found in
     let positions = kept_positions c.args.mask.now p.array_len in
-    let found : AreFound f.places.items f.ranks.items (ranks_at p.offset (numbers p.indices) (map (λ i. Some i) positions)) = rw (c.offset.ensures, c.indices.ensures, c.requires) at c.in_ok-found.ensures.found in
+    let found : AreFound f.places.items f.ranks.items (ranks_at p.offset (numbers p.indices) (map (λ i. Some i) positions)) = rw (c.offset.ensures, c.indices.ensures.indices, c.requires) at c.in_ok-found.ensures.found in
     let len : c.in_ok-found.len ≡ length (map (λ i. Some i) positions) = (rw c.requires at c.in_ok-found.ensures.len) ∙ sym (length-map positions _) in
     let of_values : PrimitiveParts → Type 0 = λ v. AreOrdered f.places.items f.ranks.items c.in_ok-found.len (length v.slots) in
-    subst of_values (sym c.values.ensures) (found_in_order p (map (λ i. Some i) positions) f.places.items f.ranks.items c.in_ok-found.len (sound p c.prove_well_formed.ensures) found len)
+    subst of_values (sym c.values.ensures) (found_in_order p (map (λ i. Some i) positions) f.places.items f.ranks.items c.in_ok-found.len (sound p c.indices.ensures.accepted) found len)
 
 pub returns-clause-parts : goal.returns-clause-parts
 returns-clause-parts c =
     let p = c.args.self.now in
     let f = c.in_ok-found.found in
     let positions = kept_positions c.args.mask.now p.array_len in
-    let found : AreFound f.places.items f.ranks.items (ranks_at p.offset (numbers p.indices) (map (λ i. Some i) positions)) = rw (c.offset.ensures, c.indices.ensures, c.requires) at c.in_ok-found.ensures.found in
+    let found : AreFound f.places.items f.ranks.items (ranks_at p.offset (numbers p.indices) (map (λ i. Some i) positions)) = rw (c.offset.ensures, c.indices.ensures.indices, c.requires) at c.in_ok-found.ensures.found in
     let len : c.in_ok-found.len ≡ length (map (λ i. Some i) positions) = (rw c.requires at c.in_ok-found.ensures.len) ∙ sym (length-map positions _) in
     let of_values : PrimitiveParts → Type 0 = λ v. Answers (λ o. o) c.finish.result (Ok (patches_at c.in_ok-found.len v.ptype (nullability_of v.validity) f.places.items (map (λ rank. get_or v.slots rank (pos 0)) f.ranks.items))) in
     let of_patches : Option PatchesParts → Type 0 = λ o. Answers (λ o'. o') c.finish.result (Ok o) in

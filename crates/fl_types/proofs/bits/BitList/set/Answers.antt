@@ -1,4 +1,4 @@
-use Rattle.std.proofs.Common.{◌≡◌, ◌<◌, length, ap, sym, ◌∙◌, arith}
+use Rattle.std.proofs.Common.{◌≡◌, length, ap, sym, ◌∙◌, arith}
 use Rattle.fl_types.proofs.BitLists.{length_first_bits}
 use Rattle.fl_types.proofs.MovedBits.{bits_put}
 use Rattle.fl_types.proofs.bits.BitList.set.Goals as goal

@@ -1,12 +1,18 @@
-use Rattle.std.proofs.Common.{◌-◌, ◌+◌, false, rules, get_or}
-use Rattle.std.proofs.lemmas.Option.{get_or_from_slice_get}
-use Rattle.std.proofs.lemmas.Result.{IfOk-weaker}
-use Rattle.fl_types.proofs.BitLists.{table_between, answered}
+use Rattle.std.proofs.Common.{◌≡◌, length, ap, sym, ◌∙◌, arith}
+use Rattle.fl_types.proofs.BitLists.{length_first_bits}
+use Rattle.fl_types.proofs.WordBits.{part_of_bits}
+use Rattle.std.proofs.Common.{Ok}
 use Rattle.fl_types.proofs.bits.BitList.slice.Goals as goal
+
+pub words_from-requires-clause-room : goal.words_from-requires-clause-room
+words_from-requires-clause-room c =
+    let long : length c.args.self.now ≡ c.self.inside.len = ap length (sym c.self.view_is) ∙ length_first_bits c.self.inside.words.items c.self.inside.len in
+    let count = c.self.invariant in
+    rw c.as_slice.ensures.value (omega arith)
 
 pub returns : goal.returns
 returns c =
-    let bits = c.args.self.now in
-    let start = c.args.start in
-    let end = c.args.end in
-    rw (← (table_between bits start end false c.requires.order c.requires.range)) (answered (λ i. get_or bits (start + i) false) (end - start) c.from_fn.result c.from_fn.ensures.len (IfOk-weaker c.from_fn.result _ _ (λ b h i k. let e = h i k in search (rules, get_or_from_slice_get)) c.from_fn.ensures.bits) c.from_fn.ensures.memory)
+    let words = c.self.inside.words.items in
+    let long : length c.args.self.now ≡ c.self.inside.len = ap length (sym c.self.view_is) ∙ length_first_bits words c.self.inside.len in
+    let bits = rw c.as_slice.ensures.value at c.in_ok-words.ensures.bits in
+    ap Ok (rw (← c.self.view_is) (part_of_bits words c.in_ok-words.words.items c.self.inside.len c.args.start c.args.end c.requires.order (omega arith) bits))

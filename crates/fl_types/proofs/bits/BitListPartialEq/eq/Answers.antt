@@ -1,28 +1,17 @@
-use Rattle.std.proofs.Common.{◌≡◌, ◌+◌, Bool, true, false, not, ◌&&◌, drop, refl, sym, ap, ◌∙◌}
-use Rattle.std.specs.Bool.{beq}
-use Rattle.std.specs.Cmp.Lexicographic.{pointwise}
-use Rattle.fl_types.proofs.BitLists.{equal_from}
+use Rattle.std.proofs.Common.{◌≢◌, ◌*◌, sym, arith}
+use Rattle.fl_types.proofs.WordBits.{unequal_word, equal_word, equal_bits}
 use Rattle.fl_types.proofs.bits.BitListPartialEq.eq.Goals as goal
 
-twice : (b : Bool) → b ≡ not (not b)
-twice true = refl
-twice false = refl
+pub returns-then-word : goal.returns-then-word
+returns-then-word c =
+    let differ : c.word.result ≢ c.word-in-loop-k.result = omega arith in
+    sym (unequal_word c.args.self.now c.args.other.now c.loop-k.k c.word.result c.word-in-loop-k.result (omega arith) (omega arith) c.word.ensures c.word-in-loop-k.ensures differ)
 
-pub returns-then-get : goal.returns-then-get
-returns-then-get c =
-    let xs = c.args.self.now in
-    let ys = c.args.other.now in
-    let i = c.loop-i.i in
-    let here = equal_from xs ys i c.get.result c.get-in-loop-i.result c.get.ensures c.get-in-loop-i.ensures in
-    sym (sym c.loop-i.invariant.rest ∙ here ∙ ap (λ b. b && pointwise beq (drop (i + 1) xs) (drop (i + 1) ys)) (twice (beq c.get.result c.get-in-loop-i.result) ∙ ap not c.if-get.true))
+pub loop-k-preserved : goal.loop-k-preserved
+loop-k-preserved c = record {
+  same_length = c.loop-k.invariant.same_length;
+  same = equal_word c.args.self.now c.args.other.now c.loop-k.k c.word.result c.word-in-loop-k.result c.word.ensures c.word-in-loop-k.ensures (omega arith) c.loop-k.invariant.same;
+}
 
-pub loop-i-preserved : goal.loop-i-preserved
-loop-i-preserved c =
-    let xs = c.args.self.now in
-    let ys = c.args.other.now in
-    let i = c.loop-i.i in
-    let here = equal_from xs ys i c.get.result c.get-in-loop-i.result c.get.ensures c.get-in-loop-i.ensures in
-    record {
-      same_length = c.loop-i.invariant.same_length;
-      rest = sym (ap (λ b. b && pointwise beq (drop (i + 1) xs) (drop (i + 1) ys)) (twice (beq c.get.result c.get-in-loop-i.result) ∙ ap not c.if-get.false)) ∙ sym here ∙ c.loop-i.invariant.rest;
-    }
+pub returns : goal.returns
+returns c = sym (equal_bits c.args.self.now c.args.other.now (64 * c.loop-k.k) c.loop-k.invariant.same_length (omega arith) c.loop-k.invariant.same)

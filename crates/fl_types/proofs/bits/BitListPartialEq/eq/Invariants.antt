@@ -1,12 +1,9 @@
-use Rattle.std.proofs.Common.{◌≡◌, length}
-use Rattle.std.proofs.Math.ListN.{drop}
-use Rattle.std.specs.Bool.{beq}
-use Rattle.std.specs.Cmp.Lexicographic.{pointwise}
+use Rattle.std.proofs.Common.{◌≡◌, ℕ, ◌*◌, ◌<◌, length, get_or, false}
 use Rattle.fl_types.proofs.bits.BitListPartialEq.eq.Given as goal
 
--- the bits from i on decide
-abbrev pub invariant-loop-i : goal.invariant-loop-i
-invariant-loop-i l = record {
+-- the words so far are equal
+abbrev pub invariant-loop-k : goal.invariant-loop-k
+invariant-loop-k l = record {
   same_length : length l.self ≡ length l.other;
-  rest : pointwise beq (drop l.i l.self) (drop l.i l.other) ≡ pointwise beq l.self l.other;
+  same : (i : ℕ) → i < 64 * l.k → get_or l.self i false ≡ get_or l.other i false;
 }

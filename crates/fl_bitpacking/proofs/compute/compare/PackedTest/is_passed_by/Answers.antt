@@ -10,4 +10,4 @@ returns g c =
     let z = g.T.Number.value c.args.item in
     let is : c.pattern.result ≡ pattern_of c.args.self.ptype (g.T.Number.value c.args.item) = c.pattern.ensures ∙ ap (λ t. pattern_of t z) (sym c.requires.typed) in
     c.is_passed_by.ensures
-    ∙ tested_by ptype c.args.self.range c.args.self.patterns c.pattern.result z c.requires.test.patterns (rw is (pattern_small ptype z)) (ap (read_as ptype) is ∙ read_as-pattern_of ptype z (rw c.requires.typed c.prove_in_range.ensures))
+    ∙ tested_by ptype c.args.self.range c.args.self.patterns c.pattern.result z c.requires.test.patterns (rw is (pattern_small ptype z)) (ap (read_as ptype) is ∙ read_as-pattern_of ptype z (rw c.requires.typed c.integer_is_in_range.ensures))

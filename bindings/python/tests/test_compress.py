@@ -1,0 +1,80 @@
+"""No scheme that `compress` chooses from takes fewer bytes: small columns are encoded by many of them and measured."""
+import random
+import unittest
+from array import array
+
+import flcol
+
+PLAIN = ["primitive", "constant"]
+PACKED = [*PLAIN, "bitpacked", "blocked"]
+
+
+def framed(own, children):
+    """Those, and frames of reference over these children."""
+    yield from own
+    for one, many in (("for", "forc"), ("forw", "forcw")):
+        yield from (f"{one}({child})" for child in children)
+        yield from (f"{many}({child},{references})" for child in children for references in children)
+
+
+def with_deltas(own, children):
+    """Those, and deltas over two of these children."""
+    yield from own
+    yield from (f"delta({bases},{deltas})" for bases in children for deltas in children)
+
+
+FRAMED = [list(framed(PACKED, PLAIN)), list(framed(PACKED, PACKED))]
+DELTAS = [list(with_deltas(FRAMED[1], FRAMED[0])), list(with_deltas(FRAMED[1], FRAMED[1]))]
+
+
+def schemes(chance, count):
+    """The schemes of one level of frames, and so many deeper ones."""
+    yield from FRAMED[1]
+    yield from chance.sample(DELTAS[1], count)
+    for _ in range(count):
+        yield f"rle({chance.choice(DELTAS[0])},{chance.choice(FRAMED[1])},{chance.choice(FRAMED[1])})"
+
+
+def columns(chance):
+    yield array("I", [chance.randrange(100) for _ in range(1500)])
+    yield array("q", [chance.randrange(-50, 50) for _ in range(1100)])
+    yield array("Q", [10**12 + 7 * i + chance.randrange(5) for i in range(2100)])
+    yield array("h", sorted(chance.randrange(-3000, 3000) for _ in range(1024)))
+    yield array("B", [i // 100 for i in range(2048)])
+    yield array("Q", [chance.getrandbits(64) for _ in range(1300)])
+    yield array("I", [(chance.randrange(9) - 4) % 2**32 for _ in range(1030)])
+
+
+def size_of(plain, scheme):
+    """The bytes by a scheme, none where it is refused."""
+    try:
+        return plain.encode(scheme).nbytes
+    except flcol.Error:
+        return None
+
+
+class Compress(unittest.TestCase):
+    def test_no_scheme_is_smaller(self):
+        chance = random.Random(5)
+        for items in columns(chance):
+            plain = flcol.array(items)
+            least = plain.compress().nbytes
+            sizes = [size for scheme in schemes(chance, 200) if (size := size_of(plain, scheme)) is not None]
+            with self.subTest(typecode=items.typecode, items=len(items)):
+                self.assertLessEqual(least, min(sizes))
+                self.assertLessEqual(least, len(items) * items.itemsize)
+
+    def test_random_items_of_all_bits_stay_plain(self):
+        chance = random.Random(6)
+        items = array("Q", [chance.getrandbits(64) for _ in range(5120)])
+        self.assertEqual(flcol.array(items).compress().nbytes, 8 * len(items))
+
+    def test_random_items_of_fewer_bits_are_packed(self):
+        chance = random.Random(7)
+        for bits in (63, 40, 17):
+            items = array("Q", [chance.getrandbits(bits) for _ in range(5120)])
+            self.assertEqual(flcol.array(items).compress().nbytes, 128 * bits * 5)
+
+
+if __name__ == "__main__":
+    unittest.main()

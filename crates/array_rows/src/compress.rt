@@ -1,0 +1,45 @@
+//! The smallest of all nestings.
+
+use crate::answer_built;
+use fl_compress::{Limits, compress_within};
+use fl_serde::nbytes;
+use row_reader::asked::Asked;
+use row_reader::columns::width_of;
+use row_reader::text::Text;
+
+/// The limits of a depth, without the encodings that these words leave out.
+fn limits_of(depth: &str, left_out: &[&str]) -> Limits {
+    let mut limits = Limits::default();
+    limits.depth = width_of(depth);
+    for word in left_out {
+        match *word {
+            "-constant" => limits.constant = false,
+            "-bitpacked" => limits.bitpacked = false,
+            "-for" => limits.for_ = false,
+            "-delta" => limits.delta = false,
+            "-rle" => limits.rle = false,
+            _ => {}
+        }
+    }
+    limits
+}
+
+/// Answers the kind of what the first column is compressed to, its bytes, and whether it is back.
+fn show(asked: Asked, limits: &Limits, answer: &mut Text) {
+    let compressed = compress_within(asked.alloc, asked.column(0), limits);
+    answer_built(asked.with_words(&["kind"]), &compressed, 0, answer);
+    if let Ok(array) = &compressed {
+        answer.count(nbytes(array) as usize);
+    }
+    answer_built(asked.with_words(&["back"]), &compressed, 0, answer);
+}
+
+/// Answers a question about the smallest array that the encodings within limits make of a column.
+pub(crate) fn ask(asked: Asked, answer: &mut Text) -> bool {
+    if asked.word(0) != "compress" {
+        return false;
+    }
+    let limits = limits_of(asked.word(1), asked.words_from(2));
+    show(asked, &limits, answer);
+    true
+}

@@ -1,0 +1,37 @@
+//! Rows of columns and their encodings, of messages and of containers.
+//!
+//! Each subject has a function `ask`, which answers the questions that it knows, and says whether a row's is one.
+#![tactic(auto)]
+
+pub mod bits;
+mod blocks;
+mod containers;
+mod deltas;
+mod for_;
+mod gathering;
+mod messages;
+pub mod patches;
+pub mod plain;
+mod runs;
+pub mod types;
+pub mod widths;
+
+pub use crate::containers::{bytes_of, frames_of};
+use row_reader::asked::Asked;
+use row_reader::text::Text;
+
+/// Answers a question of columns or of their encodings, of messages or of containers, if it is one.
+pub fn ask(asked: Asked, answer: &mut Text) -> bool {
+    bits::ask(asked, answer)
+        || types::ask(asked, answer)
+        || for_::ask(asked, answer)
+        || deltas::ask(asked, answer)
+        || runs::ask(asked, answer)
+        || widths::ask(asked, answer)
+        || gathering::ask(asked, answer)
+        || patches::ask(asked, answer)
+        || blocks::ask(asked, answer)
+        || plain::ask(asked, answer)
+        || messages::ask(asked, answer)
+        || containers::ask(asked, answer)
+}

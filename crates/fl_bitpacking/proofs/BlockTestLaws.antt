@@ -1,0 +1,74 @@
+-- The tests of blocks, each with the reference of its block.
+use Rattle.std.proofs.Common.{◌≡◌, ℕ, ℤ, pos, ◌+◌, ◌+ℤ◌, ◌*◌, ◌/◌, ◌<◌, ◌≤◌, Bool, List, cond, eqb, get_or, min, Option, Some, None, option_map, unwrap_or, ap, sym, ◌∙◌, arith}
+use Rattle.std.specs.Option.{option_copied}
+use Rattle.fl_types.specs.declared.dtype.PType.{PType}
+use Rattle.fl_types.specs.Integers.{wrap}
+use Rattle.fl_column.specs.Columns.{PrimitiveParts}
+use Rattle.fl_patches.specs.PatchMaps.{patched_in}
+use Rattle.fl_bitpacking.specs.declared.compute.compare.block_tests.BlockTests.{BlockTests}
+use Rattle.fl_bitpacking.specs.declared.compute.range_test.RangeTest.{RangeTest}
+use Rattle.fl_bitpacking.specs.Blocks.{Blocks, item_of_blocks}
+use Rattle.fl_bitpacking.specs.Columns.{BitPackedParts, block_count, stored}
+use Rattle.fl_bitpacking.specs.Compared.{AreBlockTests, answer_at, passes_in}
+use Rattle.fl_bitpacking.specs.Decided.{is_decided, undecided_below, undecided_by_block}
+use Rattle.fl_bitpacking.specs.RangeTests.{passes}
+use Rattle.fl_bitpacking.specs.References.{AreBlockReferences, of_sum_if_some}
+use Rattle.fl_bitpacking.proofs.ComparedLaws.{answer_or}
+use Rattle.fl_bitpacking.proofs.UndecidedLaws.{decided_alike}
+
+references_of_fewer : (ptype : PType) (n k : ℕ) (references : Option PrimitiveParts) → k ≤ n → AreBlockReferences ptype n references → AreBlockReferences ptype k references
+references_of_fewer ptype n k None le are = are
+references_of_fewer ptype n k (Some references) le are = (are.0, let enough = are.1 in omega arith)
+
+-- the tests of these blocks are those of fewer
+pub tests_of_fewer : (n k : ℕ) (t : BlockTests) → k ≤ n → AreBlockTests n t → AreBlockTests k t
+tests_of_fewer n k t le are = record {
+  test = are.test;
+  references = references_of_fewer t.test.ptype n k (option_copied t.references) le are.references;
+}
+
+-- the test of block j
+pub passes_plain : (t : BlockTests) (j : ℕ) (z : ℤ) → option_copied t.references ≡ None → passes t.test.range z ≡ passes_in t j z
+unfolding passes_in
+passes_plain t j z none = ap (λ o. of_sum_if_some t.test.ptype o (passes t.test.range) j z) (sym none)
+
+pub passes_sum : (t : BlockTests) (references : PrimitiveParts) (j : ℕ) (z r : ℤ) → option_copied t.references ≡ Some references → r ≡ get_or references.slots j (pos 0) → passes t.test.range (wrap t.test.ptype (z +ℤ r)) ≡ passes_in t j z
+unfolding passes_in
+passes_sum t references j z r some is = ap (λ n. passes t.test.range (wrap t.test.ptype (z +ℤ n))) is ∙ ap (λ o. of_sum_if_some t.test.ptype o (passes t.test.range) j z) (sym some)
+
+-- the answer for an integer at a position of block j
+pub answered_in : (t : BlockTests) (blocks : Blocks) (bytes : List ℕ) (j q p : ℕ) (bit : Bool) → p ≡ 1024 * j + q → q < 1024 → bit ≡ passes_in t j (item_of_blocks t.test.ptype blocks bytes p) → bit ≡ answer_at t blocks bytes p
+unfolding answer_at
+answered_in t blocks bytes j q p bit is small read = let block : j ≡ p / 1024 = omega arith in read ∙ ap (λ (n : ℕ). passes_in t n (item_of_blocks t.test.ptype blocks bytes p)) block
+
+-- the tests of a column's blocks
+pub tests_are : (t : BlockTests) (ptype : PType) (references : Option PrimitiveParts) (range : RangeTest) → t.test.ptype ≡ ptype → t.test.range ≡ range → option_copied t.references ≡ references → passes_in t ≡ of_sum_if_some ptype references (passes range)
+unfolding passes_in
+tests_are t ptype references range typed same are =
+    let at : (j : ℕ) (z : ℤ) → passes_in t j z ≡ of_sum_if_some ptype references (passes range) j z =
+    λ j z. ap (λ p. of_sum_if_some p (option_copied t.references) (passes t.test.range) j z) typed ∙ (ap (λ o. of_sum_if_some ptype o (passes t.test.range) j z) are ∙ ap (λ r. of_sum_if_some ptype references (passes r) j z) same) in
+    λ i j z. at j z i
+
+-- the answer for an item of a column, which may be patched
+pub item_answered : (t : BlockTests) (test : ℕ → ℤ → Bool) (parts : BitPackedParts) (blocks : Blocks) (before bit : Bool) (i : ℕ) → t.test.ptype ≡ parts.ptype → passes_in t ≡ test
+    → bit ≡ unwrap_or (option_map (passes_in t ((parts.offset + i) / 1024)) (patched_in parts.patches i)) before → before ≡ answer_at t blocks parts.packed (parts.offset + i)
+    → bit ≡ test ((parts.offset + i) / 1024) (unwrap_or (patched_in parts.patches i) (stored parts blocks i))
+unfolding answer_at
+item_answered t test parts blocks before bit i typed same is read =
+    let j = (parts.offset + i) / 1024 in
+    let patch = patched_in parts.patches i in
+    is ∙ (ap (unwrap_or (option_map (passes_in t j) patch)) (read ∙ ap (λ p. passes_in t j (item_of_blocks p blocks parts.packed (parts.offset + i))) typed)
+    ∙ (answer_or (passes_in t j) patch (stored parts blocks i) ∙ ap (λ (f : ℕ → ℤ → Bool). f j (unwrap_or patch (stored parts blocks i))) same))
+
+-- whether a block is counted, by tests that answer alike
+pub counted_by : (n old width w : ℕ) (p q : PType) (f g : ℤ → Bool) → p ≡ q → ((z : ℤ) → f z ≡ g z) → width ≡ w
+    → n ≡ min (old + cond (is_decided p width f) 0 1) 18446744073709551615 → n ≡ min (old + cond (is_decided q w g) 0 1) 18446744073709551615
+counted_by n old width w p q f g typed same wide is =
+    is ∙ (ap (λ t. min (old + cond (is_decided t width f) 0 1) 18446744073709551615) typed ∙ (ap (λ b. min (old + cond b 0 1) 18446744073709551615) (decided_alike q width f g same)
+    ∙ ap (λ (k : ℕ). min (old + cond (is_decided q k g) 0 1) 18446744073709551615) wide))
+
+-- how many blocks of a column the tests leave undecided
+pub undecided_is : (t : BlockTests) (test : ℕ → ℤ → Bool) (parts : BitPackedParts) (blocks : Blocks) → t.test.ptype ≡ parts.ptype → passes_in t ≡ test
+    → cond (eqb parts.len 0) 0 (undecided_below t.test.ptype blocks (passes_in t) (block_count parts)) ≡ undecided_by_block parts blocks test
+undecided_is t test parts blocks typed same =
+    ap (λ p. cond (eqb parts.len 0) 0 (undecided_below p blocks (passes_in t) (block_count parts))) typed ∙ ap (λ (f : ℕ → ℤ → Bool). undecided_by_block parts blocks f) same

@@ -1,0 +1,123 @@
+-- Each candidate is one of those whose bytes statistics have.
+use Rattle.std.proofs.Common.{◌≡◌, ℕ, ◌-◌, ◌&&◌, Bool, true, false, List, [], ◌∷◌, map, IsTrue, refl}
+use Rattle.std.specs.Prelude.{flat_map}
+use Rattle.std.specs.List.{All}
+use Rattle.std.proofs.lemmas.List.Elements.{All-append, All-cons, All-head, All-map, All-nil, All-tail, All-weaker}
+use Rattle.fl_codec.specs.declared.for_.ItemOrder.TheVariants.{Natural, Signed}
+use Rattle.fl_encode.specs.declared.scheme.Packing.TheVariants.{BestWidth, BestWidths}
+use Rattle.fl_encode.specs.Shapes.{BitPacked, Constant, Delta, FoR, FoRChunked, FoRChunkedWrapped, FoRWrapped, Plain, Primitive, RLE, Shape}
+use Rattle.fl_compress.specs.declared.limits.Limits.{Limits}
+use Rattle.fl_compress.specs.Candidates.{candidates, delta_schemes, framed_schemes, has_level, over_deltas, over_frames, over_runs, packed_schemes, where_allowed, with_reference, with_references}
+use Rattle.fl_compress.specs.Statistics.{is_candidate, is_delta, is_framed, is_packed}
+
+-- ---- lists
+all_allowed : (P : Shape → Type 0) (allowed : Bool) (schemes : List Shape) → All P schemes → All P (where_allowed allowed schemes)
+all_allowed P true schemes all = all
+all_allowed P false schemes all = All-nil P
+
+all_pairs : {A B : Type 0} (X : A → Type 0) (Y : B → Type 0) (P : Shape → Type 0) (f : A → B → Shape) → ((x : A) (y : B) → X x → Y y → P (f x y)) → (xs : List A) (ys : List B) → All X xs → All Y ys → All P (flat_map (λ x. map (f x) ys) xs)
+all_pairs X Y P f each [] ys all others = All-nil P
+all_pairs X Y P f each (x ∷ xs) ys all others =
+    All-append P (map (f x) ys) (flat_map (λ x. map (f x) ys) xs)
+    (All-map P (f x) ys (All-weaker Y (λ y. P (f x y)) (λ y h. each x y (All-head X x xs all) h) ys others))
+    (all_pairs X Y P f each xs ys (All-tail X x xs all) others)
+
+all_threes : (X Y P : Shape → Type 0) (f : Shape → Shape → Shape → Shape) → ((x y z : Shape) → X x → Y y → Y z → P (f x y z)) → (xs ys : List Shape) → All X xs → All Y ys → All P (flat_map (λ x. flat_map (λ y. map (f x y) ys) ys) xs)
+all_threes X Y P f each [] ys all others = All-nil P
+all_threes X Y P f each (x ∷ xs) ys all others =
+    All-append P (flat_map (λ y. map (f x y) ys) ys) (flat_map (λ x. flat_map (λ y. map (f x y) ys) ys) xs)
+    (all_pairs Y Y P (f x) (λ y z h k. each x y z (All-head X x xs all) h k) ys ys others others)
+    (all_threes X Y P f each xs ys (All-tail X x xs all) others)
+
+both_true : (a b : Bool) → a ≡ true → b ≡ true → (a && b) ≡ true
+both_true true b e f = f
+both_true false b e f = cc
+
+-- ---- schemes
+abbrev IsPacked : Shape → Type 0
+IsPacked s = is_packed s ≡ true
+
+abbrev IsFramed : Shape → Type 0
+IsFramed s = is_framed s ≡ true
+
+abbrev IsDelta : Shape → Type 0
+IsDelta s = is_delta s ≡ true
+
+abbrev IsCandidate : Shape → Type 0
+IsCandidate s = is_candidate s ≡ true
+
+all_packed : (limits : Limits) (depth : ℕ) → All IsPacked (packed_schemes limits depth)
+unfolding packed_schemes
+all_packed limits depth =
+    All-cons IsPacked Primitive _ refl
+    (All-append IsPacked _ _ (all_allowed IsPacked limits.constant (Constant ∷ []) (All-cons IsPacked Constant [] refl (All-nil IsPacked)))
+    (all_allowed IsPacked (has_level limits.bitpacked depth) (BitPacked BestWidth ∷ BitPacked BestWidths ∷ []) (All-cons IsPacked (BitPacked BestWidth) (BitPacked BestWidths ∷ []) refl (All-cons IsPacked (BitPacked BestWidths) [] refl (All-nil IsPacked)))))
+
+packed_framed : (s : Shape) → IsPacked s → IsFramed s
+packed_framed Plain e = refl
+packed_framed Primitive e = refl
+packed_framed Constant e = refl
+packed_framed (BitPacked packing) e = e
+packed_framed (FoR encoded) e = cc
+packed_framed (FoRChunked encoded references) e = cc
+packed_framed (FoRWrapped encoded) e = cc
+packed_framed (FoRChunkedWrapped encoded references) e = cc
+packed_framed (Delta bases deltas) e = cc
+packed_framed (RLE values indices offsets) e = cc
+
+all_frames : (children : List Shape) → All IsPacked children → All IsFramed (over_frames children)
+all_frames children all =
+    All-append IsFramed _ _ (All-map IsFramed (with_reference Natural) children all)
+    (All-append IsFramed _ _ (all_pairs IsPacked IsPacked IsFramed (with_references Natural) (λ x y e f. both_true (is_packed x) (is_packed y) e f) children children all all)
+    (All-append IsFramed _ _ (All-map IsFramed (with_reference Signed) children all) (all_pairs IsPacked IsPacked IsFramed (with_references Signed) (λ x y e f. both_true (is_packed x) (is_packed y) e f) children children all all)))
+
+all_framed : (limits : Limits) (depth : ℕ) → All IsFramed (framed_schemes limits depth)
+unfolding framed_schemes
+all_framed limits depth =
+    All-append IsFramed _ _ (All-weaker IsPacked IsFramed packed_framed (packed_schemes limits depth) (all_packed limits depth))
+    (all_allowed IsFramed (has_level limits.for_ depth) (over_frames (packed_schemes limits (depth - 1))) (all_frames (packed_schemes limits (depth - 1)) (all_packed limits (depth - 1))))
+
+framed_delta : (s : Shape) → IsFramed s → IsDelta s
+framed_delta Plain e = refl
+framed_delta Primitive e = refl
+framed_delta Constant e = refl
+framed_delta (BitPacked packing) e = e
+framed_delta (FoR encoded) e = e
+framed_delta (FoRChunked encoded references) e = e
+framed_delta (FoRWrapped encoded) e = e
+framed_delta (FoRChunkedWrapped encoded references) e = e
+framed_delta (Delta bases deltas) e = cc
+framed_delta (RLE values indices offsets) e = cc
+
+all_deltas : (limits : Limits) (depth : ℕ) → All IsDelta (delta_schemes limits depth)
+unfolding delta_schemes
+all_deltas limits depth =
+    let children = framed_schemes limits (depth - 1) in
+    let all = all_framed limits (depth - 1) in
+    All-append IsDelta _ _ (All-weaker IsFramed IsDelta framed_delta (framed_schemes limits depth) (all_framed limits depth))
+    (all_allowed IsDelta (has_level limits.delta depth) (over_deltas children) (all_pairs IsFramed IsFramed IsDelta Delta (λ x y e f. both_true (is_framed x) (is_framed y) e f) children children all all))
+
+delta_candidate : (s : Shape) → IsDelta s → IsCandidate s
+unfolding is_candidate
+delta_candidate Plain e = refl
+delta_candidate Primitive e = refl
+delta_candidate Constant e = refl
+delta_candidate (BitPacked packing) e = e
+delta_candidate (FoR encoded) e = e
+delta_candidate (FoRChunked encoded references) e = e
+delta_candidate (FoRWrapped encoded) e = e
+delta_candidate (FoRChunkedWrapped encoded references) e = e
+delta_candidate (Delta bases deltas) e = e
+delta_candidate (RLE values indices offsets) e = cc
+
+run_candidate : (x y z : Shape) → IsDelta x → IsFramed y → IsFramed z → IsCandidate (RLE x y z)
+unfolding is_candidate
+run_candidate x y z e f g = both_true (is_delta x) (is_framed y && is_framed z) e (both_true (is_framed y) (is_framed z) f g)
+
+pub all_candidates : (limits : Limits) → All (λ s. IsTrue (is_candidate s)) (candidates limits)
+unfolding candidates
+all_candidates limits =
+    let values = delta_schemes limits (limits.depth - 1) in
+    let others = framed_schemes limits (limits.depth - 1) in
+    All-append IsCandidate _ _ (All-weaker IsDelta IsCandidate delta_candidate (delta_schemes limits limits.depth) (all_deltas limits limits.depth))
+    (all_allowed IsCandidate (has_level limits.rle limits.depth) (over_runs values others) (all_threes IsDelta IsFramed IsCandidate RLE run_candidate values others (all_deltas limits (limits.depth - 1)) (all_framed limits (limits.depth - 1))))

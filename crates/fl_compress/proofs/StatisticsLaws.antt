@@ -1,0 +1,137 @@
+-- What an array's statistics say of each candidate.
+use Rattle.std.proofs.Common.{◌≡◌, ℕ, ◌-◌, ◌^◌, ◌&&◌, Bool, true, false, length, min, Option, Some, None, Ok, Err, IsTrue, refl, ap, sym, ◌∙◌}
+use Rattle.std.specs.Prelude.{Result, if◌then◌else◌}
+use Rattle.fl_types.specs.declared.error.FastLanesError.{FastLanesError}
+use Rattle.fl_types.specs.declared.error.FastLanesError.TheVariants.{CastOutOfRange}
+use Rattle.fl_types.specs.declared.validity.Validity.{Validity}
+use Rattle.fl_column.specs.Columns.{PrimitiveParts, column_of_primitive}
+use Rattle.fl_column.specs.Questions.{are_constant}
+use Rattle.fl_array.specs.Trees.{Tree}
+use Rattle.fl_codec.specs.declared.for_.ItemOrder.TheVariants.{Natural, Signed}
+use Rattle.fl_codec.specs.Parts.{ByChunk, FoRParts, Nulls, OneReference, RunParts, Whole, compress_deltas, encode_chunked_by, encode_global_by, encode_runs}
+use Rattle.fl_encode.specs.declared.scheme.Packing.TheVariants.{BestWidth, BestWidths, Width}
+use Rattle.fl_encode.specs.declared.scheme.Scheme.{Scheme}
+use Rattle.fl_encode.specs.Encodings.{IsEncodedAs, encode_refusal}
+use Rattle.fl_encode.specs.Shapes.{BitPacked, Constant, Delta, FoR, FoRChunked, FoRChunkedWrapped, FoRWrapped, Plain, Primitive, RLE, Shape, shape}
+use Rattle.fl_serde.specs.ByteCounts.{tree_bytes, validity_bytes}
+use Rattle.fl_compress.specs.declared.statistics.DeltaSizes.{DeltaSizes}
+use Rattle.fl_compress.specs.declared.statistics.FramedSizes.{FramedSizes}
+use Rattle.fl_compress.specs.declared.statistics.Statistics.{Statistics}
+use Rattle.fl_compress.specs.Cheapest.{both}
+use Rattle.fl_compress.specs.EncodedBytes.{encoded_bytes, over_reference, over_references, unless}
+use Rattle.fl_compress.specs.Statistics.{capped, chunk_size, chunk_sizes, delta_size, delta_sizes, framed_size, framed_sizes, is_candidate, is_delta, is_framed, is_packed, packed_size, packed_sizes, reference_size, reference_sizes, size_in, statistics_of}
+use Rattle.fl_compress.proofs.AnswerLaws.{Gives, gives}
+use Rattle.fl_compress.proofs.MadeBytes.{made_bytes}
+
+-- ---- what is computed
+pub delta_sizes_are : (p bases deltas : PrimitiveParts) (framed b d : FramedSizes) (v : Validity) (own len : ℕ) → framed_sizes p ≡ framed → compress_deltas p ≡ (bases, deltas) → framed_sizes bases ≡ b → framed_sizes deltas ≡ d → own ≡ validity_bytes len v → len ≡ length p.slots → v ≡ p.validity
+    → Gives (delta_sizes p) (record { framed = framed; bases = b; deltas = d; validity = own })
+delta_sizes_are p bases deltas framed b d v own len e f g h o l w =
+    let all : FramedSizes → FramedSizes → FramedSizes → ℕ → DeltaSizes = λ first second third n. record { framed = first; bases = second; deltas = third; validity = n } in
+    let bytes : own ≡ validity_bytes (length p.slots) p.validity = o ∙ (ap (λ n. validity_bytes n v) l ∙ ap (validity_bytes (length p.slots)) w) in
+    gives _ _ (ap (λ x. all x (framed_sizes (compress_deltas p).0) (framed_sizes (compress_deltas p).1) (validity_bytes (length p.slots) p.validity)) e
+    ∙ (ap (λ (x : PrimitiveParts × PrimitiveParts). all framed (framed_sizes x.0) (framed_sizes x.1) (validity_bytes (length p.slots) p.validity)) f
+    ∙ (ap (λ x. all framed x (framed_sizes deltas) (validity_bytes (length p.slots) p.validity)) g
+    ∙ (ap (λ x. all framed b x (validity_bytes (length p.slots) p.validity)) h ∙ ap (all framed b d) (sym bytes)))))
+
+pub statistics_are : (p : PrimitiveParts) (runs : RunParts) (items values : DeltaSizes) (indices offsets : FramedSizes) → delta_sizes p ≡ items → encode_runs p ≡ runs → delta_sizes runs.values ≡ values → framed_sizes runs.indices ≡ indices → framed_sizes runs.offsets ≡ offsets
+    → Gives (statistics_of p) (record { items = items; values = values; indices = indices; offsets = offsets })
+unfolding statistics_of
+statistics_are p runs items values indices offsets e f g h o =
+    let all : DeltaSizes → DeltaSizes → FramedSizes → FramedSizes → Statistics = λ first second third last. record { items = first; values = second; indices = third; offsets = last } in
+    gives _ _ (ap (λ x. all x (delta_sizes (encode_runs p).values) (framed_sizes (encode_runs p).indices) (framed_sizes (encode_runs p).offsets)) e
+    ∙ (ap (λ (x : RunParts). all items (delta_sizes x.values) (framed_sizes x.indices) (framed_sizes x.offsets)) f
+    ∙ (ap (λ x. all items x (framed_sizes runs.indices) (framed_sizes runs.offsets)) g
+    ∙ (ap (λ x. all items values x (framed_sizes runs.offsets)) h ∙ ap (all items values indices) o))))
+
+-- ---- what is foreseen
+first_of : (a b : Bool) → (a && b) ≡ true → a ≡ true
+first_of true b e = refl
+first_of false b e = cc
+
+other_of : (a b : Bool) → (a && b) ≡ true → b ≡ true
+other_of true b e = e
+other_of false b e = cc
+
+constant_size : (same : Bool) → (if same then Some 0 else (let o : Option ℕ = None in o)) ≡ unless (if same then None else Some CastOutOfRange) 0
+constant_size true = refl
+constant_size false = refl
+
+packed_exact : (p : PrimitiveParts) (s : Shape) → is_packed s ≡ true → packed_size (packed_sizes p) s ≡ encoded_bytes p s
+unfolding encoded_bytes
+packed_exact p Plain e = refl
+packed_exact p Primitive e = refl
+packed_exact p Constant e = constant_size (are_constant (column_of_primitive p).items)
+packed_exact p (BitPacked BestWidth) e = refl
+packed_exact p (BitPacked (Width width)) e = cc
+packed_exact p (BitPacked BestWidths) e = refl
+packed_exact p (FoR encoded) e = cc
+packed_exact p (FoRChunked encoded references) e = cc
+packed_exact p (FoRWrapped encoded) e = cc
+packed_exact p (FoRChunkedWrapped encoded references) e = cc
+packed_exact p (Delta bases deltas) e = cc
+packed_exact p (RLE values indices offsets) e = cc
+
+reference_exact : (o : Result OneReference FastLanesError) (s : Shape) → is_packed s ≡ true → reference_size (reference_sizes o) s ≡ over_reference (λ q. encoded_bytes q s) o
+reference_exact (Ok parts) s e = packed_exact parts.child s e
+reference_exact (Err refusal) s e = refl
+
+both_same : (a b c d : Option ℕ) → a ≡ b → c ≡ d → both a c ≡ both b d
+both_same a b c d e f = ap (λ x. both x c) e ∙ ap (both b) f
+
+chunks_exact : (o : FoRParts) (s r : Shape) → (is_packed s && is_packed r) ≡ true → chunk_size (chunk_sizes o) s r ≡ over_references (λ q. encoded_bytes q s) (λ q. encoded_bytes q r) o
+chunks_exact (Whole parts) s r e = packed_exact parts.child s (first_of (is_packed s) (is_packed r) e)
+chunks_exact (ByChunk child others) s r e = both_same _ _ _ _ (packed_exact child s (first_of (is_packed s) (is_packed r) e)) (packed_exact others r (other_of (is_packed s) (is_packed r) e))
+chunks_exact (Nulls child reference) s r e = refl
+
+framed_exact : (p : PrimitiveParts) (s : Shape) → is_framed s ≡ true → framed_size (framed_sizes p) s ≡ encoded_bytes p s
+unfolding encoded_bytes
+framed_exact p Plain e = packed_exact p Plain e
+framed_exact p Primitive e = packed_exact p Primitive e
+framed_exact p Constant e = packed_exact p Constant e
+framed_exact p (BitPacked packing) e = packed_exact p (BitPacked packing) e
+framed_exact p (FoR encoded) e = reference_exact (encode_global_by Natural p) encoded e
+framed_exact p (FoRChunked encoded references) e = chunks_exact (encode_chunked_by Natural p) encoded references e
+framed_exact p (FoRWrapped encoded) e = reference_exact (encode_global_by Signed p) encoded e
+framed_exact p (FoRChunkedWrapped encoded references) e = chunks_exact (encode_chunked_by Signed p) encoded references e
+framed_exact p (Delta bases deltas) e = cc
+framed_exact p (RLE values indices offsets) e = cc
+
+delta_exact : (p : PrimitiveParts) (s : Shape) → is_delta s ≡ true → delta_size (delta_sizes p) s ≡ encoded_bytes p s
+unfolding encoded_bytes
+delta_exact p Plain e = framed_exact p Plain e
+delta_exact p Primitive e = framed_exact p Primitive e
+delta_exact p Constant e = framed_exact p Constant e
+delta_exact p (BitPacked packing) e = framed_exact p (BitPacked packing) e
+delta_exact p (FoR encoded) e = framed_exact p (FoR encoded) e
+delta_exact p (FoRChunked encoded references) e = framed_exact p (FoRChunked encoded references) e
+delta_exact p (FoRWrapped encoded) e = framed_exact p (FoRWrapped encoded) e
+delta_exact p (FoRChunkedWrapped encoded references) e = framed_exact p (FoRChunkedWrapped encoded references) e
+delta_exact p (Delta bases deltas) e =
+    both_same _ _ _ _ (framed_exact (compress_deltas p).0 bases (first_of (is_framed bases) (is_framed deltas) e))
+    (both_same _ _ (Some (validity_bytes (length p.slots) p.validity)) _ (framed_exact (compress_deltas p).1 deltas (other_of (is_framed bases) (is_framed deltas) e)) refl)
+delta_exact p (RLE values indices offsets) e = cc
+
+pub candidate_exact : (p : PrimitiveParts) (s : Shape) → is_candidate s ≡ true → size_in (statistics_of p) s ≡ encoded_bytes p s
+unfolding encoded_bytes is_candidate statistics_of
+candidate_exact p Plain e = delta_exact p Plain e
+candidate_exact p Primitive e = delta_exact p Primitive e
+candidate_exact p Constant e = delta_exact p Constant e
+candidate_exact p (BitPacked packing) e = delta_exact p (BitPacked packing) e
+candidate_exact p (FoR encoded) e = delta_exact p (FoR encoded) e
+candidate_exact p (FoRChunked encoded references) e = delta_exact p (FoRChunked encoded references) e
+candidate_exact p (FoRWrapped encoded) e = delta_exact p (FoRWrapped encoded) e
+candidate_exact p (FoRChunkedWrapped encoded references) e = delta_exact p (FoRChunkedWrapped encoded references) e
+candidate_exact p (Delta bases deltas) e = delta_exact p (Delta bases deltas) e
+candidate_exact p (RLE values indices offsets) e =
+    let rest = other_of (is_delta values) (is_framed indices && is_framed offsets) e in
+    both_same _ _ _ _ (delta_exact (encode_runs p).values values (first_of (is_delta values) (is_framed indices && is_framed offsets) e))
+    (both_same _ _ _ _ (framed_exact (encode_runs p).indices indices (first_of (is_framed indices) (is_framed offsets) rest)) (framed_exact (encode_runs p).offsets offsets (other_of (is_framed indices) (is_framed offsets) rest)))
+
+-- ---- the answer
+pub size_is_exact : (p : PrimitiveParts) (statistics : Statistics) (s : Shape) (o : Option ℕ) → o ≡ capped (size_in statistics s) → statistics ≡ statistics_of p → IsTrue (is_candidate s) → o ≡ capped (encoded_bytes p s)
+size_is_exact p statistics s o size is in_set = size ∙ (ap (λ x. capped (size_in x s)) is ∙ ap capped (candidate_exact p s in_set))
+
+pub size_is_encoded : (p : PrimitiveParts) (statistics : Statistics) (scheme : Scheme) (t : Tree) (o : Option ℕ) → o ≡ capped (size_in statistics (shape scheme)) → statistics ≡ statistics_of p → IsTrue (is_candidate (shape scheme)) → encode_refusal scheme p ≡ None → IsEncodedAs scheme p t
+    → o ≡ Some (min (tree_bytes t) (2 ^ 64 - 1))
+size_is_encoded p statistics scheme t o size is in_set none made = size_is_exact p statistics (shape scheme) o size is in_set ∙ ap capped (made_bytes scheme p t none made)

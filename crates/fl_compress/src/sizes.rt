@@ -1,0 +1,159 @@
+//! How many bytes an array takes by a scheme, of its statistics.
+
+ghost use Rattle.std.specs.Prelude.{◌≡◌, ◌-◌, ◌^◌, ℕ, IsTrue, None, Option, Some, min};
+ghost use Rattle.fl_array.specs.Trees.{Tree};
+ghost use Rattle.fl_column.specs.Columns.{PrimitiveParts};
+ghost use Rattle.fl_encode.specs.declared.scheme.Scheme.{back-Scheme-FoR-0 as child_scheme};
+ghost use Rattle.fl_encode.specs.Encodings.{IsEncodedAs, encode_refusal};
+ghost use Rattle.fl_encode.specs.Shapes.{child_shape, shape};
+ghost use Rattle.fl_serde.specs.ByteCounts.{tree_bytes};
+ghost use Rattle.fl_compress.specs.Cheapest.{both};
+ghost use Rattle.fl_compress.specs.EncodedBytes.{encoded_bytes};
+ghost use Rattle.fl_compress.specs.Statistics.{capped, chunk_size, delta_size, framed_size, is_candidate, packed_size, reference_size, size_in, statistics_of};
+
+use crate::statistics::{ChunkSizes, DeltaSizes, FramedSizes, PackedSizes, Statistics};
+use fl_encode::{Packing, Scheme};
+
+/// A number, `u64::MAX` for one above it.
+fn capped(bytes: u128) -> u64
+    ensures { result ≡ min bytes (2 ^ 64 - 1) }
+{
+    bytes.min(u64::MAX as u128) as u64
+}
+
+/// Two sizes together, if there are both.
+fn both(first: Option<u64>, other: Option<u64>) -> Option<u64>
+    ensures { (a : Option ℕ) → (b : Option ℕ) → first ≡ capped a → other ≡ capped b → result ≡ capped (both a b) }
+{
+    match (first, other) {
+        (Some(first), Some(other)) => Some(first.saturating_add(other)),
+        _ => None,
+    }
+}
+
+fn packed_size(sizes: &PackedSizes, scheme: &Scheme) -> Option<u64>
+    ensures { result ≡ capped (packed_size sizes.now (shape scheme.now)) }
+{
+    match scheme {
+        Scheme::Primitive => Some(capped(sizes.plain)),
+        Scheme::Constant if sizes.is_constant => Some(0),
+        Scheme::BitPacked(Packing::BestWidth) => Some(capped(sizes.best_width?)),
+        Scheme::BitPacked(Packing::BestWidths) => Some(capped(sizes.best_widths?)),
+        _ => None,
+    }
+}
+
+fn packed_child(sizes: &PackedSizes, child: &Option<Box<Scheme>>) -> Option<u64>
+    ensures { result ≡ capped (packed_size sizes.now (child_shape (child_scheme child.now))) }
+{
+    match child {
+        None => Some(capped(sizes.plain)),
+        Some(scheme) => packed_size(sizes, scheme),
+    }
+}
+
+fn reference_size(sizes: &Option<PackedSizes>, encoded: &Option<Box<Scheme>>) -> Option<u64>
+    ensures { result ≡ capped (reference_size sizes.now (child_shape (child_scheme encoded.now))) }
+{
+    match sizes {
+        None => None,
+        Some(sizes) => packed_child(sizes, encoded),
+    }
+}
+
+fn chunk_size(
+    sizes: &ChunkSizes,
+    encoded: &Option<Box<Scheme>>,
+    references: &Option<Box<Scheme>>,
+) -> Option<u64>
+    ensures { result ≡ capped (chunk_size sizes.now (child_shape (child_scheme encoded.now)) (child_shape (child_scheme references.now))) }
+{
+    match sizes {
+        ChunkSizes::Whole(sizes) => packed_child(sizes, encoded),
+        ChunkSizes::ByChunk(sizes, others) => both(
+            packed_child(sizes, encoded),
+            packed_child(others, references),
+        ),
+        ChunkSizes::Nulls => Some(0),
+    }
+}
+
+fn framed_size(sizes: &FramedSizes, scheme: &Scheme) -> Option<u64>
+    ensures { result ≡ capped (framed_size sizes.now (shape scheme.now)) }
+{
+    match scheme {
+        Scheme::FoR { encoded } => reference_size(&sizes.natural.one, encoded),
+        Scheme::FoRChunked {
+            encoded,
+            references,
+        } => chunk_size(&sizes.natural.chunks, encoded, references),
+        Scheme::FoRWrapped { encoded } => reference_size(&sizes.signed.one, encoded),
+        Scheme::FoRChunkedWrapped {
+            encoded,
+            references,
+        } => chunk_size(&sizes.signed.chunks, encoded, references),
+        _ => packed_size(&sizes.packed, scheme),
+    }
+}
+
+fn framed_child(sizes: &FramedSizes, child: &Option<Box<Scheme>>) -> Option<u64>
+    ensures { result ≡ capped (framed_size sizes.now (child_shape (child_scheme child.now))) }
+{
+    match child {
+        None => Some(capped(sizes.packed.plain)),
+        Some(scheme) => framed_size(sizes, scheme),
+    }
+}
+
+fn delta_size(sizes: &DeltaSizes, scheme: &Scheme) -> Option<u64>
+    ensures { result ≡ capped (delta_size sizes.now (shape scheme.now)) }
+{
+    match scheme {
+        Scheme::Delta { bases, deltas } => both(
+            framed_child(&sizes.bases, bases),
+            both(
+                framed_child(&sizes.deltas, deltas),
+                Some(capped(sizes.validity)),
+            ),
+        ),
+        _ => framed_size(&sizes.framed, scheme),
+    }
+}
+
+fn delta_child(sizes: &DeltaSizes, child: &Option<Box<Scheme>>) -> Option<u64>
+    ensures { result ≡ capped (delta_size sizes.now (child_shape (child_scheme child.now))) }
+{
+    match child {
+        None => Some(capped(sizes.framed.packed.plain)),
+        Some(scheme) => delta_size(sizes, scheme),
+    }
+}
+
+fn candidate_size(scheme: &Scheme, statistics: &Statistics) -> Option<u64>
+    ensures { result ≡ capped (size_in statistics.now (shape scheme.now)) }
+{
+    match scheme {
+        Scheme::RLE {
+            values,
+            indices,
+            offsets,
+        } => both(
+            delta_child(&statistics.values, values),
+            both(
+                framed_child(&statistics.indices, indices),
+                framed_child(&statistics.offsets, offsets),
+            ),
+        ),
+        _ => delta_size(&statistics.items, scheme),
+    }
+}
+
+/// How many bytes an array takes when it is encoded by a scheme of the candidates and written: what `nbytes` says
+/// of it. `None` where `encode` refuses it, and for a scheme that is none of them.
+pub fn size_of(scheme: &Scheme, statistics: &Statistics) -> Option<u64>
+    ensures size { result ≡ capped (size_in statistics.now (shape scheme.now)) }
+    ensures exact { (p : PrimitiveParts) → statistics.now ≡ statistics_of p → IsTrue (is_candidate (shape scheme.now)) → result ≡ capped (encoded_bytes p (shape scheme.now)) }
+    ensures encoded { (p : PrimitiveParts) → (t : Tree) → statistics.now ≡ statistics_of p → IsTrue (is_candidate (shape scheme.now)) → encode_refusal scheme.now p ≡ None → IsEncodedAs scheme.now p t → result ≡ Some (min (tree_bytes t) (2 ^ 64 - 1)) }
+{
+    candidate_size(scheme, statistics)
+}
