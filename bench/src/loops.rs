@@ -31,13 +31,21 @@ impl Slice<'_> {
         black_box(taken).len()
     }
 
+    /// The items at the mask's set bits, by its words: a word of ones is one copy, others are stepped through by their lowest set bits.
     fn filter(&self, mask: &[u64]) -> usize {
         let mut bits = vec![0u64; if self.valid.is_some() { self.items.len().div_ceil(64) } else { 0 }];
-        let mut kept: Vec<u32> = Vec::with_capacity(self.items.len());
-        for i in 0..self.items.len() {
-            if bit(mask, i) {
-                if let Some(valid) = self.valid { set(&mut bits, kept.len(), bit(valid, i)); }
-                kept.push(self.items[i]);
+        let mut kept: Vec<u32> = Vec::with_capacity(mask.iter().map(|word| word.count_ones() as usize).sum());
+        for (k, chunk) in self.items.chunks(64).enumerate() {
+            let mut word = mask[k] & u64::MAX >> (64 - chunk.len());
+            if word == u64::MAX && self.valid.is_none() {
+                kept.extend_from_slice(chunk);
+                continue;
+            }
+            while word != 0 {
+                let j = word.trailing_zeros() as usize;
+                if let Some(valid) = self.valid { set(&mut bits, kept.len(), bit(valid, 64 * k + j)); }
+                kept.push(chunk[j]);
+                word &= word - 1;
             }
         }
         black_box(&bits);
