@@ -25,3 +25,4 @@ pub mod SingleItems
 pub mod Deinterleaved
 pub mod TransposedBits
 pub mod LowBits
+pub mod Turns

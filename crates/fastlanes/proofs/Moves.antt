@@ -3,7 +3,7 @@ use Rattle.std.proofs.Common.{◌≡◌, ℕ, ◌+◌, ◌*◌, ◌/◌, ◌%◌
 use Rattle.std.specs.Prelude.{◌&&◌, nat_eq, Bool, true}
 use Rattle.std.proofs.lemmas.Bool.{and_parts, eqb-true}
 use Rattle.fastlanes.specs.Layout.{order_of, place, segment, IsWordWidth, bits_8, bits_16, bits_32, bits_64}
-use Rattle.fastlanes.specs.Delta.{moved_from, moved_to, Transposed}
+use Rattle.fastlanes.specs.Delta.{gathered_from, moved_from, moved_to, Transposed}
 use Rattle.fastlanes.proofs.Places.{place_below}
 use Rattle.fastlanes.proofs.Bijection.{all_below, below_true, place_read, segment_read}
 
@@ -56,6 +56,23 @@ moved_to_run h c p q =
     let five : (8 * (h % 8) + c) / 8 ≡ h % 8 = omega arith in
     let six = order_below (h % 8) (omega arith) in
     (rw (one, two, three, four, five) (omega arith), rw (four, five) (omega arith))
+
+pub gathered_run : (h c : ℕ) → c < 8 → h < 128 → (gathered_from (8 * h + c) ≡ 8 * place (8 * (h % 8)) (h / 8) + c) × (8 * place (8 * (h % 8)) (h / 8) + c < 1024)
+unfolding gathered_from place
+gathered_run h c p q =
+    let one : (8 * h + c) / 64 ≡ h / 8 = omega arith in
+    let two : (8 * h + c) / 8 % 8 ≡ h % 8 = omega arith in
+    let three : (8 * h + c) % 8 ≡ c = omega arith in
+    let four : 8 * (h % 8) % 8 ≡ 0 = omega arith in
+    let five : 8 * (h % 8) / 8 ≡ h % 8 = omega arith in
+    let six = order_below (h % 8) (omega arith) in
+    (rw (one, two, three, four, five) (omega arith), rw (four, five) (omega arith))
+
+pub gathered_moved : (i : ℕ) → i < 1024 → (gathered_from i < 1024) × (gathered_from i / 8 + 128 * (gathered_from i % 8) ≡ moved_to i)
+unfolding gathered_from moved_to
+gathered_moved i h =
+    let order = order_below (i / 8 % 8) (omega arith) in
+    (omega arith, omega arith)
 
 pub segment_first : (q : ℕ) → q < 8 → segment (16 * q) ≤ 56
 unfolding segment

@@ -10,6 +10,10 @@ moved_from i = 64 * (i % 16) + 8 * order_of (i / 16 % 8) + i / 128
 unfoldable pub moved_to : ℕ → ℕ
 moved_to i = i / 64 + 16 * order_of (i / 8 % 8) + 128 * (i % 8)
 
+-- where item i is once the eight rows of a lane from a row 8 * q on are next to each other, the same for every word type
+unfoldable pub gathered_from : ℕ → ℕ
+gathered_from i = 8 * (i / 64 + 16 * order_of (i / 8 % 8)) + i % 8
+
 -- the item at place r of each lane's segment is stored at row r of the lane
 pub record Transposed (T lanes : ℕ) (item stored : ℕ → ℕ) : Type 0 where
   pub moved : (r l : ℕ) → r < T → l < lanes → stored (place r l) ≡ item (segment l + r)

@@ -9,7 +9,7 @@ use Rattle.fl_types.specs.Bits.{between}
 use Rattle.fl_column.proofs.ListLaws.{all_at, and_first, and_second, and_true, between_more, list_all-append}
 use Rattle.fl_codec.specs.FoRColumns.{min_valid, valid_items}
 
-int_le-refl : (z : ℤ) → int_le z z ≡ true
+pub int_le-refl : (z : ℤ) → int_le z z ≡ true
 int_le-refl z = grind (arith, ints)
 
 int_le-trans : (x y z : ℤ) → int_le x y ≡ true → int_le y z ≡ true → int_le x z ≡ true
@@ -47,7 +47,7 @@ find-least (Some m) zs least =
     find_only (λ z. list_all (int_le z) zs) zs m least.0.0 least.0.1.0 least.0.1.1 least.1
     (λ k h all. int_le-antisym (get_or zs k m) m (subst (λ x. int_le (get_or zs k m) x ≡ true) least.0.1.1 (all_at (int_le (get_or zs k m)) zs least.0.0 m all least.0.1.0)) (all_at (int_le m) zs k m least.1 h))
 
-all_above_less : (x m : ℤ) (zs : List ℤ) → int_le x m ≡ true → list_all (int_le m) zs ≡ true → list_all (int_le x) zs ≡ true
+pub all_above_less : (x m : ℤ) (zs : List ℤ) → int_le x m ≡ true → list_all (int_le m) zs ≡ true → list_all (int_le x) zs ≡ true
 all_above_less x m [] e all = refl
 all_above_less x m (z ∷ zs) e all = and_true (int_le x z) (list_all (int_le x) zs) (int_le-trans x m z e (and_first (int_le m z) (list_all (int_le m) zs) all)) (all_above_less x m zs e (and_second (int_le m z) (list_all (int_le m) zs) all))
 
@@ -61,7 +61,7 @@ least_of_two m z zs true e least =
 least_of_two m z zs false e least =
     ((least.0.0, (rw length-append (let h = least.0.1.0 in omega arith), get_or_append_left zs (z ∷ []) m least.0.0 least.0.1.0 ∙ least.0.1.1)), all_push m z zs least.1 (not_below m z e))
 
-least_push : (best : Option ℤ) (zs : List ℤ) (z : ℤ) → IsLeast best zs → IsLeast (min_valid best (Some z)) (zs ++ z ∷ [])
+pub least_push : (best : Option ℤ) (zs : List ℤ) (z : ℤ) → IsLeast best zs → IsLeast (min_valid best (Some z)) (zs ++ z ∷ [])
 least_push None zs z e = rw e ((0, (lit< tt, refl)), and_true (int_le z z) true (int_le-refl z) refl)
 least_push (Some m) zs z least = least_of_two m z zs (int_lt z m) refl least
 

@@ -1,11 +1,14 @@
 -- Filled lists, chunk by chunk.
-use Rattle.std.proofs.Common.{◌≡◌, subst, ℕ, ℤ, pos, zero, suc, ◌+◌, ◌-◌, ◌*◌, ◌/◌, ◌<◌, ◌≤◌, List, [], ◌∷◌, ◌++◌, length, take, drop, get_or, Option, Some, None, unwrap_or, refl, ap, sym, ◌∙◌, inl, inr, arith, length-take}
+use Rattle.std.proofs.Common.{◌≡◌, subst, map, true, ℕ, ℤ, pos, zero, suc, ◌+◌, ◌-◌, ◌*◌, ◌/◌, ◌<◌, ◌≤◌, List, [], ◌∷◌, ◌++◌, length, take, drop, get_or, Option, Some, None, Bool, false, cond, IsTrue, unwrap_or, refl, ap, sym, ◌∙◌, inl, inr, arith, length-take}
 use Rattle.std.proofs.Math.Seq.{take-add}
 use Rattle.std.proofs.lemmas.Bool.{cases_lt, cases_eq}
-use Rattle.std.proofs.lemmas.List.{get_or-drop, get_or-take, get_or-append_right, get_or_append_left, get_or_past, take_all}
+use Rattle.std.proofs.lemmas.List.{ext_get_or, get_or-drop, get_or-map, get_or-take, get_or-append_right, get_or_append_left, get_or_past, length-drop, length-map, take_all}
 use Rattle.std.proofs.Common.{length-append}
 use Rattle.std.proofs.lemmas.List.FromFn.{fill_by_all}
 use Rattle.fl_types.specs.Bits.{tabulate}
+use Rattle.fl_types.specs.Validities.{covers, items_of}
+use Rattle.fl_types.specs.declared.validity.Validity.TheVariants.{Array}
+use Rattle.fl_column.proofs.ItemLaws.{get_or-items_of, length-items_of}
 use Rattle.fl_codec.specs.Chunks.{chunk}
 use Rattle.fl_codec.specs.ForwardFill.{Carry, Reset, carried_to, either, fill_forward, filled_from, last_some}
 use Rattle.fl_codec.proofs.ReferenceLaws.{get_or-table, last_more, length-table, unwrap_or-either}
@@ -58,6 +61,33 @@ below_next P i below here j h = elim (cases_eq j i) [
   | inl same ↦ subst P (sym same) here
   | inr other ↦ below j (omega arith)
 ]
+
+-- what holds from n on below i, and of i
+pub between_next : (P : ℕ → Type 0) (n i : ℕ) → ((j : ℕ) → n ≤ j → j < i → P j) → P i → (j : ℕ) → n ≤ j → j < i + 1 → P j
+between_next P n i below here j low h = elim (cases_eq j i) [
+  | inl same ↦ subst P (sym same) here
+  | inr other ↦ below j low (omega arith)
+]
+
+-- an item of a chunk, read by its bit
+pub read_by_bit : (bits : List Bool) (zs : List ℤ) (k q at : ℕ) (bit : Bool) (z : ℤ) (y : Option ℤ) → IsTrue (covers (Array bits) (length zs)) → q < 1024 → 1024 * k + q < length zs → at ≡ 1024 * k + q
+    → bit ≡ get_or bits at false → z ≡ get_or zs (1024 * k + q) (pos 0) → y ≡ cond bit (Some z) None → y ≡ get_or (chunk k (items_of (Array bits) zs)) q None
+read_by_bit bits zs k q at bit z y cover h room same set read is =
+    is ∙ (rw (set, read, same) (sym (get_or-chunk (items_of (Array bits) zs) k q None h ∙ get_or-items_of (Array bits) zs (1024 * k + q) (pos 0) cover room)))
+
+-- a chunk whose bits are all set has no nulls
+pub set_chunk : (bits : List Bool) (zs : List ℤ) (k : ℕ) → IsTrue (covers (Array bits) (length zs)) → 1024 * (k + 1) ≤ length zs → ((i : ℕ) → 1024 * k ≤ i → i < 1024 * (k + 1) → get_or bits i false ≡ true)
+    → chunk k (map (λ z. Some z) zs) ≡ chunk k (items_of (Array bits) zs)
+set_chunk bits zs k cover room set =
+    let size = chunk_size k in
+    let long : length (items_of (Array bits) zs) ≡ length zs = length-items_of (Array bits) zs cover in
+    let left : length (chunk k (map (λ z. Some z) zs)) ≡ 1024 = rw size (omega (arith, length-take 1024 (drop (1024 * k) (map (λ z. Some z) zs)), length-drop (1024 * k) (map (λ z. Some z) zs), length-map zs (λ z. Some z))) in
+    let right : length (chunk k (items_of (Array bits) zs)) ≡ 1024 = rw size (omega (arith, length-take 1024 (drop (1024 * k) (items_of (Array bits) zs)), length-drop (1024 * k) (items_of (Array bits) zs), long)) in
+    ext_get_or None (chunk k (map (λ z. Some z) zs)) (chunk k (items_of (Array bits) zs)) (rw (left, right) refl) (λ q h.
+    let place : q < 1024 = omega arith in
+    let here : 1024 * k + q < length zs = omega arith in
+    let one : get_or bits (1024 * k + q) false ≡ true = set (1024 * k + q) (omega arith) (omega arith) in
+    get_or-chunk (map (λ z. Some z) zs) k q None place ∙ (get_or-map (λ z. Some z) zs (1024 * k + q) (pos 0) None here ∙ sym (get_or-chunk (items_of (Array bits) zs) k q None place ∙ (get_or-items_of (Array bits) zs (1024 * k + q) (pos 0) cover here ∙ rw one refl))))
 
 -- ---- tables, one behind the other
 pub table_append : {A : Type 0} (f : ℕ → A) (m n : ℕ) → tabulate f m ++ tabulate (λ i. f (m + i)) n ≡ tabulate f (m + n)

@@ -20,3 +20,4 @@ pub mod RunTypes
 pub mod RunSlices
 pub mod WithoutNulls
 pub mod OrderLaws
+pub mod WithNulls

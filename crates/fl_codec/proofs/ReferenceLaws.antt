@@ -9,6 +9,7 @@ use Rattle.std.proofs.lemmas.Bool.Decides.{Decides-int_eq}
 use Rattle.fl_types.specs.declared.dtype.PType.{PType}
 use Rattle.fl_types.specs.Bits.{tabulate}
 use Rattle.fl_types.specs.Integers.{fits}
+use Rattle.std.specs.Prelude.{IfOk, Result}
 use Rattle.std.proofs.Common.{subst, IsTrue, is_none, length-drop, ◌-◌, ◌*◌, min}
 use Rattle.std.proofs.lemmas.List.{get_or-map, length-map, map-append, map_more, take_all}
 use Rattle.fl_types.specs.Bits.{between}
@@ -183,6 +184,11 @@ least_of_plain read value p v xs least same covered slots e =
 pub references_of_plain : {A : Type 0} (order : ItemOrder) (ptype : PType) (value : A → ℤ) (p : PrimitiveParts) (v : Validity) (xs : List A) (references : List ℤ) (common : Option ℤ) → p.ptype ≡ ptype → v ≡ p.validity → map value xs ≡ p.slots
     → references ≡ chunk_references (reading order ptype) (items_of v (map value xs)) → common ≡ common_reference references → less_common p references common ≡ less_chunk_leasts order p
 references_of_plain order ptype value p v xs references common typed same slots e f = rw (f, e, ← typed, same, slots) refl
+
+-- the references of a plain array alone
+pub made_of_plain : {A V E : Type 0} (order : ItemOrder) (ptype : PType) (value : A → ℤ) (p : PrimitiveParts) (v : Validity) (xs : List A) (made : V → List ℤ) (r : Result V E) → p.ptype ≡ ptype → v ≡ p.validity → map value xs ≡ p.slots
+    → IfOk r (λ m. made m ≡ chunk_references (reading order ptype) (items_of v (map value xs))) → IfOk r (λ m. made m ≡ chunk_references (reading order p.ptype) (items_of_primitive p))
+made_of_plain order ptype value p v xs made r typed same slots h = rw (typed, ← same, ← slots) h
 
 -- the items of a plain array, as its parts are read
 pub same_items : {A : Type 0} (value : A → ℤ) (p : PrimitiveParts) (v : Validity) (xs : List A) → v ≡ p.validity → map value xs ≡ p.slots → items_of v (map value xs) ≡ items_of_primitive p

@@ -5,7 +5,7 @@ pub mod single_items;
 mod with_nulls;
 mod without_nulls;
 
-ghost use Rattle.std.specs.Prelude.{◌≡◌, ◌<◌, ◌≤◌, ◌+◌, ◌*◌, ◌+ℤ◌, ◌^◌, ◌&&◌, ℤ, pos, List, IsTrue, IfSome, IfOk, Ok, Some, None, length, map, option_map, unwrap_or, slice_index_or, is_none};
+ghost use Rattle.std.specs.Prelude.{◌≡◌, ◌<◌, ◌≤◌, ◌+◌, ◌*◌, ◌%◌, ◌+ℤ◌, ◌^◌, ◌&&◌, ℤ, pos, List, IsTrue, IfSome, IfOk, Ok, Some, None, length, map, option_map, unwrap_or, slice_index_or, is_none};
 ghost use Rattle.std.specs.List.{list_all};
 ghost use Rattle.fl_types.specs.Bits.{between, tabulate};
 ghost use Rattle.fl_types.specs.Integers.{fits, wrap};
@@ -15,7 +15,7 @@ ghost use Rattle.fl_types.specs.Values.{integer_of, ptype_of_value};
 ghost use Rattle.fl_column.specs.Columns.{column_of_primitive};
 ghost use Rattle.fl_codec.specs.Chunks.{chunk, chunks_of};
 ghost use Rattle.fl_codec.specs.ForwardFill.{first_some};
-ghost use Rattle.fl_codec.specs.FoRColumns.{chunk_leasts, chunk_references, chunked_for, chunked_slots, chunked_sums, common_reference, global_for, least_by, least_valid, min_valid, minus_reference, origin_of, reading, reference_of_chunk, turned};
+ghost use Rattle.fl_codec.specs.FoRColumns.{chunk_leasts, chunk_references, chunked_for, chunked_slots, chunked_sums, common_reference, global_for, least_by, least_valid, minus_reference, origin_of, reading, reference_of_chunk, turned};
 ghost use Rattle.fl_codec.specs.Parts.{Nulls, encode_chunked, encode_chunked_by, encode_global, encode_global_by, for_parts, global_parts, items_of_primitive, less_chunk_leasts, subtract_reference, less_references, null_constant, reference_scalar};
 
 use crate::chunks::{chunk_count, chunk_end};
@@ -23,7 +23,7 @@ use crate::for_::without_nulls::{chunked_sums, least_of, sums};
 use crate::plain::{non_nullable, under_validity_of};
 use fastlanes::FL_CHUNK_SIZE;
 use fl_column::laws::stored_integers_are_in_range;
-use fl_column::{ConstantArray, PrimitiveArray, item_at};
+use fl_column::{ConstantArray, PrimitiveArray};
 use fl_types::{
     FastLanesError, NativePType, Nullability, PType, PValue, Scalar, Validity, is_equal,
     match_each_integer_ptype,
@@ -60,17 +60,6 @@ pub enum ItemOrder {
     /// That of the integers read as signed ones of as many bits: -1, which is the greatest integer of an unsigned
     /// type, stands below 0.
     Signed,
-}
-
-/// The lesser of two items, of which a null is none.
-fn min_valid<T: NativePType>(least: Option<T>, item: Option<T>) -> Option<T>
-    ensures { option_map T.value result ≡ min_valid (option_map T.value least) (option_map T.value item) }
-{
-    match (least, item) {
-        (Some(x), Some(y)) => Some(if y < x { y } else { x }),
-        (None, other) => other,
-        (least, None) => least,
-    }
 }
 
 /// The sign bit of an unsigned type, 0 of a signed one.
@@ -110,27 +99,6 @@ fn turned<T: NativePType + WrappingSub>(item: Option<T>, origin: T) -> Option<T>
     }
 }
 
-/// The least valid item from `start` to below `end`, each less an origin. Each may be null.
-fn least_valid_between<T: NativePType + WrappingSub>(
-    items: &[T],
-    validity: &Validity,
-    start: usize,
-    end: usize,
-    origin: T,
-) -> Option<T>
-    requires covers { IsTrue (covers validity.now (length items.now)) }
-    requires order { start ≤ end }
-    requires range { end ≤ length items.now }
-    ensures { option_map T.value result ≡ least_valid (map (option_map (turned T.PTYPE (T.value origin))) (between start end (items_of validity.now (map T.value items.now)))) }
-{
-    let mut least = None;
-    for i in start..end {
-        let item = turned(item_at(items, validity, i), origin);
-        least = min_valid(least, item);
-    }
-    least
-}
-
 /// The least valid item from `start` to below `end`, each less an origin.
 fn least_turned_between<T: NativePType + WrappingSub>(
     items: &[T],
@@ -140,13 +108,14 @@ fn least_turned_between<T: NativePType + WrappingSub>(
     origin: T,
 ) -> Option<T>
     requires covers { IsTrue (covers validity.now (length items.now)) }
+    requires aligned { start % 64 ≡ 0 }
     requires order { start ≤ end }
     requires range { end ≤ length items.now }
     ensures { option_map T.value result ≡ least_valid (map (option_map (turned T.PTYPE (T.value origin))) (between start end (items_of validity.now (map T.value items.now)))) }
 {
     match validity {
         Validity::NonNullable | Validity::AllValid => least_of(&items[start..end], origin),
-        _ => least_valid_between(items, validity, start, end, origin),
+        _ => with_nulls::least_between(items, validity, start, end, origin),
     }
 }
 
@@ -160,6 +129,7 @@ fn least_between<T: NativePType + WrappingSub>(
 ) -> Option<T>
     requires covers { IsTrue (covers validity.now (length items.now)) }
     requires fit { IsTrue (list_all (fits T.PTYPE) (map T.value items.now)) }
+    requires aligned { start % 64 ≡ 0 }
     requires ends { start ≤ end }
     requires range { end ≤ length items.now }
     ensures { option_map T.value result ≡ least_by (reading order T.PTYPE) (between start end (items_of validity.now (map T.value items.now))) }
@@ -225,8 +195,35 @@ fn chunk_references<T: NativePType + WrappingSub>(
     Ok(references)
 }
 
+/// The least valid item of a column by an order, if it has one: the reference of `encode_by`.
+pub fn least_item<T: NativePType + WrappingSub>(
+    array: &PrimitiveArray,
+    order: ItemOrder,
+) -> Option<T>
+    requires { array.now.ptype ≡ T.PTYPE }
+    ensures { option_map T.value result ≡ least_by (reading order array.now.ptype) (items_of_primitive array.now) }
+{
+    stored_integers_are_in_range(array);
+    let items = array.as_slice::<T>();
+    least_between(items, array.validity(), 0, items.len(), order)
+}
+
+/// The reference of each chunk of a column by an order: the least valid item of the chunk. A chunk of nulls repeats
+/// the reference before it, and the leading ones take that of the first chunk that has an item.
+pub fn references_of<T: NativePType + WrappingSub>(
+    alloc: Global,
+    array: &PrimitiveArray,
+    order: ItemOrder,
+) -> Result<Vec<T>, AllocError>
+    requires { array.now.ptype ≡ T.PTYPE }
+    ensures { IfOk result (λ v. map T.value v.items ≡ chunk_references (reading order array.now.ptype) (items_of_primitive array.now)) }
+{
+    stored_integers_are_in_range(array);
+    chunk_references(alloc, array.as_slice::<T>(), array.validity(), order)
+}
+
 /// The one reference that all of them are, 0 where there is none.
-fn common_reference<T: NativePType>(references: &[T]) -> Option<T>
+pub fn common_reference<T: NativePType>(references: &[T]) -> Option<T>
     ensures { option_map T.value result ≡ common_reference (map T.value references.now) }
 {
     if references.len() == 0 {
@@ -319,9 +316,7 @@ fn encode_typed<T: NativePType + WrappingSub>(
     requires { array.now.ptype ≡ T.PTYPE }
     ensures { Answers global_parts result (encode_global_by order array.now) }
 {
-    stored_integers_are_in_range(array);
-    let items = array.as_slice::<T>();
-    match least_between(items, array.validity(), 0, items.len(), order) {
+    match least_item::<T>(array, order) {
         Some(least) => subtract_reference(alloc, array, least),
         None => Err(FastLanesError::NoMinimum),
     }
@@ -352,7 +347,7 @@ pub fn encode(alloc: Global, array: &PrimitiveArray) -> Result<GlobalFoR, FastLa
 }
 
 /// Whether every item is null.
-fn are_nulls(array: &PrimitiveArray) -> bool
+pub fn are_nulls(array: &PrimitiveArray) -> bool
     ensures { result ≡ list_all is_none (items_of_primitive array.now) }
 {
     let (validity, len) = (array.validity(), array.len());

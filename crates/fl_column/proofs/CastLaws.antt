@@ -1,5 +1,6 @@
 -- Integers in another type, and the nulls that hinder it.
-use Rattle.std.proofs.Common.{◌≡◌, ℕ, ℤ, zero, suc, get_or, ◌+◌, ◌<◌, ◌&&◌, ◌||◌, not, Bool, true, false, List, [], ◌∷◌, length, map, Option, Some, None, option_map, is_some, is_none, IsTrue, if◌then◌else◌, cond, nat_lt, refl, ◌∙◌, sym, arith}
+use Rattle.std.proofs.Common.{◌≡◌, ℕ, ℤ, suc, ◌+◌, ◌<◌, ◌&&◌, ◌||◌, not, Bool, true, false, List, [], ◌∷◌, length, map, Option, Some, None, option_map, is_some, is_none, IsTrue, if◌then◌else◌, cond, nat_lt, refl, ◌∙◌, sym, arith}
+use Rattle.std.specs.Bool.{beq}
 use Rattle.std.specs.List.{list_all, list_any}
 use Rattle.std.proofs.lemmas.Bool.{lt-ltb}
 use Rattle.std.proofs.lemmas.Bool.Decides.{Decides-int_eq, Decides-ltb, Decides-eqb, Decides-like, same_from_decides}
@@ -50,22 +51,13 @@ any_masked (true ∷ bits) (x ∷ xs) e =
     same_test _ _ _ _ (λ h. omega arith) (λ h. omega arith) ∙ any_masked bits xs (omega arith)
 any_masked (false ∷ bits) (x ∷ xs) e = let few = count_by-le-length (λ bit. bit) bits in lt-ltb _ _ (omega arith)
 
--- a bit that is not set is not counted
-pub some_unset : (bits : List Bool) (i : ℕ) → i < length bits → get_or bits i false ≡ false → true ≡ nat_lt (true_count bits) (length bits)
-some_unset [] i h e = absurd (omega arith)
-some_unset (true ∷ bits) zero h e = cc
-some_unset (true ∷ bits) (suc i) h e =
+-- some bit is not set where not each is
+pub unset_by_test : (bits : List Bool) → not (list_all (beq true) bits) ≡ nat_lt (true_count bits) (length bits)
+unset_by_test [] = refl
+unset_by_test (true ∷ bits) =
     let more : true_count (true ∷ bits) ≡ 1 + true_count bits = sum_by-cons (λ bit. cond bit 1 0) true bits in
-    some_unset bits i (omega arith) e ∙ sym (same_test _ _ _ _ (λ k. omega arith) (λ k. omega arith))
-some_unset (false ∷ bits) i h e = let few = count_by-le-length (λ bit. bit) bits in sym (lt-ltb _ _ (omega arith))
-
--- bits that are all set are all counted
-pub none_unset : (bits : List Bool) → ((i : ℕ) → i < length bits → get_or bits i false ≡ true) → false ≡ nat_lt (true_count bits) (length bits)
-none_unset [] each = refl
-none_unset (true ∷ bits) each =
-    let more : true_count (true ∷ bits) ≡ 1 + true_count bits = sum_by-cons (λ bit. cond bit 1 0) true bits in
-    none_unset bits (λ i h. each (suc i) (omega arith)) ∙ sym (same_test _ _ _ _ (λ k. omega arith) (λ k. omega arith))
-none_unset (false ∷ bits) each = let first : false ≡ true = each 0 (omega arith) in cc
+    unset_by_test bits ∙ sym (same_test _ _ _ _ (λ k. omega arith) (λ k. omega arith))
+unset_by_test (false ∷ bits) = let few = count_by-le-length (λ bit. bit) bits in sym (lt-ltb _ _ (omega arith))
 
 -- an item is null where the validity says so
 pub any_null_is : {A : Type 0} (v : Validity) (xs : List A) (n : ℕ) → n ≡ length xs → IsTrue (covers v (length xs)) → any_null v n ≡ list_any is_none (items_of v xs)

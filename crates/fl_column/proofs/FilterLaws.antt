@@ -1,19 +1,16 @@
 -- Items that a mask keeps, by its words.
-use Rattle.std.proofs.Common.{inl, inr, ◌≡◌, ◌≢◌, ℕ, zero, suc, ◌+◌, ◌-◌, ◌*◌, ◌/◌, ◌%◌, ◌^◌, ◌<◌, ◌≤◌, ◌==◌, List, [], ◌∷◌, ◌++◌, Bool, true, false, Some, None, IsTrue, slice_get, cond, length, get_or, take, drop, map, min, bit_and, refl, ap, sym, ◌∙◌, arith, add-zero}
+use Rattle.std.proofs.Common.{inl, inr, ◌≡◌, ◌≢◌, ℕ, zero, suc, ◌+◌, ◌-◌, ◌*◌, ◌^◌, ◌<◌, ◌≤◌, ◌==◌, List, [], ◌∷◌, ◌++◌, Bool, true, false, Some, None, IsTrue, cond, length, get_or, take, drop, map, min, bit_and, refl, ap, sym, ◌∙◌, arith}
 use Rattle.std.specs.Int.{bit_at}
-use Rattle.std.proofs.lemmas.Bool.{cases_eq, cases_lt}
-use Rattle.std.proofs.Math.Nat.{suc-mul}
-use Rattle.std.proofs.lemmas.Nat.{pow_pos, shr_split}
-use Rattle.std.proofs.lemmas.Nat.Bits.{bit_at_and, bit_at_cat_high, bit_at_lowest, bit_at_ones, bit_at-suc, bit_at_above, bit_at-zero, same_from_bits}
+use Rattle.std.proofs.lemmas.Bool.{cases_lt}
+use Rattle.std.proofs.lemmas.Nat.Bits.{bit_at_ones}
 use Rattle.std.proofs.lemmas.List.{same_lists, get_or_default, get_or_past, append_assoc, length-append, get_or-take, get_or-drop, length-take, length-drop, drop-drop, take_all}
 use Rattle.std.proofs.lemmas.List.Sums.{sum_by-cons}
 use Rattle.fl_types.specs.Bits.{bit_of_word, tabulate, true_count}
 use Rattle.std.proofs.lemmas.List.FromFn.{length-map-range_with_len, get_or-map-range_with_len}
 use Rattle.fl_types.proofs.BitLists.{no_bit}
+use Rattle.fl_types.proofs.KeptLaws.{kept_none, kept_nothing, kept_split, lowest_cleared, others_left}
 use Rattle.fl_types.proofs.WordBits.{none_above}
-use Rattle.fl_types.proofs.MovedBits.{low_bit}
 use Rattle.std.proofs.lemmas.Bool.Decides.{Decides-eqb}
-use Rattle.std.proofs.lemmas.Option.{get_or_from_slice_get}
 use Rattle.fl_types.specs.Validities.{covers, items_of, masked, nullability_of}
 use Rattle.fl_types.specs.declared.dtype.Nullability.TheVariants.{Nullable}
 use Rattle.fl_types.specs.declared.validity.Validity.{Validity}
@@ -23,55 +20,6 @@ use Rattle.fl_column.specs.Columns.{PrimitiveParts, column_of_primitive}
 use Rattle.fl_column.specs.Operations.{filter_of, kept}
 use Rattle.fl_column.specs.Selections.{any_null, kept_validity}
 use Rattle.fl_column.proofs.CastSlotLaws.{nulls_left}
-use Rattle.fl_column.proofs.ListLaws.{kept_no, kept_yes}
-
--- a number whose lowest set bit is bit t, and the number below it
-lowest : (n t : ℕ) → bit_at n t ≡ 1 → ((i : ℕ) → i < t → bit_at n i ≡ 0) → n ≡ n / 2 ^ t * 2 ^ t
-lowest n t here below =
-    let none : n % 2 ^ t ≡ 0 = same_from_bits (n % 2 ^ t) 0 (λ i. elim (cases_lt i t) [
-      | inl low ↦ low_bit n t i low ∙ below i low ∙ sym (bit_at-zero i)
-      | inr high ↦ bit_at_above (n % 2 ^ t) t i (let some = pow_pos t in omega arith) high ∙ sym (bit_at-zero i)
-    ]) in
-    let split = shr_split n t in
-    omega arith
-
-less_one : (n t q p : ℕ) → n ≡ q * p → 0 < q → 0 < p → n - 1 ≡ (q - 1) * p + (p - 1)
-less_one n t zero p e h k = absurd (omega arith)
-less_one n t (suc q) p e h k =
-    let expand : suc q * p ≡ q * p + p = suc-mul q p in
-    let whole : suc q - 1 ≡ q = omega arith in
-    let body : n - 1 ≡ q * p + (p - 1) = omega arith in
-    body ∙ ap (λ (m : ℕ). m * p + (p - 1)) (sym whole)
-
-odd_high : (q e : ℕ) → q % 2 ≡ 1 → 0 < e → bit_at (q - 1) e ≡ bit_at q e
-odd_high q zero odd h = absurd (omega arith)
-odd_high q (suc e) odd h = let half : (q - 1) / 2 ≡ q / 2 = omega arith in bit_at-suc (q - 1) e ∙ ap (λ (m : ℕ). bit_at m e) half ∙ sym (bit_at-suc q e)
-
--- the number below has those of the bits above
-below_high : (n t j : ℕ) → bit_at n t ≡ 1 → ((i : ℕ) → i < t → bit_at n i ≡ 0) → t ≤ j → bit_at (n - 1) j ≡ bit_at (n / 2 ^ t - 1) (j - t)
-below_high n t j here below h =
-    let some = pow_pos t in
-    let first : 0 < n / 2 ^ t = omega (arith, here) in
-    ap (λ (m : ℕ). bit_at m j) (less_one n t (n / 2 ^ t) (2 ^ t) (lowest n t here below) first some) ∙ bit_at_cat_high (n / 2 ^ t - 1) t (2 ^ t - 1) j (omega arith) h
-
--- without its lowest set bit, a number does not have that bit
-pub lowest_cleared : (n t : ℕ) → bit_at n t ≡ 1 → ((i : ℕ) → i < t → bit_at n i ≡ 0) → bit_at (bit_and n (n - 1)) t ≡ 0
-lowest_cleared n t here below =
-    let none : t - t ≡ 0 = omega arith in
-    let low : bit_at (n - 1) t ≡ (n / 2 ^ t - 1) % 2 = below_high n t t here below (omega arith) ∙ ap (λ (m : ℕ). bit_at (n / 2 ^ t - 1) m) none ∙ bit_at_lowest (n / 2 ^ t - 1) in
-    let odd : n / 2 ^ t % 2 ≡ 1 = here in
-    let both = bit_at_and n (n - 1) t in
-    omega arith
-
--- and has the others
-pub others_left : (n t j : ℕ) → bit_at n t ≡ 1 → ((i : ℕ) → i < t → bit_at n i ≡ 0) → j ≢ t → bit_at (bit_and n (n - 1)) j ≡ bit_at n j
-others_left n t j here below other = bit_at_and n (n - 1) j ∙ elim (cases_lt j t) [
-  | inl low ↦ (let none = below j low in omega arith)
-  | inr high ↦
-      let same : bit_at (n - 1) j ≡ bit_at n j = below_high n t j here below high ∙ odd_high (n / 2 ^ t) (j - t) here (omega arith)
-      ∙ sym (ap (λ (m : ℕ). bit_at m j) (lowest n t here below ∙ sym (add-zero (n / 2 ^ t * 2 ^ t))) ∙ bit_at_cat_high (n / 2 ^ t) t 0 j (pow_pos t) high) in
-      omega arith
-]
 
 -- the first item that is kept, and the others
 pub kept_first : {A : Type 0} (bs cs : List Bool) (xs : List A) (t : ℕ) (d : A) → length bs ≡ length cs → t < length bs → t < length xs → ((i : ℕ) → i < t → get_or bs i false ≡ false) → get_or bs t false ≡ true → get_or cs t false ≡ false
@@ -86,18 +34,6 @@ kept_first (b ∷ bs) (c ∷ cs) (x ∷ xs) (suc t) d even h k before here off o
     let first : b ≡ false = before 0 (omega arith) in
     let second : c ≡ false = others 0 (omega arith) ∙ first in
     rw (first, second) (kept_first bs cs xs t d (omega arith) (omega arith) (omega arith) (λ i l. before (suc i) (omega arith)) here off (λ i e. others (suc i) (λ q. e (omega arith))))
-
-kept_nothing : {A : Type 0} (bits : List Bool) → kept {A = A} bits [] ≡ []
-kept_nothing [] = refl
-kept_nothing (b ∷ bits) = refl
-
--- a mask in two parts
-pub kept_split : {A : Type 0} (n : ℕ) (bits : List Bool) (xs : List A) → kept bits xs ≡ kept (take n bits) (take n xs) ++ kept (drop n bits) (drop n xs)
-kept_split zero bits xs = refl
-kept_split (suc n) [] xs = refl
-kept_split (suc n) (b ∷ bits) [] = sym (kept_nothing (drop n bits))
-kept_split (suc n) (true ∷ bits) (x ∷ xs) = ap (λ l. x ∷ l) (kept_split n bits xs)
-kept_split (suc n) (false ∷ bits) (x ∷ xs) = kept_split n bits xs
 
 -- a mask that keeps all
 pub kept_all : {A : Type 0} (bits : List Bool) (xs : List A) → ((i : ℕ) → i < length xs → get_or bits i false ≡ true) → kept bits xs ≡ xs
@@ -152,23 +88,6 @@ word_first xs word t d few within here below =
 -- no item is kept by 0
 pub kept_by_zero : {A : Type 0} (xs : List A) → kept (tabulate (bit_of_word 0) 64) xs ≡ []
 kept_by_zero xs = kept_none (tabulate (bit_of_word 0) 64) xs (λ i h. get_or-map-range_with_len (bit_of_word 0) 0 64 i i false (omega (arith, length-map-range_with_len (bit_of_word 0) 0 64)) (omega arith) ∙ no_bit i)
-  where
-    kept_none : {A : Type 0} (bits : List Bool) (xs : List A) → ((i : ℕ) → i < length bits → get_or bits i false ≡ false) → kept bits xs ≡ []
-    kept_none [] xs each = refl
-    kept_none (b ∷ bits) [] each = refl
-    kept_none (b ∷ bits) (x ∷ xs) each = rw (each 0 (omega arith)) (kept_none bits xs (λ i h. each (suc i) (omega arith)))
-
-pub word_within : (word t : ℕ) → bit_at word t ≡ 1 → bit_of_word word t ≡ true
-unfolding bit_of_word
-word_within word t e = ap (λ (m : ℕ). m == 1) e
-
--- a bit that is set without the lowest was set
-pub bit_stays : (word t j : ℕ) → bit_at word t ≡ 1 → ((i : ℕ) → i < t → bit_at word i ≡ 0) → bit_of_word (bit_and word (word - 1)) j ≡ true → bit_of_word word j ≡ true
-unfolding bit_of_word
-bit_stays word t j here below set = elim (cases_eq j t) [
-  | inl same ↦ ap (λ (m : ℕ). bit_at word m == 1) same ∙ ap (λ (m : ℕ). m == 1) here
-  | inr other ↦ ap (λ (m : ℕ). m == 1) (sym (others_left word t j here below other)) ∙ set
-]
 
 -- as long as an item is to come, there is room for it
 pub room_left : {A : Type 0} (now more old all : List A) (x : A) → now ++ x ∷ more ≡ old ++ all → length now < length old + length all
@@ -273,16 +192,6 @@ pub word_items : {A : Type 0} (bits : List Bool) (xs taken grown new : List A) (
 word_items bits xs taken grown new run k count word s more is =
     let here = kept (tabulate (bit_of_word word) 64) (take (64 * k + count - 64 * k) (drop (64 * k) xs)) in
     filter_sum taken new (take (64 * k - run) (drop run xs)) here (kept (drop (64 * k + count) bits) (drop (64 * k + count) xs)) (kept bits xs) (word_step bits xs taken run k count word s) (is ∙ ap (λ l. l ++ here) more)
-
--- one more bit through a mask
-pub bit_kept : (bits valid old new : List Bool) (i : ℕ) (bit : Bool) → length bits ≡ length valid → i < length bits → slice_get bits i ≡ Some true → slice_get valid i ≡ Some bit → old ≡ kept (take i bits) (take i valid) → new ≡ old ++ bit ∷ []
-    → new ≡ kept (take (i + 1) bits) (take (i + 1) valid)
-bit_kept bits valid old new i bit even h on is before more =
-    more ∙ ap (λ l. l ++ bit ∷ []) before ∙ ap (λ b. kept (take i bits) (take i valid) ++ b ∷ []) (sym (get_or_from_slice_get valid i bit false is))
-    ∙ sym (kept_yes bits valid i false h (omega arith) (get_or_from_slice_get bits i true false on))
-
-pub bit_left_out : (bits valid old : List Bool) (i : ℕ) → length bits ≡ length valid → i < length bits → slice_get bits i ≡ Some false → old ≡ kept (take i bits) (take i valid) → old ≡ kept (take (i + 1) bits) (take (i + 1) valid)
-bit_left_out bits valid old i even h off before = before ∙ sym (kept_no bits valid i h (omega arith) (get_or_from_slice_get bits i false false off))
 
 kept_masked : {A : Type 0} (bits valid_bits : List Bool) (xs : List A) → kept bits (masked valid_bits xs) ≡ masked (kept bits valid_bits) (kept bits xs)
 kept_masked [] valid_bits xs = refl

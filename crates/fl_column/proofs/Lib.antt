@@ -1,3 +1,4 @@
+pub mod BitmapLaws
 pub mod BuilderLaws
 pub mod CastLaws
 pub mod CastSlotLaws
@@ -14,5 +15,6 @@ pub mod NamedLaws
 pub mod NumberLaws
 pub mod PatternLaws
 pub mod QuestionLaws
+pub mod RangeLaws
 pub mod SelectionLaws
 pub mod SimplestLaws

@@ -1,6 +1,6 @@
 -- The simplest validity of items is the one that their bits say.
 use Rattle.std.proofs.lemmas.Bool.Decides.{Decides-eqb}
-use Rattle.std.proofs.Common.{◌≡◌, ℕ, suc, IsTrue, ℤ, ◌<◌, ◌≤◌, Bool, true, false, List, [], ◌∷◌, length, map, take, not, take_all, Some, None, refl, ap, sym, ◌∙◌, arith}
+use Rattle.std.proofs.Common.{◌≡◌, ℕ, suc, IsTrue, ℤ, ◌<◌, ◌≤◌, Bool, true, false, List, [], ◌∷◌, length, map, Some, None, refl, ap, sym, ◌∙◌, arith}
 use Rattle.std.specs.Prelude.{is_none, is_some, if◌then◌else◌}
 use Rattle.std.specs.Bool.{beq}
 use Rattle.std.specs.List.{list_all}
@@ -99,19 +99,3 @@ same_simplest p xs (valid.Array bits) h =
 -- a plain array with its simplest validity is the same column
 pub simplest_column : (a b : PrimitiveParts) → IsTrue (covers a.validity (length a.slots)) → b ≡ record { ptype = a.ptype; slots = a.slots; validity = item_validity (nullability_of a.validity) (column_of_primitive a).items } → column_of_primitive b ≡ column_of_primitive a
 simplest_column a b h e = ap column_of_primitive e ∙ same_simplest a.ptype a.slots a.validity h
-
--- what holds of the first ones, which are all, holds of all
-pub all_taken : {A : Type 0} (p : A → Bool) (xs : List A) (n : ℕ) → length xs ≤ n → list_all p (take n xs) ≡ true → true ≡ list_all p xs
-all_taken p xs n h e = sym (ap (list_all p) (sym (take_all n xs h)) ∙ e)
-
-pub is_this_bit : (bit other : Bool) → not (beq other bit) ≡ false → beq bit other ≡ true
-is_this_bit true true e = refl
-is_this_bit true false e = cc
-is_this_bit false true e = cc
-is_this_bit false false e = refl
-
-pub is_other_bit : (bit other : Bool) → not (beq other bit) ≡ true → beq bit other ≡ false
-is_other_bit true true e = cc
-is_other_bit true false e = refl
-is_other_bit false true e = refl
-is_other_bit false false e = cc

@@ -6,6 +6,7 @@ pub use Rattle.fl_types.specs.Buffers
 pub use Rattle.fl_types.specs.Types
 pub use Rattle.fl_types.specs.Validities
 pub use Rattle.fl_types.specs.Values
+pub mod Bitmaps
 pub mod Builders
 pub mod Casts
 pub mod Chunks

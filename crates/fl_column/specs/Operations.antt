@@ -1,5 +1,5 @@
 -- What operations make of columns, or why they make nothing.
-use Rattle.std.specs.Prelude.{◌+◌, ◌+ℤ◌, ◌==◌, ◌&&◌, ◌||◌, ◌^◌, ℕ, ℤ, pos, Bool, not, List, [], ◌∷◌, length, map, Option, Some, None, Result, Ok, Err, ok_or, option_map, option_and_then, is_none, nat_le, nat_lt, int_le, int_lt, if◌then◌else◌, sum_by, flat_map, slice_index_or, unsigned_abs}
+use Rattle.std.specs.Prelude.{◌+◌, ◌+ℤ◌, ◌==◌, ◌&&◌, ◌||◌, ◌^◌, ℕ, ℤ, pos, Bool, not, List, length, map, Option, Some, None, Result, Ok, Err, ok_or, option_map, option_and_then, is_none, nat_le, nat_lt, int_le, int_lt, if◌then◌else◌, sum_by, flat_map, slice_index_or, unsigned_abs}
 use Rattle.std.specs.List.{list_all, list_any}
 use Rattle.fl_types.specs.declared.dtype.DType.{DType}
 use Rattle.fl_types.specs.declared.dtype.DType.TheVariants as dtypes
@@ -10,7 +10,8 @@ use Rattle.fl_types.specs.declared.error.FastLanesError.TheVariants.{NotInteger,
 use Rattle.fl_types.specs.declared.mask.Mask.{Mask}
 use Rattle.fl_types.specs.Masks.{mask_bits, mask_len}
 use Rattle.fl_types.specs.Integers.{fits}
-use Rattle.fl_types.specs.Bits.{between}
+use Rattle.fl_types.specs.Bits.{between, kept}
+pub use Rattle.fl_types.specs.Bits.{kept}
 use Rattle.fl_types.specs.Types.{can_be_null, either_nullable, is_integer, nullability_in, with_nullability}
 use Rattle.fl_column.specs.Columns.{Column, option_all}
 
@@ -73,12 +74,6 @@ ranges_column ranges c =
     else Ok (ranges_of ranges c)
 
 -- ---- filter
--- the items at the true places, in order
-abbrev pub kept : {A : Type 0} → List Bool → List A → List A
-kept [] items = []
-kept (bit ∷ bits) [] = []
-kept (bit ∷ bits) (x ∷ items) = if bit then x ∷ kept bits items else kept bits items
-
 -- the column of the items that the mask keeps
 abbrev pub filter_of : Mask → Column → Column
 filter_of mask c = record { dtype = c.dtype; items = kept (mask_bits mask) c.items }

@@ -121,15 +121,11 @@ fn cast_from<S: NativePType>(
 }
 
 /// Whether a bit is not set.
+#[tactic(auto, using(crate::proofs::CastLaws::unset_by_test))]
 pub(crate) fn has_unset(bits: &BitList) -> bool
     ensures { result ≡ nat_lt (true_count bits.now) (length bits.now) }
 {
-    for i in 0..bits.len() {
-        if !bits.get(i) {
-            return true;
-        }
-    }
-    false
+    !bits.are_all(true)
 }
 
 /// Whether any of this many items is null.

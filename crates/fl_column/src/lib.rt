@@ -2,6 +2,7 @@
 //! validities and errors are re-exported, so that users of columns list this crate alone.
 #![tactic(auto)]
 
+pub mod bitmaps;
 pub mod bools;
 pub mod builder;
 mod casting;
@@ -24,6 +25,7 @@ pub use crate::constant::ConstantArray;
 pub use crate::numbers::{index_array, number_at};
 pub use crate::physical::PhysicalPType;
 pub use crate::primitive::PrimitiveArray;
+pub use crate::selection::filtered::filter_validity;
 pub use crate::selection::without_nulls::is_full;
 pub use crate::selection::{item_at, ranges_total};
 pub use fl_types::{

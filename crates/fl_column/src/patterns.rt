@@ -19,8 +19,8 @@ pub fn write_patterns<T: PhysicalPType>(values: &[T], block: &mut [T::Physical; 
     }
 }
 
-/// Appends the values of these patterns. If a request for memory is refused, nothing is appended.
-pub fn push_values<T: PhysicalPType>(
+/// Appends the values of these patterns, converted. If a request for memory is refused, nothing is appended.
+fn push_converted<T: PhysicalPType>(
     patterns: &[T::Physical],
     values: &mut Vec<T>,
 ) -> Result<(), AllocError>
@@ -32,4 +32,18 @@ pub fn push_values<T: PhysicalPType>(
         values.push_reserved(T::from_physical(*pattern));
     }
     Ok(())
+}
+
+/// Appends the values of these patterns. If a request for memory is refused, nothing is appended.
+pub fn push_values<T: PhysicalPType>(
+    patterns: &[T::Physical],
+    values: &mut Vec<T>,
+) -> Result<(), AllocError>
+    ensures values { OnOk result (map T.value values.new.items ≡ map T.value values.old.items ++ map (λ w. read_as T.PTYPE (T.Physical.pattern w)) patterns.now) }
+    ensures err { OnErr result (values.new.items ≡ values.old.items) }
+{
+    match T::values_of(patterns) {
+        Some(items) => values.extend_from_slice(items),
+        None => push_converted(patterns, values),
+    }
 }

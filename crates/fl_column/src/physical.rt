@@ -1,6 +1,6 @@
 //! The bit patterns of the eight integer types.
 
-ghost use Rattle.std.specs.Prelude.{◌≡◌, refl};
+ghost use Rattle.std.specs.Prelude.{◌≡◌, IfSome, map, refl};
 ghost use Rattle.fl_types.specs.Integers.{bits_of_type, pattern_of, read_as};
 
 use fastlanes::FastLanes;
@@ -23,6 +23,14 @@ pub trait PhysicalPType: NativePType {
     fn pattern(self) -> u64
         ensures { result ≡ pattern_of Self.PTYPE (Self.value self) };
 
+    /// The values of these patterns, where the type is unsigned and each value is its pattern; else `None`.
+    fn values_of(patterns: &[Self::Physical]) -> Option<&[Self]>
+        ensures { IfSome result (λ values. map Self.value values.now ≡ map (λ w. read_as Self.PTYPE (Self.Physical.pattern w)) patterns.now) };
+
+    /// The patterns of these values, where the type is unsigned and each pattern is its value; else `None`.
+    fn patterns_of(values: &[Self]) -> Option<&[Self::Physical]>
+        ensures { IfSome result (λ patterns. map Self.Physical.pattern patterns.now ≡ map (pattern_of Self.PTYPE) (map Self.value values.now)) };
+
     // The patterns have the type's bits.
     ghost width_law: { Self.Physical.T ≡ bits_of_type Self.PTYPE };
 }
@@ -44,6 +52,14 @@ impl PhysicalPType for u8 {
     fn pattern(self) -> u64 {
         self as u64
     }
+
+    fn values_of(patterns: &[u8]) -> Option<&[u8]> {
+        Some(patterns)
+    }
+
+    fn patterns_of(values: &[u8]) -> Option<&[u8]> {
+        Some(values)
+    }
 }
 
 #[tactic(auto, using(fl_types::proofs::Patterns::patterns))]
@@ -62,6 +78,14 @@ impl PhysicalPType for u16 {
 
     fn pattern(self) -> u64 {
         self as u64
+    }
+
+    fn values_of(patterns: &[u16]) -> Option<&[u16]> {
+        Some(patterns)
+    }
+
+    fn patterns_of(values: &[u16]) -> Option<&[u16]> {
+        Some(values)
     }
 }
 
@@ -82,6 +106,14 @@ impl PhysicalPType for u32 {
     fn pattern(self) -> u64 {
         self as u64
     }
+
+    fn values_of(patterns: &[u32]) -> Option<&[u32]> {
+        Some(patterns)
+    }
+
+    fn patterns_of(values: &[u32]) -> Option<&[u32]> {
+        Some(values)
+    }
 }
 
 #[tactic(auto, using(fl_types::proofs::Patterns::patterns))]
@@ -100,6 +132,14 @@ impl PhysicalPType for u64 {
 
     fn pattern(self) -> u64 {
         self
+    }
+
+    fn values_of(patterns: &[u64]) -> Option<&[u64]> {
+        Some(patterns)
+    }
+
+    fn patterns_of(values: &[u64]) -> Option<&[u64]> {
+        Some(values)
     }
 }
 
@@ -120,6 +160,14 @@ impl PhysicalPType for i8 {
     fn pattern(self) -> u64 {
         self.cast_unsigned() as u64
     }
+
+    fn values_of(_patterns: &[u8]) -> Option<&[i8]> {
+        None
+    }
+
+    fn patterns_of(_values: &[i8]) -> Option<&[u8]> {
+        None
+    }
 }
 
 #[tactic(auto, using(fl_types::proofs::Patterns::patterns))]
@@ -138,6 +186,14 @@ impl PhysicalPType for i16 {
 
     fn pattern(self) -> u64 {
         self.cast_unsigned() as u64
+    }
+
+    fn values_of(_patterns: &[u16]) -> Option<&[i16]> {
+        None
+    }
+
+    fn patterns_of(_values: &[i16]) -> Option<&[u16]> {
+        None
     }
 }
 
@@ -158,6 +214,14 @@ impl PhysicalPType for i32 {
     fn pattern(self) -> u64 {
         self.cast_unsigned() as u64
     }
+
+    fn values_of(_patterns: &[u32]) -> Option<&[i32]> {
+        None
+    }
+
+    fn patterns_of(_values: &[i32]) -> Option<&[u32]> {
+        None
+    }
 }
 
 #[tactic(auto, using(fl_types::proofs::Patterns::patterns))]
@@ -176,5 +240,13 @@ impl PhysicalPType for i64 {
 
     fn pattern(self) -> u64 {
         self.cast_unsigned()
+    }
+
+    fn values_of(_patterns: &[u64]) -> Option<&[i64]> {
+        None
+    }
+
+    fn patterns_of(_values: &[i64]) -> Option<&[u64]> {
+        None
     }
 }

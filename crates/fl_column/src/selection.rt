@@ -1,6 +1,6 @@
 //! Selections from plain arrays: by indices, by ranges, by a mask.
 
-mod filtered;
+pub(crate) mod filtered;
 mod with_bits;
 pub(crate) mod without_nulls;
 
@@ -253,6 +253,9 @@ fn take_fitting_ranges(
     // For the proof: there are as many items as slots.
     let _len = array.len();
     let (slots, validity) = (array.slots(), array.validity());
+    if is_full(validity) {
+        return without_nulls::take_ranges(alloc, array, ranges, total);
+    }
     match_each_integer_ptype!(
         slots.ptype(),
         ranges_typed(slots, alloc, validity, ranges, total)

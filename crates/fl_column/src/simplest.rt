@@ -1,8 +1,6 @@
 //! Plain arrays whose validity has its simplest form.
 
 ghost use Rattle.std.specs.Prelude.{◌≡◌, ℤ, List, IsTrue, length};
-ghost use Rattle.std.specs.Bool.{beq};
-ghost use Rattle.std.specs.List.{list_all};
 ghost use Rattle.fl_types.specs.declared.dtype.Nullability.TheVariants.{Nullable};
 ghost use Rattle.fl_types.specs.declared.validity.Validity.TheVariants.{AllInvalid, Array};
 ghost use Rattle.fl_types.specs.Validities.{covers, items_of, nullability_of};
@@ -11,27 +9,15 @@ ghost use Rattle.fl_column.specs.Columns.{column_of_primitive, item_validity};
 use crate::primitive::PrimitiveArray;
 use fl_types::{BitList, Validity};
 
-/// Whether each bit is this one.
-fn are_all(bits: &BitList, bit: bool) -> bool
-    ensures { result ≡ list_all (beq bit) bits.now }
-{
-    for i in 0..bits.len() {
-        if bits.get(i) != bit {
-            return false;
-        }
-    }
-    true
-}
-
 /// The simplest validity of items with these bits.
 #[tactic(auto, using(crate::proofs::SimplestLaws::by_tests))]
 fn simplest_of_bits(bits: BitList) -> Validity
     ensures value { (items : List ℤ) → length items ≡ length bits → result ≡ item_validity Nullable (items_of (Array bits) items) }
     ensures covers { IsTrue (covers result (length bits)) }
 {
-    if are_all(&bits, true) {
+    if bits.are_all(true) {
         Validity::AllValid
-    } else if are_all(&bits, false) {
+    } else if bits.are_all(false) {
         Validity::AllInvalid
     } else {
         Validity::Array(bits)

@@ -1,14 +1,12 @@
 -- Patches of exceptions that were found.
-use Rattle.std.proofs.Common.{◌≡◌, ℕ, ℤ, pos, zero, suc, ◌+◌, ◌-◌, ◌*◌, ◌<◌, ◌≤◌, ◌^◌, Bool, true, false, not, List, [], ◌∷◌, length, map, take, get_or, Option, Some, None, Result, Ok, IfOk, IsTrue, option_map, nat_le, nat_lt, min, if◌then◌else◌, refl, ap, sym, subst, ◌∙◌, arith, inl, inr}
+use Rattle.std.proofs.Common.{◌≡◌, ℕ, ℤ, pos, zero, suc, ◌+◌, ◌-◌, ◌*◌, ◌<◌, ◌≤◌, ◌^◌, Bool, true, not, List, [], ◌∷◌, length, map, take, get_or, Option, Some, None, Result, Ok, IfOk, IsTrue, option_map, nat_le, nat_lt, min, if◌then◌else◌, refl, ap, sym, subst, ◌∙◌, arith, inl, inr}
 use Rattle.std.proofs.lemmas.Bool.{and_from, and_parts, cases_lt, eq-eqb, le-leb, le-ltb, lt-ltb, ltb-true, not_from_false}
 use Rattle.std.proofs.lemmas.List.{length-map}
 use Rattle.std.proofs.lemmas.List.FromFn.{get_or-map-range_with_len, length-map-range_with_len}
-use Rattle.std.specs.List.{list_all, list_any}
-use Rattle.std.specs.Prelude.{is_none}
+use Rattle.std.specs.List.{list_all}
 use Rattle.fl_types.specs.declared.dtype.PType.{PType}
 use Rattle.fl_types.specs.declared.dtype.PType.TheVariants.{U64}
 use Rattle.fl_types.specs.declared.dtype.Nullability.{Nullability}
-use Rattle.fl_types.specs.declared.dtype.Nullability.TheVariants.{NonNullable, Nullable}
 use Rattle.fl_types.specs.declared.error.FastLanesError.{FastLanesError}
 use Rattle.fl_types.specs.declared.error.FastLanesError.TheVariants.{PatchType, PatchLength, PatchContent}
 use Rattle.fl_types.specs.declared.validity.Validity.{Validity}
@@ -24,7 +22,6 @@ use Rattle.fl_column.specs.Chunks.{chunk_count}
 use Rattle.fl_patches.specs.PatchMaps.{ArePatches, PatchesParts, count_below, is_index_within, is_rising, patch_contents_fit, patch_lengths_fit, patch_types_fit, places_from, rank_of, refusal_of, values_in}
 use Rattle.fl_patches.proofs.Chunks.{chunks_count}
 use Rattle.fl_column.proofs.FullLaws.{no_null}
-use Rattle.fl_column.proofs.NumberLaws.{smallest_unsigned}
 use Rattle.fl_patches.proofs.Parts.{patches_none, patches_some, sound}
 use Rattle.fl_patches.proofs.Rising.{count-cons}
 use Rattle.fl_patches.proofs.Selected.{answered, same_maps}

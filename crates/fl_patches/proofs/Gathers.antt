@@ -13,7 +13,6 @@ use Rattle.std.proofs.lemmas.List.FromFn.{map-range_with_len_more}
 use Rattle.fl_patches.proofs.Sparse.{places-append, places_even, values-append}
 use Rattle.fl_patches.proofs.Blocks.{between_append, exceptions_between, length-exceptions, take_between, take_to_block}
 use Rattle.fl_column.proofs.ItemLaws.{length-items_of, null_item_read, valid_item_read}
-use Rattle.fl_patches.proofs.Histograms.{between_next}
 use Rattle.fl_patches.specs.Exceptions.{bit_count, bits_of_item, exception, exceptions_of}
 use Rattle.fl_patches.specs.PatchParts.{AreGathered, HasBlocks, counts_before}
 use Rattle.fl_patches.proofs.BitCounts.{bit_count-le}
@@ -21,13 +20,6 @@ use Rattle.std.proofs.Common.{IsTrue, ◌/◌}
 use Rattle.fl_column.specs.Chunks.{chunk_count}
 use Rattle.fl_patches.specs.Widths.{NamesAll, block_width, width_at}
 use Rattle.fl_patches.specs.declared.widths.Widths.{Widths}
-
--- nothing at a place
-gathered_skip : (places : List ℕ) (values : List ℤ) (before : List (Option ℤ)) → AreGathered places values before → AreGathered places values (before ++ None ∷ [])
-gathered_skip places values before so = record {
-  placed = so.placed ∙ sym (places-append 0 before (None ∷ []) ∙ append-nil (places_from 0 before));
-  valued = so.valued ∙ sym (values-append before (None ∷ []) ∙ append-nil (values_in before));
-}
 
 -- an exception at a place
 gathered_push : (places : List ℕ) (values : List ℤ) (before : List (Option ℤ)) (place : ℕ) (z : ℤ) → length before ≡ place → AreGathered places values before → AreGathered (places ++ place ∷ []) (values ++ z ∷ []) (before ++ Some z ∷ [])
@@ -89,60 +81,14 @@ no_places n (None ∷ xs) nothing = no_places (n + 1) xs (λ i h. nothing (suc i
 no_places n (Some x ∷ xs) nothing = let first : Some x ≡ None = nothing 0 (omega arith) in absurd (cc)
 
 -- a part without exceptions
-gathered_nothing : (places : List ℕ) (values : List ℤ) (before part : List (Option ℤ)) → ((i : ℕ) → i < length part → get_or part i None ≡ None) → AreGathered places values before → AreGathered places values (before ++ part)
+pub gathered_nothing : (places : List ℕ) (values : List ℤ) (before part : List (Option ℤ)) → ((i : ℕ) → i < length part → get_or part i None ≡ None) → AreGathered places values before → AreGathered places values (before ++ part)
 gathered_nothing places values before part nothing so = record {
   placed = so.placed ∙ sym (places-append 0 before part ∙ (ap (λ ys. places_from 0 before ++ ys) (no_places (0 + length before) part nothing).0 ∙ append-nil (places_from 0 before)));
   valued = so.valued ∙ sym (values-append before part ∙ (ap (λ ys. values_in before ++ ys) (no_places 0 part nothing).1 ∙ append-nil (values_in before)));
 }
 
--- the items so far, and one more
-part_more : (t : PType) (w : ℕ) (xs : List (Option ℤ)) (start i : ℕ) (before : List (Option ℤ)) (e : Option ℤ) → start ≤ i → i < length xs → e ≡ exception t w (get_or xs i None)
-    → (before ++ map (exception t w) (between start i xs)) ++ e ∷ [] ≡ before ++ map (exception t w) (between start (i + 1) xs)
-part_more t w xs start i before e order h is =
-    rw (is, between_next xs start i None order h, map-append) (append_assoc before (map (exception t w) (between start i xs)) (exception t w (get_or xs i None) ∷ []))
-
-part_length : (t : PType) (w : ℕ) (xs : List (Option ℤ)) (start i : ℕ) (before : List (Option ℤ)) → length before ≡ start → start ≤ i → i ≤ length xs → length (before ++ map (exception t w) (between start i xs)) ≡ i
-part_length t w xs start i before len order h =
-    omega (arith, length-append before (map (exception t w) (between start i xs)), length-map (between start i xs) (exception t w), length-take (i - start) (drop start xs), length-drop start xs)
-
 gathered_as : (places : List ℕ) (values : List ℤ) (xs ys : List (Option ℤ)) → xs ≡ ys → AreGathered places values xs → AreGathered places values ys
 gathered_as places values xs ys e so = subst (λ zs. AreGathered places values zs) e so
-
--- an item read twice is the same
-same_read : {X : Type 0} (xs : List X) (i : ℕ) (x y : X) → i < length xs → x ≡ get_or xs i x → y ≡ get_or xs i y → x ≡ y
-same_read xs i x y h e f = e ∙ (get_or_default xs i x y h ∙ sym f)
-
--- one item more, which is no exception
-part_skip : (t : PType) (w : ℕ) (xs : List (Option ℤ)) (start i : ℕ) (before : List (Option ℤ)) (places : List ℕ) (values : List ℤ) → start ≤ i → i < length xs → exception t w (get_or xs i None) ≡ None
-    → AreGathered places values (before ++ map (exception t w) (between start i xs)) → AreGathered places values (before ++ map (exception t w) (between start (i + 1) xs))
-part_skip t w xs start i before places values order h none so =
-    gathered_as places values _ _ (part_more t w xs start i before None order h (sym none)) (gathered_skip places values (before ++ map (exception t w) (between start i xs)) so)
-
--- one item more, with no more bits than the width
-pub part_few : {X : Type 0} (t : PType) (value : X → ℤ) (v : Validity) (xs : List X) (start i w : ℕ) (x : X) (before : List (Option ℤ)) (places : List ℕ) (values : List ℤ) → IsTrue (covers v (length xs)) → start ≤ i → i < length xs → x ≡ get_or xs i x → bit_count (pattern_of t (value x)) ≤ w
-    → AreGathered places values (before ++ map (exception t w) (between start i (items_of v (map value xs)))) → AreGathered places values (before ++ map (exception t w) (between start (i + 1) (items_of v (map value xs))))
-part_few t value v xs start i w x before places values covered order h read few so =
-    part_skip t w (items_of v (map value xs)) start i before places values order (omega (arith, covered_values value v xs covered)) (exception_miss t value v xs i w x covered h read few) so
-
--- one item more, which is null
-pub part_null : {X : Type 0} (t : PType) (value : X → ℤ) (v : Validity) (xs : List X) (start i w : ℕ) (before : List (Option ℤ)) (places : List ℕ) (values : List ℤ) → IsTrue (covers v (length xs)) → start ≤ i → i < length xs → is_valid_at v i ≡ false
-    → AreGathered places values (before ++ map (exception t w) (between start i (items_of v (map value xs)))) → AreGathered places values (before ++ map (exception t w) (between start (i + 1) (items_of v (map value xs))))
-part_null t value v xs start i w before places values covered order h gone so =
-    part_skip t w (items_of v (map value xs)) start i before places values order (omega (arith, covered_values value v xs covered)) (exception_null t w _ (null_item_read value v xs i covered h gone)) so
-
--- one item more, which is an exception
-pub part_hit : {X : Type 0} (t : PType) (value : X → ℤ) (v : Validity) (xs : List X) (start i w : ℕ) (x y : X) (before : List (Option ℤ)) (places places' : List ℕ) (values values' : List ℤ) → IsTrue (covers v (length xs)) → length before ≡ start → start ≤ i → i < length xs
-    → is_valid_at v i ≡ true → x ≡ get_or xs i x → y ≡ get_or xs i y → w < bit_count (pattern_of t (value x))
-    → ((had : List (Option ℤ)) → length had ≡ i → AreGathered places values had → AreGathered places' values' (had ++ Some (value y) ∷ []))
-    → AreGathered places values (before ++ map (exception t w) (between start i (items_of v (map value xs)))) → AreGathered places' values' (before ++ map (exception t w) (between start (i + 1) (items_of v (map value xs))))
-part_hit t value v xs start i w x y before places places' values values' covered len order h here read again many step so =
-    let items : List (Option ℤ) = items_of v (map value xs) in
-    let count : length items ≡ length xs = covered_values value v xs covered in
-    let same : x ≡ y = same_read xs i x y h read again in
-    let some : get_or items i None ≡ Some (value y) = valid_item_read value v xs i y covered h here again in
-    let is : Some (value y) ≡ exception t w (get_or items i None) = rw some (sym (exception_many t w (Some (value y)) (rw same at many))) in
-    let long : length (before ++ map (exception t w) (between start i items)) ≡ i = part_length t w items start i before len order (omega arith) in
-    gathered_as places' values' _ _ (part_more t w items start i before (Some (value y)) order (omega arith) is) (step (before ++ map (exception t w) (between start i items)) long so)
 
 -- no item of nulls alone is an exception
 exception_gone : (t : PType) (w : ℕ) (zs : List ℤ) (i : ℕ) → exception t w (get_or (map (let null : ℤ → Option ℤ = λ z. None in null) zs) i None) ≡ None

@@ -10,6 +10,7 @@ pub mod Histograms
 pub mod Kept
 pub mod LeastCosts
 pub mod LeastTotals
+pub mod Marked
 pub mod Negatives
 pub mod Parts
 pub mod Picked

@@ -1,5 +1,5 @@
 -- What the loops over ranks and over positions keep from step to step, and what they have made at the end.
-use Rattle.std.proofs.Common.{◌≡◌, ℕ, ℤ, pos, ◌+◌, ◌<◌, ◌≤◌, List, [], ◌∷◌, ◌++◌, length, map, take, get_or, nat_lt, Option, None, option_and_then, unsigned_abs, true, Result, Ok, refl, ap, ◌∙◌, sym, arith, length-take}
+use Rattle.std.proofs.Common.{◌≡◌, ℕ, ℤ, pos, ◌+◌, ◌<◌, ◌≤◌, List, [], ◌∷◌, ◌++◌, length, map, take, get_or, nat_lt, Option, None, option_and_then, unsigned_abs, true, Ok, refl, ap, ◌∙◌, sym, arith, length-take}
 use Rattle.std.specs.List.{list_all}
 use Rattle.std.proofs.lemmas.Bool.{ltb-true}
 use Rattle.std.proofs.lemmas.List.{map-append, map_more, take_all, length-map}
@@ -7,8 +7,6 @@ use Rattle.fl_types.specs.Refusals.{Answers}
 use Rattle.fl_types.specs.Validities.{full_validity, nullability_of}
 use Rattle.fl_types.specs.declared.dtype.PType.{PType}
 use Rattle.fl_types.specs.declared.dtype.Nullability.{Nullability}
-use Rattle.fl_types.specs.declared.dtype.Nullability.TheVariants.{NonNullable, Nullable}
-use Rattle.fl_types.specs.declared.error.FastLanesError.{FastLanesError}
 use Rattle.fl_types.specs.declared.validity.Validity.{Validity}
 use Rattle.fl_column.specs.Columns.{PrimitiveParts, without_nulls}
 use Rattle.fl_column.proofs.GatherLaws.{mapped_more, value_read}

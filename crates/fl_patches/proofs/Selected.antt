@@ -1,14 +1,12 @@
 -- Patches of selected items.
-use Rattle.std.proofs.Common.{◌≡◌, ℕ, ℤ, pos, zero, suc, ◌+◌, ◌<◌, true, false, List, [], ◌∷◌, length, map, get_or, nat_lt, Option, Some, None, Result, Ok, Err, IfOk, option_map, option_and_then, unsigned_abs, refl, ap, subst, ◌∙◌, sym, arith}
+use Rattle.std.proofs.Common.{◌≡◌, ℕ, ℤ, pos, zero, suc, ◌+◌, ◌<◌, true, List, [], ◌∷◌, length, map, get_or, nat_lt, Option, Some, None, Result, Ok, Err, IfOk, option_map, option_and_then, unsigned_abs, refl, ap, subst, ◌∙◌, sym, arith}
 use Rattle.std.proofs.lemmas.Bool.{and_from, and_parts, le-leb, lt-ltb, ltb-true}
 use Rattle.std.proofs.lemmas.List.{length-map}
-use Rattle.std.specs.List.{list_all, list_any}
-use Rattle.std.specs.Prelude.{is_none}
+use Rattle.std.specs.List.{list_all}
 use Rattle.fl_types.specs.Integers.{smallest_type}
 use Rattle.fl_types.specs.Refusals.{Answers}
-use Rattle.fl_types.specs.Validities.{full_validity, items_of, nullability_of}
+use Rattle.fl_types.specs.Validities.{full_validity, nullability_of}
 use Rattle.fl_types.specs.declared.dtype.Nullability.{Nullability}
-use Rattle.fl_types.specs.declared.dtype.Nullability.TheVariants.{NonNullable, Nullable}
 use Rattle.fl_types.specs.declared.dtype.PType.{PType}
 use Rattle.fl_types.specs.declared.error.FastLanesError.{FastLanesError}
 use Rattle.fl_types.specs.declared.validity.Validity.TheVariants as valid

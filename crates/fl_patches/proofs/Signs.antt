@@ -6,7 +6,7 @@ use Rattle.std.proofs.Math.Nat.{mod-eq_of_lt, pow-le-pow_right}
 use Rattle.std.proofs.lemmas.Bool.{cases_lt, eq-eqb, ne_eqb, le-ltb, lt-ltb}
 use Rattle.fl_types.specs.declared.dtype.PType.{PType}
 use Rattle.fl_types.specs.declared.dtype.PType.TheVariants.{U8, U16, U32, U64, I8, I16, I32, I64}
-use Rattle.fl_types.specs.Integers.{bits_of_type, fits, is_unsigned, pattern_of, read_as}
+use Rattle.fl_types.specs.Integers.{bits_of_type, fits, is_unsigned, pattern_of}
 use Rattle.fl_types.proofs.Patterns.{read_pattern}
 use Rattle.fl_column.specs.Columns.{option_all}
 use Rattle.fl_column.proofs.ListLaws.{and_first, and_second}

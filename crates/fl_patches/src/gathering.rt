@@ -1,10 +1,10 @@
 //! The patches of the exceptions at a width.
 
-ghost use Rattle.std.specs.Prelude.{◌≡◌, ◌+◌, ◌*◌, ◌/◌, ◌<◌, ◌≤◌, ◌^◌, ◌++◌, ◌∷◌, [], ℕ, ℤ, pos, List, Option, IfOk, IsTrue, OnOk, None, Ok, Some, length, map, min, slice_index, slice_index_or};
-ghost use Rattle.fl_types.specs.Bits.{between, tabulate};
+ghost use Rattle.std.specs.Prelude.{◌≡◌, ◌+◌, ◌*◌, ◌/◌, ◌%◌, ◌<◌, ◌≤◌, ◌≢◌, ◌^◌, ◌++◌, ◌&&◌, ◌∷◌, [], ℕ, ℤ, pos, true, false, List, Option, IfOk, IsTrue, OnOk, None, Ok, Some, length, map, min, nat_lt, slice_index, slice_index_or, if◌then◌else◌};
+ghost use Rattle.fl_types.specs.Bits.{between, bit_of_word, tabulate};
 ghost use Rattle.fl_types.specs.Integers.{pattern_of, smallest_type};
 ghost use Rattle.fl_types.specs.Refusals.{Answers};
-ghost use Rattle.fl_types.specs.Validities.{covers, full_validity, items_of, masked, nullability_of};
+ghost use Rattle.fl_types.specs.Validities.{covers, full_validity, items_of, nullability_of};
 ghost use Rattle.fl_column.specs.Chunks.{chunk_count};
 ghost use Rattle.fl_patches.specs.PatchMaps.{ArePatches, places_from};
 ghost use Rattle.fl_patches.specs.Exceptions.{bit_count, exception, exceptions_of, one_width, width_of_block};
@@ -12,14 +12,15 @@ ghost use Rattle.fl_patches.specs.PatchParts.{AreChunked, AreGathered, HasBlocks
 ghost use Rattle.fl_patches.specs.Widths.{NamesAll, width_at};
 
 use crate::Patches;
-use crate::patterns::{bit_count, bits_of};
+use crate::patterns::bit_count;
 use crate::widths::Widths;
+use fastlanes::FastLanes;
 use fl_column::{PhysicalPType, PrimitiveArray, chunk_bounds, chunk_count, index_array};
-use fl_types::{BitList, FastLanesError, Validity, match_each_integer_ptype};
+use fl_types::{FastLanesError, Validity, match_each_integer_ptype};
 use std::alloc::{AllocError, Global};
 
-/// How many items are tested together.
-const GROUP: usize = 16;
+/// How many items are marked in a word.
+const GROUP: usize = 64;
 
 /// Exceptions that are found one by one: their places, rising, and beside each its value.
 #[derive(Drop)]
@@ -48,50 +49,21 @@ impl<T: PhysicalPType> PatchesBuilder<T> {
         Ok(())
     }
 
-    /// Adds the exceptions at a width among the items from `start` to below `end`, where those are
-    /// null whose bit isn't set.
-    fn push_masked(
-        &mut self,
-        items: &[T],
-        bits: &BitList,
-        width: usize,
-        start: usize,
-        end: usize,
-    ) -> Result<(), AllocError>
-        requires even { length bits.now ≡ length items.now }
-        requires order { start ≤ end }
-        requires range { end ≤ length items.now }
-        ensures { OnOk result ((before : List (Option ℤ)) → length before ≡ start → AreGathered self.old.places.items (map T.value self.old.values.items) before → AreGathered self.new.places.items (map T.value self.new.values.items) (before ++ map (exception T.PTYPE width) (between start end (masked bits.now (map T.value items.now))))) }
+    /// Adds the items at the set bits of a word, of which bit `j` is that of item `start + j`.
+    fn push_marked(&mut self, items: &[T], marks: u64, start: usize) -> Result<(), AllocError>
+        requires { (j : ℕ) → bit_of_word marks j ≡ true → start + j < length items.now }
+        ensures { OnOk result ((before part : List (Option ℤ)) → length before ≡ start → length part ≤ 64 → ((j : ℕ) → bit_of_word marks j ≡ true → j < length part) → ((j : ℕ) → j < length part → slice_index_or part j None ≡ (if bit_of_word marks j then Some (slice_index_or (map T.value items.now) (start + j) (pos 0)) else None)) → AreGathered self.old.places.items (map T.value self.old.values.items) before → AreGathered self.new.places.items (map T.value self.new.values.items) (before ++ part)) }
     {
-        for i in start..end {
-            if bits_of(items[i]) > width && bits.get(i) {
-                self.push(i, items[i])?;
-            }
+        let mut rest = marks;
+        while rest != 0 {
+            let place = start + rest.trailing_zeros() as usize;
+            self.push(place, items[place])?;
+            rest &= rest - 1;
         }
         Ok(())
     }
 
-    /// Adds the exceptions at a width among the items from `start` to below `end`, where none is null.
-    fn push_present(
-        &mut self,
-        items: &[T],
-        width: usize,
-        start: usize,
-        end: usize,
-    ) -> Result<(), AllocError>
-        requires order { start ≤ end }
-        requires range { end ≤ length items.now }
-        ensures { OnOk result ((before : List (Option ℤ)) → length before ≡ start → AreGathered self.old.places.items (map T.value self.old.values.items) before → AreGathered self.new.places.items (map T.value self.new.values.items) (before ++ map (exception T.PTYPE width) (between start end (map (λ z. Some z) (map T.value items.now))))) }
-    {
-        for i in start..end {
-            if bits_of(items[i]) > width {
-                self.push(i, items[i])?;
-            }
-        }
-        Ok(())
-    }
-
-    /// Adds the exceptions at a width among a few items, those from `start` to below `end`.
+    /// Adds the exceptions at a width among the items of a word, those from `start` to below `end`.
     fn push_group(
         &mut self,
         items: &[T],
@@ -101,24 +73,24 @@ impl<T: PhysicalPType> PatchesBuilder<T> {
         end: usize,
     ) -> Result<(), AllocError>
         requires covers { IsTrue (covers validity.now (length items.now)) }
-        requires order { start ≤ end }
+        requires aligned { start % 64 ≡ 0 }
+        requires order { start < end }
+        requires few { end ≤ start + 64 }
         requires range { end ≤ length items.now }
         ensures { OnOk result ((before : List (Option ℤ)) → length before ≡ start → AreGathered self.old.places.items (map T.value self.old.values.items) before → AreGathered self.new.places.items (map T.value self.new.values.items) (before ++ map (exception T.PTYPE width) (between start end (items_of validity.now (map T.value items.now))))) }
     {
-        if bit_count(union_of(&items[start..end])) <= width {
-            return Ok(());
-        }
+        let marks = marks_of(&items[start..end], width);
         match validity {
-            Validity::NonNullable | Validity::AllValid => {
-                self.push_present(items, width, start, end)
-            }
+            Validity::NonNullable | Validity::AllValid => self.push_marked(items, marks, start),
             Validity::AllInvalid => Ok(()),
-            Validity::Array(bits) => self.push_masked(items, bits, width, start, end),
+            Validity::Array(bits) => {
+                self.push_marked(items, both(marks, bits.word(start / GROUP)), start)
+            }
         }
     }
 
-    /// Adds the exceptions at a width among the items from `start` to below `end`. Where there are few, most groups of
-    /// items have none, and are passed over by one test.
+    /// Adds the exceptions at a width among the items from `start` to below `end`. One test tells whether there may be
+    /// any.
     fn push_part(
         &mut self,
         items: &[T],
@@ -128,11 +100,12 @@ impl<T: PhysicalPType> PatchesBuilder<T> {
         end: usize,
     ) -> Result<(), AllocError>
         requires covers { IsTrue (covers validity.now (length items.now)) }
+        requires aligned { start % 64 ≡ 0 }
         requires order { start ≤ end }
         requires range { end ≤ length items.now }
         ensures { OnOk result ((before : List (Option ℤ)) → length before ≡ start → AreGathered self.old.places.items (map T.value self.old.values.items) before → AreGathered self.new.places.items (map T.value self.new.values.items) (before ++ map (exception T.PTYPE width) (between start end (items_of validity.now (map T.value items.now))))) }
     {
-        if bit_count(union_of(&items[start..end])) <= width {
+        if bit_count(greatest_of(&items[start..end])) <= width {
             return Ok(());
         }
         for k in 0..(end - start).div_ceil(GROUP) {
@@ -163,15 +136,66 @@ impl<T: PhysicalPType> PatchesBuilder<T> {
     }
 }
 
-/// A pattern with every bit that a pattern of the items has.
-fn union_of<T: PhysicalPType>(items: &[T]) -> u64
+/// The greater of two patterns.
+fn greater<W: FastLanes>(x: W, y: W) -> W
+    ensures first { W.pattern x ≤ W.pattern result }
+    ensures second { W.pattern y ≤ W.pattern result }
+{
+    if x.at_most(y) { y } else { x }
+}
+
+/// The greatest pattern of the items, 0 of none.
+fn greatest_of<T: PhysicalPType>(items: &[T]) -> u64
     ensures { (i : ℕ) → i < length items.now → pattern_of T.PTYPE (slice_index_or (map T.value items.now) i (pos 0)) ≤ result }
 {
-    let mut union = 0;
+    let mut greatest = T::Physical::zero();
     for item in items {
-        union |= item.pattern();
+        greatest = greater(greatest, item.to_physical());
     }
-    union
+    greatest.to_u64()
+}
+
+/// The greatest pattern that has no more bits than a width.
+fn most_of(width: usize) -> u64
+    ensures { (p : ℕ) → p < 2 ^ 64 → nat_lt result p ≡ nat_lt width (bit_count p) }
+{
+    if width < 64 {
+        (1 << width) - 1
+    } else {
+        u64::MAX
+    }
+}
+
+/// The word with bit `at`, which is not set, as `on` says.
+#[tactic(auto, using(fl_types::proofs::BitLists::set_bits))]
+fn with_bit(word: u64, at: usize, on: bool) -> u64
+    requires within { at < 64 }
+    requires clear { bit_of_word word at ≡ false }
+    ensures bit { bit_of_word result at ≡ on }
+    ensures others { (j : ℕ) → j ≢ at → bit_of_word result j ≡ bit_of_word word j }
+{
+    if on { word | 1 << at } else { word }
+}
+
+/// The bits that two words have.
+fn both(x: u64, y: u64) -> u64
+    ensures { (j : ℕ) → bit_of_word result j ≡ (bit_of_word x j && bit_of_word y j) }
+{
+    x & y
+}
+
+/// Marks the items that have more bits than a width: bit `j` is that of item `j`.
+fn marks_of<T: PhysicalPType>(items: &[T], width: usize) -> u64
+    requires { length items.now ≤ 64 }
+    ensures marks { (j : ℕ) → j < length items.now → bit_of_word result j ≡ nat_lt width (bit_count (pattern_of T.PTYPE (slice_index_or (map T.value items.now) j (pos 0)))) }
+    ensures inside { (j : ℕ) → length items.now ≤ j → bit_of_word result j ≡ false }
+{
+    let most = most_of(width);
+    let mut marks = 0;
+    for j in 0..items.len() {
+        marks = with_bit(marks, j, items[j].pattern() > most);
+    }
+    marks
 }
 
 /// The exceptions at the widths of the blocks, and how many of them stand before each block.

@@ -1,13 +1,13 @@
 -- Bits of a word that are added to a list of bits.
-use Rattle.std.proofs.Common.{◌≡◌, ◌≢◌, ℕ, zero, suc, ◌+◌, ◌-◌, ◌*◌, ◌/◌, ◌%◌, ◌^◌, ◌<◌, ◌≤◌, ◌==◌, List, [], ◌∷◌, ◌++◌, Bool, false, length, get_or, set, max, refl, ap, sym, ◌∙◌, inl, inr, arith, append_assoc, append-nil}
+use Rattle.std.proofs.Common.{◌≡◌, ◌≢◌, ℕ, zero, suc, ◌+◌, ◌-◌, ◌*◌, ◌/◌, ◌%◌, ◌^◌, ◌<◌, ◌≤◌, ◌==◌, List, [], ◌∷◌, ◌++◌, false, length, get_or, set, ap, sym, ◌∙◌, inl, inr, arith, append_assoc, append-nil}
 use Rattle.std.specs.Int.{bit_at}
 use Rattle.std.specs.Int.Bits.{bit_or}
 use Rattle.std.proofs.lemmas.Bool.{cases_eq, cases_lt}
 use Rattle.std.proofs.lemmas.Bool.Decides.{nat_tests}
-use Rattle.std.proofs.lemmas.Nat.Bits.{bit_at_above, bit_at_or, bit_at-lt}
+use Rattle.std.proofs.lemmas.Nat.Bits.{bit_at_or, bit_at-lt}
 use Rattle.std.proofs.lemmas.List.FromFn.{map-range_with_len_more}
 use Rattle.fl_types.specs.Bits.{bit_of_word, first_bits, is_set, tabulate}
-use Rattle.fl_types.proofs.BitLists.{is_set_at, is_set_below, is_set_in, is_set_last, is_set_out, same_tables}
+use Rattle.fl_types.proofs.BitLists.{is_set_at, is_set_in, is_set_last, is_set_out, same_tables}
 use Rattle.fl_types.proofs.MovedBits.{above_shift, below_shift, from_shift, low_bit}
 
 test_of : (x y : ℕ) → x ≡ y → (x == 1) ≡ (y == 1)

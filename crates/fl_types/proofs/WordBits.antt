@@ -123,7 +123,7 @@ part_of_bits old new n start end order range each =
     ∙ same_tables (λ i. get_or bits (start + i) false) (is_set new) (end - start) (λ i h. get_or-map-range_with_len (is_set old) 0 n (start + i) (start + i) false (omega arith) (omega arith) ∙ sym (each i h))
 
 -- two words are equal where their bits are
-same_words : (a b : ℕ) → a < 2 ^ 64 → b < 2 ^ 64 → ((j : ℕ) → j < 64 → bit_of_word a j ≡ bit_of_word b j) → a ≡ b
+pub same_words : (a b : ℕ) → a < 2 ^ 64 → b < 2 ^ 64 → ((j : ℕ) → j < 64 → bit_of_word a j ≡ bit_of_word b j) → a ≡ b
 unfolding bit_of_word
 same_words a b small few same = same_from_bits_below 64 a b small few (λ j h. same_bit (bit_at a j) (bit_at b j) (bit_at-lt a j) (bit_at-lt b j) (same j h))
   where

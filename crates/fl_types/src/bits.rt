@@ -1,11 +1,12 @@
 //! Lists of booleans.
 
-ghost use Rattle.std.specs.Prelude.{◌≡◌, ◌≢◌, ◌<◌, ◌≤◌, ◌+◌, ◌^◌, ◌*◌, ◌/◌, ◌%◌, ℕ, Bool, [], ◌∷◌, ◌++◌, length, slice_get, slice_index, slice_index_or, slice_set, false, Some, IfOk, IfErr, OnOk, OnErr, Ok};
+ghost use Rattle.std.specs.Prelude.{◌≡◌, ◌≢◌, ◌<◌, ◌≤◌, ◌+◌, ◌^◌, ◌*◌, ◌/◌, ◌%◌, ℕ, Bool, [], ◌∷◌, ◌++◌, length, slice_get, slice_index, slice_index_or, slice_set, false, Some, IfOk, IfErr, OnOk, OnErr, Ok, count_ones};
 ghost use Rattle.std.specs.Bool.{beq};
 ghost use Rattle.std.specs.Cmp.{bool_eq_equiv, partial_equiv_from_equiv};
 ghost use Rattle.std.specs.Cmp.Lexicographic.{lists_equiv, lists_per, pointwise};
 ghost use Rattle.std.specs.Int.{bit_at};
-ghost use Rattle.fl_types.specs.Bits.{between, bit_of_word, bits_from, first_bits, is_set, tabulate, true_count};
+ghost use Rattle.std.specs.List.{list_all};
+ghost use Rattle.fl_types.specs.Bits.{between, bit_of_word, bits_from, bits_of_word, first_bits, is_set, kept, tabulate, true_count};
 ghost use Rattle.fl_types.specs.Refusals.{Answers};
 ghost use Rattle.fl_types.specs.declared.error.FastLanesError.TheVariants.{OutOfMemory};
 
@@ -41,6 +42,15 @@ impl BitList {
             words: Vec::new(alloc),
             len: 0,
         }
+    }
+
+    /// An empty list with room for this many booleans, which grows with this allocator.
+    #[tactic(auto, unfolding(crate::specs::Bits::first_bits))]
+    pub fn with_capacity(alloc: Global, len: usize) -> Result<BitList, FastLanesError>
+        ensures { Answers (λ b. b) result (Ok []) }
+    {
+        let words = Vec::with_capacity(alloc, word_count(len))?;
+        Ok(BitList { words, len: 0 })
     }
 
     /// The number of booleans.
@@ -152,6 +162,19 @@ impl BitList {
         Ok(BitList { words, len })
     }
 
+    /// The booleans at the set bits of a mask as long as the list, in order.
+    pub fn filter(&self, alloc: Global, mask: &BitList) -> Result<BitList, FastLanesError>
+        requires { length mask.now ≡ length self.now }
+        ensures { Answers (λ b. b) result (Ok (kept mask.now self.now)) }
+    {
+        let mut taken = BitList::with_capacity(alloc, mask.count_true())?;
+        for k in 0..word_count(self.len()) {
+            let word = mask.word(k);
+            taken.push_word(gathered(self.word(k), word), word.count_ones() as usize)?;
+        }
+        Ok(taken)
+    }
+
     /// A copy.
     pub fn try_clone(&self, alloc: Global) -> Result<BitList, FastLanesError>
         ensures { Answers (λ b. b) result (Ok self.now) }
@@ -160,6 +183,19 @@ impl BitList {
             words: Vec::from_slice(alloc, self.words.as_slice())?,
             len: self.len,
         })
+    }
+
+    /// Whether each boolean is this one.
+    pub fn are_all(&self, bit: bool) -> bool
+        ensures { result ≡ list_all (beq bit) self.now }
+    {
+        let len = self.len();
+        for k in 0..word_count(len) {
+            if self.word(k) != repeated(bit, len - 64 * k) {
+                return false;
+            }
+        }
+        true
     }
 
     /// The number of booleans that are true.
@@ -321,6 +357,46 @@ fn low_bits(word: u64, count: usize) -> u64
     } else {
         word
     }
+}
+
+/// The word whose lowest `count` bits are all `bit`, and whose others are not set.
+fn repeated(bit: bool, count: usize) -> u64
+    ensures low { (j : ℕ) → j < 64 → j < count → bit_of_word result j ≡ bit }
+    ensures clear { (j : ℕ) → count ≤ j → bit_of_word result j ≡ false }
+{
+    if bit { low_bits(u64::MAX, count) } else { 0 }
+}
+
+/// The word without bit `at`.
+fn without_bit(word: u64, at: usize) -> u64
+    requires { at < 64 }
+    ensures here { bit_of_word result at ≡ false }
+    ensures others { (j : ℕ) → j < 64 → j ≢ at → bit_of_word result j ≡ bit_of_word word j }
+{
+    word & !(1 << at)
+}
+
+/// How many bits of a word below bit `at` are set.
+fn ones_below(word: u64, at: usize) -> usize
+    requires { at < 64 }
+    ensures ones { result ≡ true_count (tabulate (bit_of_word word) at) }
+    ensures few { result < 64 }
+{
+    low_bits(word, at).count_ones() as usize
+}
+
+/// The bits of a word at the set bits of a mask, in order, the first in the lowest bit. They are all set, and then those
+/// that are not set in the word are cleared one by one, since most bits of a validity are set.
+fn gathered(word: u64, mask: u64) -> u64
+    ensures { tabulate (bit_of_word result) (count_ones mask) ≡ kept (bits_of_word mask) (bits_of_word word) }
+{
+    let mut gathered = u64::MAX;
+    let mut rest = mask & !word;
+    while rest != 0 {
+        gathered = without_bit(gathered, ones_below(mask, rest.trailing_zeros() as usize));
+        rest &= rest - 1;
+    }
+    gathered
 }
 
 /// How many bits of these words are set.

@@ -14,14 +14,14 @@ use num_traits::{WrappingAdd, WrappingSub};
 use std::alloc::{AllocError, Global};
 
 /// The lesser of two integers.
-fn less<T: NativePType>(x: T, y: T) -> T
+pub(crate) fn less<T: NativePType>(x: T, y: T) -> T
     ensures { Some (T.value result) ≡ min_valid (Some (T.value x)) (Some (T.value y)) }
 {
     if y < x { y } else { x }
 }
 
 /// An integer less a reference, modulo 2 to the type's bits.
-fn minus<T: NativePType + WrappingSub>(item: T, reference: T) -> T
+pub(crate) fn minus<T: NativePType + WrappingSub>(item: T, reference: T) -> T
     ensures { T.value result ≡ wrap T.PTYPE (T.value item -ℤ T.value reference) }
 {
     item.wrapping_sub(&reference)

@@ -83,22 +83,8 @@ pub(crate) fn filter_slots(
     match_each_integer_ptype!(slots.ptype(), filter_typed(slots, alloc, bits))
 }
 
-/// The bits of `valid` at the set bits, in order.
-fn bits_set(alloc: Global, valid: &BitList, bits: &BitList) -> Result<BitList, FastLanesError>
-    requires { length bits.now ≡ length valid.now }
-    ensures { Answers (λ b. b) result (Ok (kept bits.now valid.now)) }
-{
-    let mut taken = BitList::new(alloc);
-    for i in 0..bits.len() {
-        if bits.get(i) {
-            taken.push(valid.get(i))?;
-        }
-    }
-    Ok(taken)
-}
-
 /// The validity of the items at the set bits.
-pub(crate) fn filter_validity(
+pub fn filter_validity(
     validity: &Validity,
     alloc: Global,
     bits: &BitList,
@@ -110,6 +96,6 @@ pub(crate) fn filter_validity(
         Validity::NonNullable => Ok(Validity::NonNullable),
         Validity::AllValid => Ok(Validity::AllValid),
         Validity::AllInvalid => Ok(Validity::AllInvalid),
-        Validity::Array(valid) => Ok(validity_of(bits_set(alloc, valid, bits)?)),
+        Validity::Array(valid) => Ok(validity_of(valid.filter(alloc, bits)?)),
     }
 }

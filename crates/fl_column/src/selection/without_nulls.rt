@@ -1,11 +1,14 @@
-//! Takes without null items and null indices: a loop over integers, without a bit or an `Option` for
+//! Takes of items and ranges without null items and null indices: loops over integers, without a bit or an `Option` for
 //! each.
 
-ghost use Rattle.std.specs.Prelude.{◌≡◌, IfOk, IsTrue, None, Some, map, unsigned_abs, if◌then◌else◌};
+ghost use Rattle.std.specs.Prelude.{◌≡◌, ◌+◌, ◌++◌, IfErr, IfOk, IsTrue, None, Ok, OnOk, Some, length, map, unsigned_abs, if◌then◌else◌};
+ghost use Rattle.std.specs.List.{flat_map, list_all};
+ghost use Rattle.fl_types.specs.Bits.{between};
 ghost use Rattle.fl_types.specs.Buffers.{integers_of, ptype_of};
 ghost use Rattle.fl_types.specs.Refusals.{Answers};
+ghost use Rattle.fl_types.specs.declared.error.FastLanesError.TheVariants.{OutOfMemory};
 ghost use Rattle.fl_column.specs.Columns.{column_of_primitive};
-ghost use Rattle.fl_column.specs.Operations.{is_in_range, take_column};
+ghost use Rattle.fl_column.specs.Operations.{is_in_range, range_fits, ranges_of, take_column};
 ghost use Rattle.fl_column.specs.Selections.{is_full, slots_named};
 
 use crate::primitive::PrimitiveArray;
@@ -99,5 +102,84 @@ pub(crate) fn take(
 {
     let nullability = array.nullability().or(indices.nullability());
     let slots = take_slots(array.slots(), alloc, indices.slots())?;
+    Ok(PrimitiveArray::from_buffer(slots, Validity::from(nullability)))
+}
+
+/// Adds the items of a range, which lies among them if it has any.
+fn push_range<T: NativePType>(
+    taken: &mut Vec<T>,
+    items: &[T],
+    start: usize,
+    len: usize,
+) -> Result<(), FastLanesError>
+    requires { IsTrue (range_fits (length items.now) (start, len)) }
+    ensures items { OnOk result (taken.new.items ≡ taken.old.items ++ between start (start + len) items.now) }
+    ensures memory { IfErr result (λ e. e ≡ OutOfMemory) }
+{
+    if len > 0 {
+        taken.extend_from_slice(&items[start..start + len])?;
+    }
+    Ok(())
+}
+
+/// The items of the ranges, which lie among them, one range after another.
+fn items_in_ranges<T: NativePType>(
+    alloc: Global,
+    items: &[T],
+    ranges: &[(usize, usize)],
+    total: usize,
+) -> Result<Vec<T>, FastLanesError>
+    requires { IsTrue (list_all (range_fits (length items.now)) ranges.now) }
+    ensures { Answers (λ v. v.items) result (Ok (flat_map (λ range. between range.0 (range.0 + range.1) items.now) ranges.now)) }
+{
+    let mut taken = Vec::with_capacity(alloc, total)?;
+    for range in ranges {
+        push_range(&mut taken, items, range.0, range.1)?;
+    }
+    Ok(taken)
+}
+
+fn ranges_typed<T: NativePType>(
+    slots: &PrimitiveBuffer,
+    alloc: Global,
+    ranges: &[(usize, usize)],
+    total: usize,
+) -> Result<PrimitiveBuffer, FastLanesError>
+    requires same { ptype_of slots.now ≡ T.PTYPE }
+    requires ranges { IsTrue (list_all (range_fits (length (integers_of slots.now))) ranges.now) }
+    ensures typed { IfOk result (λ s. ptype_of s ≡ ptype_of slots.now) }
+    ensures slots { Answers integers_of result (Ok (flat_map (λ range. between range.0 (range.0 + range.1) (integers_of slots.now)) ranges.now)) }
+{
+    let taken = items_in_ranges(alloc, T::as_slice(slots), ranges, total)?;
+    Ok(T::into_buffer(taken))
+}
+
+/// The slots of the ranges.
+fn slots_in_ranges(
+    slots: &PrimitiveBuffer,
+    alloc: Global,
+    ranges: &[(usize, usize)],
+    total: usize,
+) -> Result<PrimitiveBuffer, FastLanesError>
+    requires { IsTrue (list_all (range_fits (length (integers_of slots.now))) ranges.now) }
+    ensures typed { IfOk result (λ s. ptype_of s ≡ ptype_of slots.now) }
+    ensures slots { Answers integers_of result (Ok (flat_map (λ range. between range.0 (range.0 + range.1) (integers_of slots.now)) ranges.now)) }
+{
+    match_each_integer_ptype!(slots.ptype(), ranges_typed(slots, alloc, ranges, total))
+}
+
+/// The items of the ranges, which lie in the array, one range after another, where no item is null.
+pub(crate) fn take_ranges(
+    alloc: Global,
+    array: &PrimitiveArray,
+    ranges: &[(usize, usize)],
+    total: usize,
+) -> Result<PrimitiveArray, FastLanesError>
+    requires items { IsTrue (is_full array.now.validity) }
+    requires ranges { IsTrue (list_all (range_fits (length array.now.slots)) ranges.now) }
+    ensures { Answers column_of_primitive result (Ok (ranges_of ranges.now (column_of_primitive array.now))) }
+{
+    let nullability = array.nullability();
+    let slots = slots_in_ranges(array.slots(), alloc, ranges, total)?;
     Ok(PrimitiveArray::from_buffer(slots, Validity::from(nullability)))
 }

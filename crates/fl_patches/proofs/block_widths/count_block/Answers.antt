@@ -1,4 +1,4 @@
-use Rattle.std.proofs.Common.{◌≡◌, ◌≤◌, ◌+◌, ◌-◌, ◌*◌, length, get_or, map, ap, ◌∙◌, arith, refl}
+use Rattle.std.proofs.Common.{◌≡◌, ◌≤◌, ◌+◌, ◌-◌, length, get_or, map, ap, ◌∙◌, arith, refl}
 use Rattle.fl_types.specs.Integers.{bits_of_type}
 use Rattle.fl_types.specs.Validities.{items_of}
 use Rattle.fl_patches.proofs.Histograms.{counts_fit, length-histogram}

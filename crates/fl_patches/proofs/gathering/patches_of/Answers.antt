@@ -1,10 +1,9 @@
-use Rattle.std.proofs.Common.{◌≡◌, ◌<◌, ◌∙◌, Ok, Some, ap, map, pos, sym, length, arith}
+use Rattle.std.proofs.Common.{◌<◌, ◌∙◌, Ok, Some, ap, map, sym, length, arith}
 use Rattle.fl_types.specs.Integers.{smallest_type}
 use Rattle.fl_types.specs.Validities.{nullability_of}
-use Rattle.fl_types.specs.declared.error.FastLanesError.{FastLanesError}
 use Rattle.fl_patches.proofs.Parts.{ok_same}
-use Rattle.fl_patches.specs.PatchMaps.{PatchesParts, refusal_of}
-use Rattle.fl_patches.proofs.ExceptionPatches.{below_more, parts, parts_are, patches_some_of, unrefused}
+use Rattle.fl_patches.specs.PatchMaps.{refusal_of}
+use Rattle.fl_patches.proofs.ExceptionPatches.{below_more, parts_are, patches_some_of, unrefused}
 use Rattle.fl_column.proofs.NumberLaws.{smallest_unsigned}
 use Rattle.fl_types.proofs.Refused.{no_memory_there, only_memory}
 use Rattle.fl_patches.proofs.gathering.patches_of.Goals as goal

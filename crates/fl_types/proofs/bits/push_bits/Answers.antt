@@ -1,4 +1,4 @@
-use Rattle.std.proofs.Common.{◌≡◌, ◌≢◌, ℕ, ◌<◌, ◌≤◌, ◌/◌, ◌%◌, ◌+◌, ◌*◌, ◌-◌, ◌^◌, length, arith, refl, ap, sym, ◌∙◌}
+use Rattle.std.proofs.Common.{◌≡◌, ℕ, ◌<◌, ◌/◌, ◌%◌, ◌+◌, ◌*◌, ◌-◌, ◌^◌, length, arith, refl, ap, ◌∙◌}
 use Rattle.std.proofs.lemmas.List.{get_or_read, length_push}
 use Rattle.fl_types.specs.Bits.{bit_of_word, is_set}
 use Rattle.fl_types.proofs.BitLists.{is_set_below, is_set_last}

@@ -3,18 +3,19 @@ use Rattle.std.specs.Int.{w64, trailing_zeros}
 use Rattle.std.proofs.lemmas.Nat.Bits.{bit_at-trailing_zeros}
 use Rattle.fl_types.specs.Bits.{bit_of_word, tabulate}
 use Rattle.fl_column.specs.Operations.{kept}
-use Rattle.fl_column.proofs.FilterLaws.{bit_stays, kept_by_zero, room_left, word_first, word_within}
+use Rattle.fl_types.proofs.KeptLaws.{bit_stays, bit_true}
+use Rattle.fl_column.proofs.FilterLaws.{kept_by_zero, room_left, word_first}
 use Rattle.fl_column.proofs.selection.filtered.push_set.Goals as goal
 
 pub bounds-items-rest : goal.bounds-items-rest
 bounds-items-rest g c =
     let place = bit_at-trailing_zeros w64 c.loop-rest.rest (omega arith) (omega arith) in
-    c.loop-rest.invariant.inside (trailing_zeros w64 c.loop-rest.rest) (word_within c.loop-rest.rest (trailing_zeros w64 c.loop-rest.rest) place.1)
+    c.loop-rest.invariant.inside (trailing_zeros w64 c.loop-rest.rest) (bit_true c.loop-rest.rest (trailing_zeros w64 c.loop-rest.rest) place.1)
 
 pub offset_bounds-items-rest : goal.offset_bounds-items-rest
 offset_bounds-items-rest g c =
     let place = bit_at-trailing_zeros w64 c.loop-rest.rest (omega arith) (omega arith) in
-    let within = c.loop-rest.invariant.inside (trailing_zeros w64 c.loop-rest.rest) (word_within c.loop-rest.rest (trailing_zeros w64 c.loop-rest.rest) place.1) in
+    let within = c.loop-rest.invariant.inside (trailing_zeros w64 c.loop-rest.rest) (bit_true c.loop-rest.rest (trailing_zeros w64 c.loop-rest.rest) place.1) in
     omega arith
 
 pub push_reserved-requires : goal.push_reserved-requires
@@ -23,7 +24,7 @@ push_reserved-requires g c =
     let xs = c.args.items.now in
     let t = trailing_zeros w64 rest in
     let place = bit_at-trailing_zeros w64 rest (omega arith) (omega arith) in
-    let within = c.loop-rest.invariant.inside t (word_within rest t place.1) in
+    let within = c.loop-rest.invariant.inside t (bit_true rest t place.1) in
     let first = word_first xs rest t c.index-items-rest.result place.0 within place.1 place.2 in
     let all = kept (tabulate (bit_of_word c.args.word) 64) xs in
     let room = room_left c.loop-rest.taken.items _ c.args.taken.now.items all _ (ap (λ l. c.loop-rest.taken.items ++ l) (sym first) ∙ c.loop-rest.invariant.items) in
@@ -35,7 +36,7 @@ loop-rest-preserved g c =
     let xs = c.args.items.now in
     let t = trailing_zeros w64 rest in
     let place = bit_at-trailing_zeros w64 rest (omega arith) (omega arith) in
-    let within = c.loop-rest.invariant.inside t (word_within rest t place.1) in
+    let within = c.loop-rest.invariant.inside t (bit_true rest t place.1) in
     let first = word_first xs rest t c.index-items-rest.result place.0 within place.1 place.2 in
     let more = kept (tabulate (bit_of_word (bit_and rest (rest - 1))) 64) xs in
     record {

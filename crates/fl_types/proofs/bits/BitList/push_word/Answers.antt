@@ -1,4 +1,4 @@
-use Rattle.std.proofs.Common.{◌≡◌, ◌+◌, ◌++◌, sym, ap, ◌∙◌, arith}
+use Rattle.std.proofs.Common.{◌≡◌, ◌+◌, ◌++◌, ap, ◌∙◌, arith}
 use Rattle.fl_types.specs.Bits.{bit_of_word, first_bits, tabulate}
 use Rattle.fl_types.proofs.AddedBits.{bits_added}
 use Rattle.fl_types.proofs.bits.BitList.push_word.Goals as goal
