@@ -20,3 +20,4 @@ pub mod FoREncoding
 pub mod DeltaEncoding
 pub mod EmptyChunks
 pub mod PackedFoR
+pub mod DecodedItems

@@ -1,6 +1,7 @@
 //! Arrays of one of a closed set of kinds.
 
 mod counted;
+pub(crate) mod decode_into;
 mod ranges;
 
 ghost use Rattle.std.specs.Prelude.{false, ◌≡◌, ◌≤◌, ◌<◌, length, Ok, IfErr, IfOk, IfSome, IsTrue};

@@ -310,6 +310,7 @@ impl DeltaArray {
 
     /// The item at an index, with the column's type.
     #[cycle(reading)]
+    #[inline(never)]
     pub(crate) fn scalar_at(&self, alloc: Global, i: usize) -> Result<Scalar, FastLanesError>
         requires { i < length (column (tree_of_delta self.now)).items }
         ensures item { Answers scalar_parts result (Ok (scalar_in (column (tree_of_delta self.now)) i)) }

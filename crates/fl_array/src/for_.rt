@@ -2,6 +2,7 @@
 //! of them or one for each chunk of 1024.
 
 mod compute;
+mod decode_into;
 mod for_array_ext;
 mod for_compare;
 mod for_compress;
@@ -95,7 +96,7 @@ impl Model for FoRArray {
     ghost size_decreases = { λ a h. Prim.grind arith };
 }
 
-/// Why a scalar is no reference of items of a type, if it is none.
+/// Why a scalar cannot be the reference of items of a type, if it cannot.
 fn reference_refusal(dtype: DType, reference: Scalar) -> Option<FastLanesError>
     ensures { result ≡ reference_refusal dtype (scalar_parts reference) }
 {
@@ -159,7 +160,7 @@ fn one_reference(references: &ArrayRef) -> Option<Scalar>
     }
 }
 
-/// Why items and references of their chunks make no array, if they make none.
+/// Why items and the references of their chunks do not make an array, if they do not.
 #[tactic(auto, using(crate::proofs::FoRSound::references_by_constant))]
 fn for_chunked_refusal(
     encoded: &ArrayRef,
@@ -178,7 +179,7 @@ fn for_chunked_refusal(
     }
 }
 
-/// The references as an array stores them: those of a constant array are one.
+/// The references as an array stores them: those of a constant array are stored as one.
 #[tactic(auto, using(crate::proofs::FoRSound::references_by_constant))]
 fn store_references(
     alloc: Global,
@@ -201,10 +202,10 @@ fn store_references(
 pub struct FoR;
 
 impl FoR {
-    /// The array of one reference.
+    /// The array with one reference.
     ///
     /// # Errors
-    /// The first of `NotInteger`, `NullReference` and `TypeMismatch` that holds.
+    /// The first of `NotInteger`, `NullReference` and `TypeMismatch` that applies.
     pub fn try_new(
         alloc: Global,
         encoded: ArrayRef,
@@ -224,12 +225,12 @@ impl FoR {
         }
     }
 
-    /// The array of a reference for each chunk of 1024, where item 0 stands at `offset` in its chunk. Constant
+    /// The array with a reference for each chunk of 1024, where item 0 is at position `offset` of its chunk. Constant
     /// references are one reference for all items.
     ///
     /// # Errors
-    /// The first of `OffsetTooLarge`, `LengthOverflow`, `NotInteger` and `ReferenceCount` that holds. Then of
-    /// constant references `NullReference` and `TypeMismatch`, of any others `TypeMismatch`.
+    /// The first of `OffsetTooLarge`, `LengthOverflow`, `NotInteger` and `ReferenceCount` that applies; then for
+    /// constant references `NullReference` or `TypeMismatch`, for any others `TypeMismatch`.
     #[tactic(auto, using(crate::proofs::FoRSound::no_constant_kept))]
     pub fn try_new_chunked(
         alloc: Global,
@@ -253,11 +254,11 @@ impl FoR {
         }
     }
 
-    /// The FoR array of a primitive one, with its least valid item as the one reference: the differences, modulo
+    /// The FoR array of a primitive one, with the minimum of its valid items as the one reference: the differences, modulo
     /// 2 to the type's bits and 0 under a null, are a primitive array of the same validity.
     ///
     /// # Errors
-    /// `NoMinimum` where no item is valid.
+    /// `NoMinimum` if no item is valid.
     pub fn encode(alloc: Global, array: &PrimitiveArray) -> Result<FoRArray, FastLanesError>
         ensures parts { Answers (λ a. a) result (encoded_for array.now) }
         ensures column { IfOk result (λ a. column (tree_of_for a) ≡ column_of_primitive array.now) }
@@ -265,12 +266,12 @@ impl FoR {
         for_encode(alloc, array, ItemOrder::Natural)
     }
 
-    /// As `encode`, but the reference is the least valid item *read as signed*, so that differences stay small where
-    /// the items of an unsigned type lie about 0, as 255, 0 and 2 of `u8` do: less 255 they are 0, 1 and 3. Of a
-    /// signed type it is what `encode` makes.
+    /// As `encode`, but the reference is the minimum of the valid items *read as signed*, so that differences stay small if
+    /// the items of an unsigned type are close to 0 from both sides, as 255, 0 and 2 of `u8`: minus 255 they are 0, 1
+    /// and 3. For a signed type the result is that of `encode`.
     ///
     /// # Errors
-    /// `NoMinimum` where no item is valid.
+    /// `NoMinimum` if no item is valid.
     pub fn encode_wrapped(alloc: Global, array: &PrimitiveArray) -> Result<FoRArray, FastLanesError>
         ensures parts { Answers (λ a. a) result (encoded_for_wrapped array.now) }
         ensures column { IfOk result (λ a. column (tree_of_for a) ≡ column_of_primitive array.now) }
@@ -278,12 +279,12 @@ impl FoR {
         for_encode(alloc, array, ItemOrder::Signed)
     }
 
-    /// The FoR array of a primitive one, with the least valid item of each chunk of 1024 as its reference. A
-    /// chunk of nulls repeats the reference before it, and the leading ones take that of the first chunk that
-    /// has an item.
+    /// The FoR array of a primitive one, with the minimum of the valid items of each chunk of 1024 as its
+    /// reference. A chunk of nulls repeats the reference before it, and the leading ones take that of the first chunk
+    /// that has a valid item.
     ///
-    /// Where all chunks have one reference, as in a column of one chunk, it is the one reference; it is 0 in an
-    /// empty column. A column that has items, all of them null, becomes a constant array of a null with the
+    /// If all chunks have the same reference, as in a column of one chunk, it is stored as the one reference, which is 0 in
+    /// an empty column. A column that has items, all of them null, becomes a constant array of a null with the
     /// reference 0.
     pub fn encode_chunked(alloc: Global, array: &PrimitiveArray) -> Result<FoRArray, FastLanesError>
         ensures parts { Answers (λ a. a) result (Ok (encoded_for_chunked array.now)) }
@@ -292,7 +293,7 @@ impl FoR {
         for_encode_chunked(alloc, array, ItemOrder::Natural)
     }
 
-    /// As `encode_chunked`, but the reference of each chunk is its least valid item *read as signed*.
+    /// As `encode_chunked`, but the reference of each chunk is the minimum of its valid items *read as signed*.
     pub fn encode_chunked_wrapped(
         alloc: Global,
         array: &PrimitiveArray,
@@ -340,14 +341,14 @@ impl FoRArray {
         })
     }
 
-    /// The constructors refuse these parts in nothing.
+    /// The constructors accept these parts.
     pub(crate) fn prove_well_formed(&self)
         ensures { refusal_of_for self.now ≡ None }
     {
         let _ = &self.references;
     }
 
-    /// References of chunks are no constant array: the constructors make one reference of it.
+    /// References of chunks are not a constant array: the constructors make one reference of it.
     pub(crate) fn prove_no_constant(&self)
         ensures { IsTrue (has_no_constant self.now.references) }
     {
@@ -383,7 +384,7 @@ impl FoRArray {
         }
     }
 
-    /// The position of the first item in its chunk, 0 where there is one reference.
+    /// The position of the first item in its chunk, 0 if there is one reference.
     pub fn offset(&self) -> usize
         ensures { result ≡ offset_of_references self.now.references }
     {
@@ -438,7 +439,7 @@ impl FoRArray {
         }
     }
 
-    /// How many items there are: as many as encoded ones.
+    /// The number of items, which is that of the encoded ones.
     #[tactic(auto, using(crate::proofs::FoRLaws::for_len))]
     pub(crate) fn len_from(&self, len: usize) -> usize
         requires { len ≡ length (column self.now.encoded).items }
@@ -481,7 +482,7 @@ impl FoRArray {
         self.prove_well_formed();
     }
 
-    /// The column in a primitive array, from the decoded `plain` items, where there is one reference.
+    /// The column in a primitive array, from the decoded `plain` items, if there is one reference.
     pub(crate) fn decode_global(
         &self,
         alloc: Global,
@@ -517,7 +518,7 @@ impl FoRArray {
         decode_chunked(alloc, plain, plain_references, self.offset())
     }
 
-    /// An index, which is one of the encoded array too.
+    /// An index, which is in the range of the encoded array too.
     #[tactic(auto, using(crate::proofs::FoRLaws::for_len))]
     pub(crate) fn index_in_encoded(&self, i: usize) -> usize
         requires { i < length (column (tree_of_for self.now)).items }
@@ -527,7 +528,7 @@ impl FoRArray {
         i
     }
 
-    /// A range, which is one of the encoded array too.
+    /// A range, which is within the encoded array too.
     #[tactic(auto, using(crate::proofs::FoRLaws::for_len))]
     pub(crate) fn range_in_encoded(&self, start: usize, end: usize) -> (usize, usize)
         requires order { start ≤ end }
@@ -540,7 +541,7 @@ impl FoRArray {
         (start, end)
     }
 
-    /// An item, from the encoded one, where there is one reference.
+    /// An item, from the encoded one, if there is one reference.
     pub(crate) fn item_global(&self, item: Scalar, reference: &Scalar, i: usize) -> Scalar
         requires same { GlobalReference (scalar_parts reference.now) ≡ self.now.references }
         requires range { i < length (column self.now.encoded).items }
@@ -627,7 +628,7 @@ impl FoRArray {
         })
     }
 
-    /// The items from `start` to below `end`, over the encoded ones.
+    /// The items of `start..end`, over the encoded ones.
     pub(crate) fn slice_global(
         &self,
         alloc: Global,
@@ -645,7 +646,7 @@ impl FoRArray {
         self.with_encoded(alloc, part, reference)
     }
 
-    /// The first chunk that a slice keeps, and the one behind the last.
+    /// The first chunk that a slice keeps, and the one after the last.
     pub(crate) fn chunk_range(
         &self,
         references: &ArrayRef,
@@ -665,7 +666,7 @@ impl FoRArray {
         ((offset + start) / FL_CHUNK_SIZE, chunk_count(offset + end))
     }
 
-    /// The items from `start` to below `end`, over the encoded ones and the references of their chunks.
+    /// The items of `start..end`, over the encoded ones and the references of their chunks.
     #[tactic(auto, using(crate::proofs::SliceLaws::no_constant_sliced))]
     pub(crate) fn slice_chunked(
         &self,

@@ -509,6 +509,7 @@ impl RLEArray {
 
     /// The item at an index, with the column's type.
     #[cycle(reading)]
+    #[inline(never)]
     pub(crate) fn scalar_at(&self, alloc: Global, i: usize) -> Result<Scalar, FastLanesError>
         requires { i < length (column (tree_of_rle self.now)).items }
         ensures item { Answers scalar_parts result (Ok (scalar_in (column (tree_of_rle self.now)) i)) }

@@ -24,7 +24,7 @@ use Rattle.fl_patches.specs.PatchMaps.{patched_in}
 use Rattle.fl_bitpacking.specs.Blocks.{Blocks, block_item, item_of_blocks, value_at}
 use Rattle.fl_bitpacking.specs.BlockSums.{block_reference, decoded_column, decoded_item, plus_block_reference, plus_if_some}
 use Rattle.fl_bitpacking.specs.Columns.{BitPackedParts, block_count, column_of_packed, packed_item, stored}
-use Rattle.fl_bitpacking.specs.Parts.{Fit}
+use Rattle.fl_bitpacking.specs.Parts.{Fit, written}
 use Rattle.fl_bitpacking.proofs.Joined.{item_read}
 use Rattle.fl_bitpacking.proofs.Natives.{block_item_is, unpacked_small, unsigned_pattern, unsigned_read}
 use Rattle.fl_bitpacking.proofs.Tables.{get_or-table, length-table}
@@ -185,3 +185,19 @@ block_sums item ptype references parts blocks typed enough each =
     ∙ ap (plus_reference parts.ptype (reference i)) (sym (get_or-table items parts.len i None h)))) in
     let with : List (Option ℤ) → Column = λ xs. record { dtype = (column_of_packed parts blocks).dtype; items = xs } in
     ap with (same ∙ ap (λ n. tabulate sum n) (sym (length-table items parts.len)))
+
+-- nothing is added
+pub none_sums : (ptype : PType) (parts : BitPackedParts) (blocks : Blocks) → decoded_column (plus_block_reference ptype []) parts blocks ≡ column_of_packed parts blocks
+none_sums ptype parts blocks =
+    let items = packed_item parts blocks in
+    let same = same_tables (λ i. option_map (plus_block_reference ptype [] ((parts.offset + i) / 1024)) (items i)) items parts.len (λ i h. patch_plus_none ptype ((parts.offset + i) / 1024) (items i)) in
+    let with : List (Option ℤ) → Column = λ xs. record { dtype = (column_of_packed parts blocks).dtype; items = xs } in
+    ap with same
+
+-- the items that are written are the column
+pub column_written : {X : Type 0} (value : X → ℤ) (item : ℕ → ℤ → ℤ) (parts : BitPackedParts) (blocks : Blocks) (items : List X) → Fit parts → length items ≡ parts.len
+    → ((i : ℕ) → i < parts.len → value_at value items i ≡ unwrap_or (option_map (item ((parts.offset + i) / 1024)) (patched_in parts.patches i)) (item ((parts.offset + i) / 1024) (stored parts blocks i)))
+    → column_of_primitive (written (map value items) parts) ≡ decoded_column item parts blocks
+column_written value item parts blocks items fit long each =
+    let with : List (Option ℤ) → Column = λ xs. record { dtype = (column_of_packed parts blocks).dtype; items = xs } in
+    ap with (items_decoded value item parts blocks items fit.covers long each)

@@ -28,3 +28,6 @@ pub mod BlockTestLaws
 pub mod TakenLaws
 pub mod TakenColumns
 pub mod EqualBoundaries
+pub mod FilteredLaws
+pub mod MaskWords
+pub mod PartPatches

@@ -27,3 +27,4 @@ pub mod LeastIntegers
 pub mod RangeTests
 pub mod Compared
 pub mod Taken
+pub mod Filtered

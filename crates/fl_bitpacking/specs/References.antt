@@ -18,6 +18,15 @@ abbrev pub plus_references : References → ℕ → Column → Column
 plus_references (Global reference) offset c = global_for (integer_of reference) c
 plus_references (PerBlock references) offset c = chunked_for references.now.slots offset c
 
+-- the references, if there are any, are integers of this type, one for all or one for each of this many blocks
+abbrev pub AreReferencesIfSome : PType → ℕ → Option References → Type 0
+AreReferencesIfSome ptype count references = IfSome references (AreReferencesOf ptype count)
+
+-- each item of a column plus its reference, if there are references, where the first item is at an offset in its block
+abbrev pub plus_references_if_some : Option References → ℕ → Column → Column
+plus_references_if_some None offset c = c
+plus_references_if_some (Some references) offset c = plus_references references offset c
+
 -- references of blocks, if there are any, are integers of this type, one for each of this many blocks
 abbrev pub AreBlockReferences : PType → ℕ → Option PrimitiveParts → Type 0
 AreBlockReferences ptype count references = IfSome references (λ r. (r.ptype ≡ ptype) × (count ≤ length r.slots))

@@ -1,6 +1,7 @@
 //! Columns read back from their packed blocks.
 
 pub(crate) mod block_decoding;
+pub mod decode_into;
 pub mod unfor;
 
 ghost use Rattle.std.specs.Prelude.{◌≡◌, ◌+◌, ◌-◌, ◌*◌, ◌/◌, ◌<◌, ◌≤◌, ◌^◌, ℕ, IfOk, IfSome, IsTrue, Ok, OnOk, length, map, min, option_map, unwrap_or};

@@ -32,7 +32,7 @@ pub(crate) fn place_of<I: NativePType>(indices: &[I], k: usize, offset: usize) -
 }
 
 /// Puts values, plus the references of their blocks, in the places of their indices.
-fn write_values<T: NativePType + WrappingAdd, I: NativePType>(
+pub(crate) fn write_values<T: NativePType + WrappingAdd, I: NativePType>(
     indices: &[I],
     values: &[T],
     offset: usize,

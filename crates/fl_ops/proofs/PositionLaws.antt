@@ -1,4 +1,4 @@
--- Items at the positions that ranges and masks name.
+-- Items at the positions that ranges name.
 use Rattle.std.proofs.Common.{◌≡◌, ◌∙◌, ℕ, ℤ, pos, zero, suc, ◌+◌, ◌-◌, ◌<◌, ◌≤◌, ◌^◌, Bool, true, false, List, [], ◌∷◌, ◌++◌, length, map, take, drop, get_or, Option, Some, None, Ok, nat_le, nat_lt, refl, ap, sym, arith}
 use Rattle.std.specs.Prelude.{◌==◌, flat_map}
 use Rattle.std.specs.List.{list_all, range_with_len}
@@ -20,7 +20,7 @@ use Rattle.fl_column.proofs.ListLaws.{all_at, and_first, and_second, and_true, l
 use Rattle.fl_array.specs.BitPackedArrays.{BitPackedArrayParts, tree_of_bitpacked}
 use Rattle.fl_array.specs.Trees.{column}
 use Rattle.fl_array.proofs.BitPackedLaws.{bitpacked_dtype}
-use Rattle.fl_ops.specs.Takes.{at_positions, range_positions, true_positions}
+use Rattle.fl_ops.specs.Takes.{at_positions, range_positions}
 
 -- ---- a take by positions
 below_is_in_range : (len i : ℕ) → nat_lt i len ≡ true → is_in_range len (Some (pos i)) ≡ true
@@ -123,44 +123,6 @@ ranges_at ranges c fit = ap (λ (items : List (Option ℤ)). record { dtype = c.
 pub ranges_more : (ranges : List (ℕ × ℕ)) (i : ℕ) (range : ℕ × ℕ) (old new : List ℕ) → new ≡ old ++ range_with_len range.0 range.1 → old ≡ range_positions (take i ranges) → range ≡ get_or ranges i (0, 0) → i < length ranges → new ≡ range_positions (take (i + 1) ranges)
 ranges_more ranges i range old new added before is within =
     rw (added, before, take_more ranges i (0, 0) within, ← is) (flat_map_more (λ r. range_with_len r.0 r.1) [] (take i ranges) range)
-
--- ---- masks
-true_below : (len first : ℕ) (bits : List Bool) → first + length bits ≤ len → list_all (λ i. nat_lt i len) (true_positions first bits) ≡ true
-true_below len first [] h = refl
-true_below len first (true ∷ bits) h = and_true (nat_lt first len) (list_all (λ i. nat_lt i len) (true_positions (first + 1) bits)) (lt-ltb first len (omega arith)) (true_below len (first + 1) bits (omega arith))
-true_below len first (false ∷ bits) h = true_below len (first + 1) bits (omega arith)
-
--- the positions that a mask of this length keeps are there
-pub kept_below : (mask : Mask) (len : ℕ) → mask_len mask ≡ len → list_all (λ i. nat_lt i len) (true_positions 0 (mask_bits mask)) ≡ true
-kept_below mask len long = true_below len 0 (mask_bits mask) (let each = length-mask_bits mask in omega arith)
-
-kept_from : (items : List (Option ℤ)) (first : ℕ) (bits : List Bool) → first + length bits ≤ length items → map (λ i. get_or items i None) (true_positions first bits) ≡ kept bits (drop first items)
-kept_from items first [] h = refl
-kept_from items first (true ∷ bits) h = rw (drop_more items first None (omega arith)) (ap (λ rest. get_or items first None ∷ rest) (kept_from items (first + 1) bits (omega arith)))
-kept_from items first (false ∷ bits) h = rw (drop_more items first None (omega arith)) (kept_from items (first + 1) bits (omega arith))
-
--- the items at the positions that a mask keeps are the mask's
-pub kept_at : (mask : Mask) (c : Column) → mask_len mask ≡ length c.items → at_positions (true_positions 0 (mask_bits mask)) c ≡ filter_of mask c
-kept_at mask c long =
-    ap (λ (items : List (Option ℤ)). record { dtype = c.dtype; items = items })
-    (kept_from c.items 0 (mask_bits mask) (let each = length-mask_bits mask in omega arith))
-
--- one more place, true or not
-pub true_more : (bits : List Bool) (i : ℕ) (old new : List ℕ) → i < length bits → get_or bits i false ≡ true → new ≡ old ++ i ∷ [] → old ++ true_positions i (drop i bits) ≡ true_positions 0 bits → new ++ true_positions (i + 1) (drop (i + 1) bits) ≡ true_positions 0 bits
-true_more bits i old new within set added before =
-    let rest : true_positions i (drop i bits) ≡ i ∷ true_positions (i + 1) (drop (i + 1) bits) = rw (drop_more bits i false within, set) refl in
-    let all : old ++ (i ∷ true_positions (i + 1) (drop (i + 1) bits)) ≡ true_positions 0 bits = rw (← rest) before in
-    rw added (append_assoc old (i ∷ []) (true_positions (i + 1) (drop (i + 1) bits)) ∙ all)
-
-pub false_more : (bits : List Bool) (i : ℕ) (old : List ℕ) → i < length bits → get_or bits i false ≡ false → old ++ true_positions i (drop i bits) ≡ true_positions 0 bits → old ++ true_positions (i + 1) (drop (i + 1) bits) ≡ true_positions 0 bits
-false_more bits i old within clear before =
-    let rest : true_positions i (drop i bits) ≡ true_positions (i + 1) (drop (i + 1) bits) = rw (drop_more bits i false within, clear) refl in
-    rw (← rest) before
-
-pub true_all : (bits : List Bool) (i : ℕ) (old : List ℕ) → length bits ≤ i → old ++ true_positions i (drop i bits) ≡ true_positions 0 bits → old ≡ true_positions 0 bits
-true_all bits i old full so_far =
-    let none : true_positions i (drop i bits) ≡ [] = rw (drop_all i bits full) refl in
-    sym (append-nil old) ∙ rw (← none) so_far
 
 -- ---- lists of positions that grow
 from_more : (start count : ℕ) → range_with_len start (count + 1) ≡ range_with_len start count ++ (start + count) ∷ []

@@ -1,5 +1,5 @@
--- Takes of bit-packed arrays, and the positions that ranges and masks name.
-use Rattle.std.specs.Prelude.{◌+◌, ℕ, Bool, true, false, List, [], ◌∷◌, None, map, slice_index_or, flat_map, if◌then◌else◌}
+-- Takes of bit-packed arrays, and the positions that ranges name.
+use Rattle.std.specs.Prelude.{ℕ, Bool, true, false, List, None, map, slice_index_or, flat_map}
 use Rattle.std.specs.List.{range_with_len}
 use Rattle.fl_column.specs.Columns.{Column}
 use Rattle.fl_array.specs.Trees.{BitPackedBlocked, Tree}
@@ -12,11 +12,6 @@ has_block_widths other = false
 -- the positions in ranges, each a start and a length, one range after another
 abbrev pub range_positions : List (ℕ × ℕ) → List ℕ
 range_positions ranges = flat_map (λ range. range_with_len range.0 range.1) ranges
-
--- the places of the true bits, where the first bit has this place
-abbrev pub true_positions : ℕ → List Bool → List ℕ
-true_positions first [] = []
-true_positions first (bit ∷ bits) = if bit then first ∷ true_positions (first + 1) bits else true_positions (first + 1) bits
 
 -- the items at these positions
 abbrev pub at_positions : List ℕ → Column → Column

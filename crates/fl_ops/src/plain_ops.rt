@@ -1,7 +1,7 @@
 //! Operations and queries of arrays, by the plain array of the same column.
 
 ghost use Rattle.std.specs.Prelude.{◌≡◌, IsTrue, Ok, length};
-ghost use Rattle.fl_types.specs.declared.mask.Mask.TheVariants.{AllFalse};
+ghost use Rattle.fl_types.specs.declared.mask.Mask.TheVariants.{AllFalse, Values};
 ghost use Rattle.fl_types.specs.Masks.{mask_len};
 ghost use Rattle.fl_types.specs.Refusals.{Answers};
 ghost use Rattle.fl_types.specs.Types.{has_ptype, is_integer};
@@ -10,17 +10,19 @@ ghost use Rattle.fl_column.specs.Columns.{column_of_bools, column_of_constant, c
 ghost use Rattle.fl_column.specs.Operations.{cast_column, filter_column, ranges_column, take_column};
 ghost use Rattle.fl_column.specs.Questions.{between_column, compare_column, is_constant_column, is_sorted_column, tested};
 ghost use Rattle.fl_bitpacking.specs.RangeTests.{IsTestOf, passes};
+ghost use Rattle.fl_array.specs.BitPackedArrays.{tree_of_bitpacked};
 ghost use Rattle.fl_array.specs.Trees.{column};
 
 use crate::takes::items::take_items;
-use crate::takes::{filter_by_runs, filter_packed, ranges_by_runs, take_ranges_packed};
+use crate::takes::{ranges_by_runs, take_ranges_packed};
 use fastlanes::FL_CHUNK_SIZE;
 use fl_array::ArrayRef;
+use fl_array::bitpacking::BitPackedArray;
 use fl_bitpacking::RangeTest;
 use fl_bitpacking::compute::compare::primitive::test_primitive;
 use fl_column::{
-    BetweenOptions, BoolArray, CompareOperator, ConstantArray, DType, FastLanesError, Mask, PValue,
-    PrimitiveArray, ranges_total,
+    BetweenOptions, BitList, BoolArray, CompareOperator, ConstantArray, DType, FastLanesError,
+    Mask, PValue, PrimitiveArray, ranges_total,
 };
 use std::alloc::Global;
 
@@ -108,6 +110,18 @@ fn filter_none(
     }
 }
 
+/// The items of a bit-packed array whose booleans are true.
+fn filter_packed(
+    alloc: Global,
+    array: &BitPackedArray,
+    bits: &BitList,
+) -> Result<PrimitiveArray, FastLanesError>
+    requires { length bits.now ≡ length (column (tree_of_bitpacked array.now)).items }
+    ensures { Answers column_of_primitive result (filter_column (Values bits.now) (column (tree_of_bitpacked array.now))) }
+{
+    array.filter(alloc, bits)
+}
+
 /// The items at the mask's true places.
 pub(crate) fn filter(
     alloc: Global,
@@ -126,8 +140,10 @@ pub(crate) fn filter(
     if let Some(constant_array) = array.as_constant() {
         return constant_array.filter(alloc, mask);
     }
-    if let Some((packed, count)) = filter_by_runs(array, mask) {
-        return filter_packed(alloc, packed, mask, count);
+    if let Mask::Values(bits) = mask {
+        if let Some(packed) = array.as_bitpacked() {
+            return filter_packed(alloc, packed, bits);
+        }
     }
     array.to_primitive(alloc)?.filter(alloc, mask)
 }

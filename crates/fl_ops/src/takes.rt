@@ -1,23 +1,22 @@
-//! Takes, takes of ranges and filters of bit-packed arrays, where the packed items are read run by run.
+//! Takes and takes of ranges of bit-packed arrays, where the packed items are read run by run.
 
 pub(crate) mod items;
 
 ghost use Rattle.std.specs.Prelude.{◌≡◌, ◌*◌, ◌+◌, ◌-◌, ◌^◌, ◌++◌, ◌<◌, ◌≤◌, IfOk, IfSome, IsTrue, Ok, OnOk, length, nat_lt};
 ghost use Rattle.std.specs.List.{list_all, range_with_len};
-ghost use Rattle.fl_types.specs.Masks.{mask_bits, mask_len};
 ghost use Rattle.fl_types.specs.Refusals.{Answers};
 ghost use Rattle.fl_column.specs.Columns.{column_of_primitive};
-ghost use Rattle.fl_column.specs.Operations.{filter_of, range_fits, ranges_of, take_column, take_of};
+ghost use Rattle.fl_column.specs.Operations.{range_fits, ranges_of, take_column, take_of};
 ghost use Rattle.fl_array.specs.BitPackedArrays.{tree_of_bitpacked};
 ghost use Rattle.fl_array.specs.Trees.{column};
 ghost use Rattle.fl_ops.specs.Normalized.{SameShown};
 ghost use Rattle.fl_ops.specs.Results.{picked};
-ghost use Rattle.fl_ops.specs.Takes.{at_positions, has_block_widths, range_positions, true_positions};
+ghost use Rattle.fl_ops.specs.Takes.{at_positions, has_block_widths, range_positions};
 
 use fastlanes::Work;
 use fl_array::bitpacking::{BitPackedArray, BitWidthsView};
 use fl_array::{ArrayRef, IntoArray};
-use fl_column::{DType, FastLanesError, Mask, PrimitiveArray};
+use fl_column::{DType, FastLanesError, PrimitiveArray};
 use std::alloc::{AllocError, Global};
 
 /// The items that indices name, and what was read for them.
@@ -96,19 +95,6 @@ fn range_positions(
     Ok(positions)
 }
 
-/// The positions that a mask keeps, of which there are `count`.
-fn true_positions(alloc: Global, mask: &Mask, count: usize) -> Result<Vec<u64>, AllocError>
-    ensures { IfOk result (λ v. v.items ≡ true_positions 0 (mask_bits mask.now)) }
-{
-    let mut positions = Vec::with_capacity(alloc, count)?;
-    for i in 0..mask.len() {
-        if mask.get(i) {
-            positions.push(i as u64)?;
-        }
-    }
-    Ok(positions)
-}
-
 /// The array, where it is bit-packed and ranges of `total` items are read run by run: where these are an eighth of its
 /// items at most, or each block has a width of its own.
 pub(crate) fn ranges_by_runs(array: &ArrayRef, total: usize) -> Option<&BitPackedArray>
@@ -119,25 +105,6 @@ pub(crate) fn ranges_by_runs(array: &ArrayRef, total: usize) -> Option<&BitPacke
         BitWidthsView::Global(_) if total > packed.len() / 8 => None,
         _ => Some(packed),
     }
-}
-
-/// The array and how many items the mask keeps, where it is bit-packed, the mask has a bit for each item, and these are
-/// an eighth of the items at most.
-pub(crate) fn filter_by_runs<'a>(
-    array: &'a ArrayRef,
-    mask: &Mask,
-) -> Option<(&'a BitPackedArray, usize)>
-    ensures { IfSome result (λ f. tree_of_bitpacked f.0.now ≡ array.now) }
-{
-    let packed = array.as_bitpacked()?;
-    let Mask::Values(_) = mask else {
-        return None;
-    };
-    let count = mask.count_true();
-    if count > packed.len() / 8 {
-        return None;
-    }
-    Some((packed, count))
 }
 
 /// The items of ranges of a bit-packed array, which lie in it.
@@ -153,19 +120,5 @@ pub(crate) fn take_ranges_packed(
     // For the proof: a `usize` holds the length.
     let _len = array.len();
     let positions = range_positions(alloc, ranges, total)?;
-    take_positions(alloc, array, positions)
-}
-
-/// The items of a bit-packed array that a mask keeps, of which there are `count`.
-pub(crate) fn filter_packed(
-    alloc: Global,
-    array: &BitPackedArray,
-    mask: &Mask,
-    count: usize,
-) -> Result<PrimitiveArray, FastLanesError>
-    requires { mask_len mask.now ≡ length (column (tree_of_bitpacked array.now)).items }
-    ensures { Answers column_of_primitive result (Ok (filter_of mask.now (column (tree_of_bitpacked array.now)))) }
-{
-    let positions = true_positions(alloc, mask, count)?;
     take_positions(alloc, array, positions)
 }

@@ -1,6 +1,6 @@
 //! Items that are read into memory of C.
 
-ghost use Rattle.std.specs.Prelude.{◌≡◌, None, OnErr, OnOk, length, map, option_map, slice_index_or};
+ghost use Rattle.std.specs.Prelude.{◌≡◌, IsTrue, None, OnErr, OnOk, length, map, option_map, slice_index_or};
 ghost use Rattle.fl_types.specs.Types.{has_ptype};
 ghost use Rattle.fl_array.specs.Trees.{column};
 ghost use Rattle.fl_column.specs.Columns.{column_of_primitive};
@@ -9,10 +9,12 @@ ghost use Rattle.flcol_c.specs.Reading.{IsItem, get_fault, nulls_in, read_fault}
 ghost use Rattle.flcol_c.specs.Statuses.{Gives, fault_in};
 
 use crate::fault::Fault;
-use crate::validities::room_fault;
+use crate::validities::{room_fault, write_validity};
 use crate::values::write_plain;
 use fl_array::ArrayRef;
+use fl_bitpacking::unpack_iter::BitPacked;
 use fl_column::{DType, FastLanesError, NativePType, PrimitiveArray};
+use num_traits::WrappingAdd;
 use std::alloc::Global;
 
 /// Whether the array is of integers of this type.
@@ -50,13 +52,40 @@ fn read_plain<T: NativePType>(
     Ok(())
 }
 
-/// Writes the values of an array, and which of them are valid. Bits behind theirs are not set.
+/// Writes the values of an array, decoded straight into their places, and which of them are valid, if there is room
+/// for the bitmap. All that may fail comes before the first write.
 ///
 /// # Errors
-/// `WrongType` where the array is not of integers of this type; `WrongLength` where there are more or fewer values
-/// than items, or the bytes are neither those of a bitmap nor none; `ValidityLength` where there is none and an
-/// item is null.
-pub(crate) fn read<T: NativePType>(
+/// `WrongLength` if the bytes are neither those of a bitmap nor none, `ValidityLength` if there is none and an item
+/// is null.
+fn read_encoded<T: BitPacked + WrappingAdd>(
+    alloc: Global,
+    array: &ArrayRef,
+    values: &mut [T],
+    validity: &mut [u8],
+) -> Result<(), Fault>
+    requires typed { IsTrue (has_ptype T.PTYPE (column array.now).dtype) }
+    requires long { length values.old ≡ length (column array.now).items }
+    ensures read { Gives (room_fault (length validity.old) (length (column array.now).items) (nulls_in (column array.now))) (λ _. (column array.now).items ≡ items_in (map T.value values.new) validity.new) result }
+    ensures clear { OnOk result (IsClearFrom (length values.new) validity.new) }
+    ensures unread { OnErr result ((values.new ≡ values.old) × (validity.new ≡ validity.old)) }
+{
+    let len = values.len();
+    let valid = array.validity(alloc)?;
+    if let Some(fault) = room_fault(validity.len(), &valid, len) {
+        return Err(fault);
+    }
+    array.decode_into(alloc, values)?;
+    write_validity(validity, &valid, len);
+    Ok(())
+}
+
+/// Writes the values of an array, and which of them are valid. Bits after theirs are not set.
+///
+/// # Errors
+/// `WrongType` if the array is not of integers of this type; `WrongLength` if there are more or fewer values than
+/// items, or the bytes are neither those of a bitmap nor none; `ValidityLength` if there is none and an item is null.
+pub(crate) fn read<T: BitPacked + WrappingAdd>(
     alloc: Global,
     array: &ArrayRef,
     values: &mut [T],
@@ -72,11 +101,10 @@ pub(crate) fn read<T: NativePType>(
     if values.len() != array.len() {
         return Err(Fault::WrongLength);
     }
-    if let Some(plain) = array.as_primitive() {
-        return read_plain(plain, values, validity);
+    match array.as_primitive() {
+        Some(plain) => read_plain(plain, values, validity),
+        None => read_encoded(alloc, array, values, validity),
     }
-    let plain = array.to_primitive(alloc)?;
-    read_plain(&plain, values, validity)
 }
 
 /// The item at an index, or `None` of a null.

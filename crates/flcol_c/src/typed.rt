@@ -15,7 +15,9 @@ use crate::fault::{Fault, status_of};
 use crate::handle::ArrayHandle;
 use crate::kept::keep;
 use crate::{answering, making, reading};
+use fl_bitpacking::unpack_iter::BitPacked;
 use fl_column::NativePType;
+use num_traits::WrappingAdd;
 use std::alloc::Global;
 
 /// Makes a plain array of these values, of which those are valid whose bits are set.
@@ -48,7 +50,7 @@ pub(crate) fn constant<T: NativePType>(
 }
 
 /// Writes the values of an array, and which of them are valid.
-pub(crate) fn read<T: NativePType>(
+pub(crate) fn read<T: BitPacked + WrappingAdd>(
     alloc: Global,
     array: &mut ArrayHandle,
     values: &mut [T],

@@ -1,6 +1,7 @@
 //! Decoding of bit-packed arrays, and single items by their packed bits.
 
 mod constant_boundaries;
+mod decode_into;
 mod unfor;
 
 ghost use Rattle.std.specs.Prelude.{◌≡◌, ◌<◌, IfErr, Ok, false};

@@ -2,6 +2,7 @@
 
 mod cast;
 mod compare;
+mod filter;
 mod scalar_at;
 mod slice;
 mod take;

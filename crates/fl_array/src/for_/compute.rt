@@ -16,7 +16,7 @@ impl FoRArray {
     /// The same reference over other encoded items of the same integer type.
     ///
     /// # Errors
-    /// None but `OutOfMemory`.
+    /// Only `OutOfMemory`.
     pub fn over(
         &self,
         alloc: Global,
@@ -38,7 +38,7 @@ impl FoRArray {
     /// Copies of the chunks' references over as many other encoded items of the same integer type.
     ///
     /// # Errors
-    /// None but `OutOfMemory`.
+    /// Only `OutOfMemory`.
     pub fn over_chunked(
         &self,
         alloc: Global,

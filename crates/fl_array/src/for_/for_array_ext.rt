@@ -1,4 +1,4 @@
-//! What FoR arrays show of themselves.
+//! Accessors of FoR arrays.
 
 ghost use Rattle.std.specs.Prelude.{◌≡◌, Some, length, option_map};
 ghost use Rattle.std.specs.Option.{option_copied};
@@ -19,11 +19,11 @@ use fl_column::{DType, PType};
 pub struct FoRSlots<'a> {
     /// The encoded items, to which the references are added.
     pub encoded: &'a ArrayRef,
-    /// The references of the chunks, or `None` where there is one reference.
+    /// The references of the chunks, or `None` if there is one reference.
     pub blocked_references: Option<&'a ArrayRef>,
 }
 
-/// What FoR arrays show of themselves.
+/// Accessors of FoR arrays.
 pub trait FoRArrayExt {
     /// The parts of the array.
     ghost parts: { Self → FoRArrayParts };
@@ -32,7 +32,7 @@ pub trait FoRArrayExt {
     fn references(&self) -> FoRReferences<'_>
         ensures { references_of_view result (offset_of_references (parts self.now).references) ≡ (parts self.now).references };
 
-    /// The position of the first item in its chunk, 0 where there is one reference.
+    /// The position of the first item in its chunk, 0 if there is one reference.
     fn offset(&self) -> usize
         ensures { result ≡ offset_of_references (parts self.now).references };
 
@@ -45,12 +45,12 @@ pub trait FoRArrayExt {
         ensures encoded { result.encoded.now ≡ (parts self.now).encoded }
         ensures blocked_references { option_copied result.blocked_references ≡ chunk_references_in (parts self.now).references };
 
-    /// What the array keeps beside the arrays inside.
+    /// The data of the array besides its children.
     fn data(&self) -> FoRData
         ensures offset { result.offset ≡ offset_of_references (parts self.now).references }
         ensures reference { option_map scalar_parts result.global_reference ≡ global_reference_in (parts self.now).references };
 
-    /// How many items there are.
+    /// The number of items.
     fn len(&self) -> usize
         ensures { result ≡ length (column (tree_of_for (parts self.now))).items };
 

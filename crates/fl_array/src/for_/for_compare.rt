@@ -19,8 +19,8 @@ use fl_column::{BoolArray, FastLanesError};
 use std::alloc::Global;
 
 impl FoRArray {
-    /// The answers of a test for the items, where the blocks of a bit-packed child are the chunks of these references, and what was
-    /// unpacked of its bytes; a null stays a null. Each block is tested with its reference: it is unpacked once if its own width
+    /// The answers of a test for the items, if the blocks of a bit-packed child are the chunks of these references, and
+    /// the work of unpacking them; a null stays a null. Each block is tested with its reference: it is unpacked once if its own width
     /// does not decide the test of its sums. A reference of the test is an integer of the array's type.
     ///
     /// # Errors

@@ -14,7 +14,7 @@ use fl_codec::laws::{chunked_for_by_and_back, global_for_by_and_back};
 use fl_column::{FastLanesError, PType, PrimitiveArray};
 use std::alloc::Global;
 
-/// The integers of an array lie in memory, so there are fewer than 2 to the 63.
+/// The integers of an array are in memory, so there are fewer than 2 to the 63.
 fn prove_few(array: &PrimitiveArray)
     ensures { length array.now.slots < 2 ^ 63 }
 {
@@ -30,11 +30,11 @@ fn prove_few(array: &PrimitiveArray)
     };
 }
 
-/// The FoR array of a primitive one, with its least valid item by an order as the one reference: the differences,
+/// The FoR array of a primitive one, with the minimum of its valid items by an order as the one reference: the differences,
 /// modulo 2 to the type's bits and 0 under a null, are a primitive array of the same validity.
 ///
 /// # Errors
-/// `NoMinimum` where no item is valid.
+/// `NoMinimum` if no item is valid.
 pub(crate) fn for_encode(
     alloc: Global,
     array: &PrimitiveArray,
@@ -48,10 +48,10 @@ pub(crate) fn for_encode(
     FoRArray::from_global(alloc, child.into_array(), reference)
 }
 
-/// The FoR array of a primitive one, with the least valid item of each chunk of 1024, by an order, as its
+/// The FoR array of a primitive one, with the minimum of the valid items of each chunk of 1024, by an order, as its
 /// reference. A chunk of nulls repeats the reference before it, and the leading ones take that of the first chunk
-/// that has an item. Where all chunks have one reference, as in a column of one chunk, it is the one reference; it is 0
-/// in an empty column. A column that has items, all of them null, becomes a constant array of a null with the
+/// that has a valid item. If all chunks have the same reference, as in a column of one chunk, it is stored as the one
+/// reference, which is 0 in an empty column. A column that has items, all of them null, becomes a constant array of a null with the
 /// reference 0.
 pub(crate) fn for_encode_chunked(
     alloc: Global,

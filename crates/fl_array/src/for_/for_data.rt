@@ -1,4 +1,4 @@
-//! What a FoR array keeps beside its children.
+//! The data of a FoR array besides its children.
 
 ghost use Rattle.std.specs.Prelude.{◌≡◌, IfOk, Ok, Some};
 ghost use Rattle.fl_types.specs.Refusals.{Answers};
@@ -16,7 +16,7 @@ use std::alloc::Global;
 use std::fmt;
 use std::marker::Model;
 
-/// What a FoR array keeps beside its children: the position of its first item in its chunk, and the one
+/// The data of a FoR array besides its children: the position of its first item in its chunk, and the one
 /// reference of all items, if there is one.
 #[derive(Clone, Copy, Debug, PartialEq, Eq, Hash)]
 pub struct FoRData {
@@ -48,7 +48,7 @@ impl FoRData {
     /// The FoR array of a primitive one with one reference, as `FoR::encode` makes it.
     ///
     /// # Errors
-    /// `NoMinimum` where no item is valid.
+    /// `NoMinimum` if no item is valid.
     pub fn encode(alloc: Global, array: &PrimitiveArray) -> Result<FoRArray, FastLanesError>
         ensures parts { Answers (λ a. a) result (encoded_for array.now) }
         ensures column { IfOk result (λ a. column (tree_of_for a) ≡ column_of_primitive array.now) }
@@ -65,14 +65,14 @@ impl FoRData {
         for_encode_chunked(alloc, array, ItemOrder::Natural)
     }
 
-    /// The position of the first item in its chunk, 0 where there is one reference.
+    /// The position of the first item in its chunk, 0 if there is one reference.
     pub fn offset(&self) -> usize
         ensures { result ≡ self.now.offset }
     {
         self.offset
     }
 
-    /// The one reference of all items, or `None` where each chunk has one.
+    /// The one reference of all items, or `None` if each chunk has its own.
     pub fn global_reference(&self) -> Option<Scalar>
         ensures { result ≡ self.now.global_reference }
     {
@@ -115,7 +115,7 @@ impl fmt::Display for ScalarText {
     }
 }
 
-/// The one reference, where there is one, and a comma.
+/// The one reference, if there is one, and a comma.
 #[derive(Drop)]
 struct ReferenceText(Option<Scalar>);
 
@@ -133,7 +133,7 @@ impl fmt::Display for ReferenceText {
     }
 }
 
-/// The one reference, where there is one, and the offset: `global_reference: -5i32, offset: 0` or `offset: 7`.
+/// The one reference, if there is one, and the offset: `global_reference: -5i32, offset: 0` or `offset: 7`.
 impl fmt::Display for FoRData {
     ghost output = { λ d. Some (for_data_text d) };
 

@@ -23,12 +23,12 @@ use std::alloc::Global;
 
 /// The column of a FoR array in a primitive array.
 ///
-/// The blocks of a bit-packed child are unpacked with the reference added in the same pass, where there is one
-/// reference, or where the blocks of the child are the chunks of the references. Any other child is decoded, and
+/// The blocks of a bit-packed child are unpacked with the reference added in the same pass, if there is one
+/// reference, or if the blocks of the child are the chunks of the references. Any other child is decoded, and
 /// the references are added to its items.
 ///
 /// # Errors
-/// None but `OutOfMemory`.
+/// Only `OutOfMemory`.
 pub fn decompress(alloc: Global, array: &FoRArray) -> Result<PrimitiveArray, FastLanesError>
     ensures { Answers column_of_primitive result (Ok (column (tree_of_for array.now))) }
 {
@@ -49,7 +49,7 @@ impl FoRArray {
     }
 
     /// The one reference, which is an integer of a bit-packed child's type.
-    fn reference_of_packed(&self, packed: &BitPackedArray, reference: &Scalar) -> PValue
+    pub(crate) fn reference_of_packed(&self, packed: &BitPackedArray, reference: &Scalar) -> PValue
         requires same { GlobalReference (scalar_parts reference.now) ≡ self.now.references }
         requires packed { tree_of_bitpacked packed.now ≡ self.now.encoded }
         ensures typed { ptype_of_value result ≡ packed.now.parts.ptype }

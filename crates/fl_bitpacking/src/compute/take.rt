@@ -2,7 +2,7 @@
 
 mod patch_values;
 mod positions;
-mod runs;
+pub(crate) mod runs;
 
 ghost use Rattle.std.specs.Prelude.{◌≡◌, ◌||◌, ◌+◌, ◌*◌, ◌<◌, ◌≤◌, ℕ, false, IfOk, IsTrue, None, Ok, OnOk, drop, length, not, option_map, slice_index, slice_index_or};
 ghost use Rattle.fl_types.specs.declared.dtype.DType.TheVariants.{Primitive};

@@ -11,7 +11,7 @@ use crate::handle::ArrayHandle;
 use crate::kept::keep;
 use std::alloc::Global;
 
-/// Makes an array of the same column, by the text of a scheme.
+/// Makes an array of the same column in the encoding that the text of a scheme names.
 #[unsafe(no_mangle)]
 pub extern "C" fn flcol_encode(
     alloc: Global,

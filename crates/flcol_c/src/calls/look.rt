@@ -42,7 +42,7 @@ pub extern "C" fn flcol_len(array: &mut ArrayHandle, len: &mut usize) -> i32
     DONE
 }
 
-/// Writes the byte of the type: the number of an integer type, or 8 for booleans, and 16 more where items may be null.
+/// Writes the byte of the type: the number of an integer type, or 8 for booleans, plus 16 if items may be null.
 #[unsafe(no_mangle)]
 pub extern "C" fn flcol_dtype(array: &mut ArrayHandle, dtype: &mut u8) -> i32
     ensures kept { IsKept array.old array.new }
@@ -57,7 +57,7 @@ pub extern "C" fn flcol_dtype(array: &mut ArrayHandle, dtype: &mut u8) -> i32
     DONE
 }
 
-/// Writes how many bytes all buffers of the array take when it is written, `u64::MAX` where there are more.
+/// Writes how many bytes all buffers of the array take when it is written, `u64::MAX` if there are more.
 #[unsafe(no_mangle)]
 pub extern "C" fn flcol_nbytes(array: &mut ArrayHandle, bytes: &mut u64) -> i32
     ensures kept { IsKept array.old array.new }
@@ -92,7 +92,7 @@ pub extern "C" fn flcol_null_count(alloc: Global, array: &mut ArrayHandle, count
     }
 }
 
-/// Writes 1 where all items are equal, a null to a null, else 0.
+/// Writes 1 if all items are equal, a null to a null, else 0.
 #[unsafe(no_mangle)]
 pub extern "C" fn flcol_is_constant(alloc: Global, array: &mut ArrayHandle, answer: &mut u8) -> i32
     ensures kept { IsKept array.old array.new }
@@ -112,7 +112,7 @@ pub extern "C" fn flcol_is_constant(alloc: Global, array: &mut ArrayHandle, answ
     }
 }
 
-/// Writes 1 where no item is above the next or, where `strict` is not 0, each is below the next, else 0. A null is
+/// Writes 1 if no item is above the next or, if `strict` is not 0, each is below the next, else 0. A null is
 /// below every integer.
 #[unsafe(no_mangle)]
 pub extern "C" fn flcol_is_sorted(

@@ -11,8 +11,8 @@ use crate::handle::ArrayHandle;
 use crate::typed;
 use std::alloc::Global;
 
-/// Makes a plain array of these values, of which those are valid whose bits are set; of no nullable type where there
-/// is no byte.
+/// Makes a plain array of these values. Those are valid whose bits are set; without a bitmap all are, and the type is
+/// not nullable.
 #[unsafe(no_mangle)]
 pub extern "C" fn flcol_from_u8(
     alloc: Global,
@@ -27,8 +27,8 @@ pub extern "C" fn flcol_from_u8(
     typed::from_values(alloc, values, validity, out)
 }
 
-/// Makes a plain array of these values, of which those are valid whose bits are set; of no nullable type where there
-/// is no byte.
+/// Makes a plain array of these values. Those are valid whose bits are set; without a bitmap all are, and the type is
+/// not nullable.
 #[unsafe(no_mangle)]
 pub extern "C" fn flcol_from_u16(
     alloc: Global,
@@ -43,8 +43,8 @@ pub extern "C" fn flcol_from_u16(
     typed::from_values(alloc, values, validity, out)
 }
 
-/// Makes a plain array of these values, of which those are valid whose bits are set; of no nullable type where there
-/// is no byte.
+/// Makes a plain array of these values. Those are valid whose bits are set; without a bitmap all are, and the type is
+/// not nullable.
 #[unsafe(no_mangle)]
 pub extern "C" fn flcol_from_u32(
     alloc: Global,
@@ -59,8 +59,8 @@ pub extern "C" fn flcol_from_u32(
     typed::from_values(alloc, values, validity, out)
 }
 
-/// Makes a plain array of these values, of which those are valid whose bits are set; of no nullable type where there
-/// is no byte.
+/// Makes a plain array of these values. Those are valid whose bits are set; without a bitmap all are, and the type is
+/// not nullable.
 #[unsafe(no_mangle)]
 pub extern "C" fn flcol_from_u64(
     alloc: Global,
@@ -75,8 +75,8 @@ pub extern "C" fn flcol_from_u64(
     typed::from_values(alloc, values, validity, out)
 }
 
-/// Makes a plain array of these values, of which those are valid whose bits are set; of no nullable type where there
-/// is no byte.
+/// Makes a plain array of these values. Those are valid whose bits are set; without a bitmap all are, and the type is
+/// not nullable.
 #[unsafe(no_mangle)]
 pub extern "C" fn flcol_from_i8(
     alloc: Global,
@@ -91,8 +91,8 @@ pub extern "C" fn flcol_from_i8(
     typed::from_values(alloc, values, validity, out)
 }
 
-/// Makes a plain array of these values, of which those are valid whose bits are set; of no nullable type where there
-/// is no byte.
+/// Makes a plain array of these values. Those are valid whose bits are set; without a bitmap all are, and the type is
+/// not nullable.
 #[unsafe(no_mangle)]
 pub extern "C" fn flcol_from_i16(
     alloc: Global,
@@ -107,8 +107,8 @@ pub extern "C" fn flcol_from_i16(
     typed::from_values(alloc, values, validity, out)
 }
 
-/// Makes a plain array of these values, of which those are valid whose bits are set; of no nullable type where there
-/// is no byte.
+/// Makes a plain array of these values. Those are valid whose bits are set; without a bitmap all are, and the type is
+/// not nullable.
 #[unsafe(no_mangle)]
 pub extern "C" fn flcol_from_i32(
     alloc: Global,
@@ -123,8 +123,8 @@ pub extern "C" fn flcol_from_i32(
     typed::from_values(alloc, values, validity, out)
 }
 
-/// Makes a plain array of these values, of which those are valid whose bits are set; of no nullable type where there
-/// is no byte.
+/// Makes a plain array of these values. Those are valid whose bits are set; without a bitmap all are, and the type is
+/// not nullable.
 #[unsafe(no_mangle)]
 pub extern "C" fn flcol_from_i64(
     alloc: Global,
@@ -139,7 +139,7 @@ pub extern "C" fn flcol_from_i64(
     typed::from_values(alloc, values, validity, out)
 }
 
-/// Makes a constant array of this many times a value, without nulls, or where `is_null` is not 0 a null.
+/// Makes a constant array of `len` copies of a value, not nullable, or of a null if `is_null` is not 0.
 #[unsafe(no_mangle)]
 pub extern "C" fn flcol_constant_u8(
     alloc: Global,
@@ -155,7 +155,7 @@ pub extern "C" fn flcol_constant_u8(
     typed::constant(alloc, value, is_null, len, out)
 }
 
-/// Makes a constant array of this many times a value, without nulls, or where `is_null` is not 0 a null.
+/// Makes a constant array of `len` copies of a value, not nullable, or of a null if `is_null` is not 0.
 #[unsafe(no_mangle)]
 pub extern "C" fn flcol_constant_u16(
     alloc: Global,
@@ -171,7 +171,7 @@ pub extern "C" fn flcol_constant_u16(
     typed::constant(alloc, value, is_null, len, out)
 }
 
-/// Makes a constant array of this many times a value, without nulls, or where `is_null` is not 0 a null.
+/// Makes a constant array of `len` copies of a value, not nullable, or of a null if `is_null` is not 0.
 #[unsafe(no_mangle)]
 pub extern "C" fn flcol_constant_u32(
     alloc: Global,
@@ -187,7 +187,7 @@ pub extern "C" fn flcol_constant_u32(
     typed::constant(alloc, value, is_null, len, out)
 }
 
-/// Makes a constant array of this many times a value, without nulls, or where `is_null` is not 0 a null.
+/// Makes a constant array of `len` copies of a value, not nullable, or of a null if `is_null` is not 0.
 #[unsafe(no_mangle)]
 pub extern "C" fn flcol_constant_u64(
     alloc: Global,
@@ -203,7 +203,7 @@ pub extern "C" fn flcol_constant_u64(
     typed::constant(alloc, value, is_null, len, out)
 }
 
-/// Makes a constant array of this many times a value, without nulls, or where `is_null` is not 0 a null.
+/// Makes a constant array of `len` copies of a value, not nullable, or of a null if `is_null` is not 0.
 #[unsafe(no_mangle)]
 pub extern "C" fn flcol_constant_i8(
     alloc: Global,
@@ -219,7 +219,7 @@ pub extern "C" fn flcol_constant_i8(
     typed::constant(alloc, value, is_null, len, out)
 }
 
-/// Makes a constant array of this many times a value, without nulls, or where `is_null` is not 0 a null.
+/// Makes a constant array of `len` copies of a value, not nullable, or of a null if `is_null` is not 0.
 #[unsafe(no_mangle)]
 pub extern "C" fn flcol_constant_i16(
     alloc: Global,
@@ -235,7 +235,7 @@ pub extern "C" fn flcol_constant_i16(
     typed::constant(alloc, value, is_null, len, out)
 }
 
-/// Makes a constant array of this many times a value, without nulls, or where `is_null` is not 0 a null.
+/// Makes a constant array of `len` copies of a value, not nullable, or of a null if `is_null` is not 0.
 #[unsafe(no_mangle)]
 pub extern "C" fn flcol_constant_i32(
     alloc: Global,
@@ -251,7 +251,7 @@ pub extern "C" fn flcol_constant_i32(
     typed::constant(alloc, value, is_null, len, out)
 }
 
-/// Makes a constant array of this many times a value, without nulls, or where `is_null` is not 0 a null.
+/// Makes a constant array of `len` copies of a value, not nullable, or of a null if `is_null` is not 0.
 #[unsafe(no_mangle)]
 pub extern "C" fn flcol_constant_i64(
     alloc: Global,

@@ -40,7 +40,7 @@ pub extern "C" fn flcol_slice(
     keep(out, alloc, operations::slice(alloc, source, from, to))
 }
 
-/// Makes an array of the items at these indices, null where an index is null.
+/// Makes an array of the items at these indices, null if its index is null.
 #[unsafe(no_mangle)]
 pub extern "C" fn flcol_take(
     alloc: Global,
@@ -102,7 +102,7 @@ pub extern "C" fn flcol_filter(
     keep(out, alloc, operations::filter(alloc, source, mask))
 }
 
-/// Makes an array of the same integers in the type that a byte says.
+/// Makes an array of the same integers in the type of a byte (`flcol_dtype`).
 #[unsafe(no_mangle)]
 pub extern "C" fn flcol_cast(
     alloc: Global,
@@ -121,7 +121,7 @@ pub extern "C" fn flcol_cast(
     keep(out, alloc, operations::cast(alloc, source, dtype))
 }
 
-/// Makes the same array with a boundary for each block wherever it is bit-packed at one width.
+/// Makes the same array with boundaries between the blocks wherever it is bit-packed at one width.
 #[unsafe(no_mangle)]
 pub extern "C" fn flcol_to_blocked(
     alloc: Global,
@@ -139,7 +139,7 @@ pub extern "C" fn flcol_to_blocked(
     keep(out, alloc, operations::to_blocked(alloc, source))
 }
 
-/// Makes the smallest array of the same column that any of the candidate schemes makes, the first of several.
+/// Makes the array of the same column that takes the fewest bytes of all candidate schemes; of several the first.
 #[unsafe(no_mangle)]
 pub extern "C" fn flcol_compress(
     alloc: Global,

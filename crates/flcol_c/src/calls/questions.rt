@@ -32,7 +32,7 @@ pub extern "C" fn flcol_compare_u8(
     typed::compare(alloc, array, operator, constant, bits, validity)
 }
 
-/// Writes whether each item of an array of `u8` lies between two bounds, a bound itself left out where its number is
+/// Writes whether each item of an array of `u8` lies between two bounds, without a bound itself if its `strict` is
 /// not 0, and which items are valid.
 #[unsafe(no_mangle)]
 pub extern "C" fn flcol_between_u8(
@@ -74,7 +74,7 @@ pub extern "C" fn flcol_compare_u16(
     typed::compare(alloc, array, operator, constant, bits, validity)
 }
 
-/// Writes whether each item of an array of `u16` lies between two bounds, a bound itself left out where its number is
+/// Writes whether each item of an array of `u16` lies between two bounds, without a bound itself if its `strict` is
 /// not 0, and which items are valid.
 #[unsafe(no_mangle)]
 pub extern "C" fn flcol_between_u16(
@@ -116,7 +116,7 @@ pub extern "C" fn flcol_compare_u32(
     typed::compare(alloc, array, operator, constant, bits, validity)
 }
 
-/// Writes whether each item of an array of `u32` lies between two bounds, a bound itself left out where its number is
+/// Writes whether each item of an array of `u32` lies between two bounds, without a bound itself if its `strict` is
 /// not 0, and which items are valid.
 #[unsafe(no_mangle)]
 pub extern "C" fn flcol_between_u32(
@@ -158,7 +158,7 @@ pub extern "C" fn flcol_compare_u64(
     typed::compare(alloc, array, operator, constant, bits, validity)
 }
 
-/// Writes whether each item of an array of `u64` lies between two bounds, a bound itself left out where its number is
+/// Writes whether each item of an array of `u64` lies between two bounds, without a bound itself if its `strict` is
 /// not 0, and which items are valid.
 #[unsafe(no_mangle)]
 pub extern "C" fn flcol_between_u64(
@@ -200,7 +200,7 @@ pub extern "C" fn flcol_compare_i8(
     typed::compare(alloc, array, operator, constant, bits, validity)
 }
 
-/// Writes whether each item of an array of `i8` lies between two bounds, a bound itself left out where its number is
+/// Writes whether each item of an array of `i8` lies between two bounds, without a bound itself if its `strict` is
 /// not 0, and which items are valid.
 #[unsafe(no_mangle)]
 pub extern "C" fn flcol_between_i8(
@@ -242,7 +242,7 @@ pub extern "C" fn flcol_compare_i16(
     typed::compare(alloc, array, operator, constant, bits, validity)
 }
 
-/// Writes whether each item of an array of `i16` lies between two bounds, a bound itself left out where its number is
+/// Writes whether each item of an array of `i16` lies between two bounds, without a bound itself if its `strict` is
 /// not 0, and which items are valid.
 #[unsafe(no_mangle)]
 pub extern "C" fn flcol_between_i16(
@@ -284,7 +284,7 @@ pub extern "C" fn flcol_compare_i32(
     typed::compare(alloc, array, operator, constant, bits, validity)
 }
 
-/// Writes whether each item of an array of `i32` lies between two bounds, a bound itself left out where its number is
+/// Writes whether each item of an array of `i32` lies between two bounds, without a bound itself if its `strict` is
 /// not 0, and which items are valid.
 #[unsafe(no_mangle)]
 pub extern "C" fn flcol_between_i32(
@@ -326,7 +326,7 @@ pub extern "C" fn flcol_compare_i64(
     typed::compare(alloc, array, operator, constant, bits, validity)
 }
 
-/// Writes whether each item of an array of `i64` lies between two bounds, a bound itself left out where its number is
+/// Writes whether each item of an array of `i64` lies between two bounds, without a bound itself if its `strict` is
 /// not 0, and which items are valid.
 #[unsafe(no_mangle)]
 pub extern "C" fn flcol_between_i64(

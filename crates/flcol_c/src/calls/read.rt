@@ -29,7 +29,7 @@ pub extern "C" fn flcol_read_u8(
     typed::read(alloc, array, values, validity)
 }
 
-/// Writes the item of an array of `u8` at an index, or 0 for a null, and 1 where it is null, else 0.
+/// Writes the item of an array of `u8` at an index, or 0 for a null, and 1 if it is null, else 0.
 #[unsafe(no_mangle)]
 pub extern "C" fn flcol_get_u8(
     alloc: Global,
@@ -63,7 +63,7 @@ pub extern "C" fn flcol_read_u16(
     typed::read(alloc, array, values, validity)
 }
 
-/// Writes the item of an array of `u16` at an index, or 0 for a null, and 1 where it is null, else 0.
+/// Writes the item of an array of `u16` at an index, or 0 for a null, and 1 if it is null, else 0.
 #[unsafe(no_mangle)]
 pub extern "C" fn flcol_get_u16(
     alloc: Global,
@@ -97,7 +97,7 @@ pub extern "C" fn flcol_read_u32(
     typed::read(alloc, array, values, validity)
 }
 
-/// Writes the item of an array of `u32` at an index, or 0 for a null, and 1 where it is null, else 0.
+/// Writes the item of an array of `u32` at an index, or 0 for a null, and 1 if it is null, else 0.
 #[unsafe(no_mangle)]
 pub extern "C" fn flcol_get_u32(
     alloc: Global,
@@ -131,7 +131,7 @@ pub extern "C" fn flcol_read_u64(
     typed::read(alloc, array, values, validity)
 }
 
-/// Writes the item of an array of `u64` at an index, or 0 for a null, and 1 where it is null, else 0.
+/// Writes the item of an array of `u64` at an index, or 0 for a null, and 1 if it is null, else 0.
 #[unsafe(no_mangle)]
 pub extern "C" fn flcol_get_u64(
     alloc: Global,
@@ -165,7 +165,7 @@ pub extern "C" fn flcol_read_i8(
     typed::read(alloc, array, values, validity)
 }
 
-/// Writes the item of an array of `i8` at an index, or 0 for a null, and 1 where it is null, else 0.
+/// Writes the item of an array of `i8` at an index, or 0 for a null, and 1 if it is null, else 0.
 #[unsafe(no_mangle)]
 pub extern "C" fn flcol_get_i8(
     alloc: Global,
@@ -199,7 +199,7 @@ pub extern "C" fn flcol_read_i16(
     typed::read(alloc, array, values, validity)
 }
 
-/// Writes the item of an array of `i16` at an index, or 0 for a null, and 1 where it is null, else 0.
+/// Writes the item of an array of `i16` at an index, or 0 for a null, and 1 if it is null, else 0.
 #[unsafe(no_mangle)]
 pub extern "C" fn flcol_get_i16(
     alloc: Global,
@@ -233,7 +233,7 @@ pub extern "C" fn flcol_read_i32(
     typed::read(alloc, array, values, validity)
 }
 
-/// Writes the item of an array of `i32` at an index, or 0 for a null, and 1 where it is null, else 0.
+/// Writes the item of an array of `i32` at an index, or 0 for a null, and 1 if it is null, else 0.
 #[unsafe(no_mangle)]
 pub extern "C" fn flcol_get_i32(
     alloc: Global,
@@ -267,7 +267,7 @@ pub extern "C" fn flcol_read_i64(
     typed::read(alloc, array, values, validity)
 }
 
-/// Writes the item of an array of `i64` at an index, or 0 for a null, and 1 where it is null, else 0.
+/// Writes the item of an array of `i64` at an index, or 0 for a null, and 1 if it is null, else 0.
 #[unsafe(no_mangle)]
 pub extern "C" fn flcol_get_i64(
     alloc: Global,

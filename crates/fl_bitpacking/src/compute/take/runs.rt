@@ -18,7 +18,7 @@ use std::alloc::{AllocError, Global};
 
 /// The most positions of one block that are read one by one, in a type of this many bits. Of more, the
 /// block is unpacked whole.
-fn unpack_threshold(bits: usize) -> usize
+pub(crate) fn unpack_threshold(bits: usize) -> usize
     ensures { result ≡ unpack_threshold bits }
 {
     match bits {
@@ -47,7 +47,7 @@ fn run_end(offset: usize, positions: &[usize], from: usize) -> usize
 }
 
 /// The byte at which block `j` starts, which lies in memory.
-fn block_start(widths: Widths, j: usize) -> usize
+pub(crate) fn block_start(widths: Widths, j: usize) -> usize
     requires starts { HasStarts widths }
     requires named { Names widths j }
     requires few { (blocks_of widths).start j + 128 * (blocks_of widths).width j < 2 ^ 64 }

@@ -1,0 +1,111 @@
+//! Arrays that are decoded into a slice of the caller.
+
+ghost use Rattle.std.specs.Prelude.{◌≡◌, ◌<◌, ℕ, IfSome, IsTrue, Ok, OnErr, OnOk, length, map};
+ghost use Rattle.fl_types.specs.Refusals.{Answers};
+ghost use Rattle.fl_types.specs.Types.{has_ptype};
+ghost use Rattle.fl_column.specs.Columns.{column_of_constant, column_of_primitive};
+ghost use Rattle.fl_bitpacking.specs.Blocks.{value_at};
+ghost use Rattle.fl_array.specs.Reads.{AreItemsOf};
+ghost use Rattle.fl_array.specs.Trees.{column};
+
+use crate::array::{ArrayRef, Node};
+use fastlanes::Work;
+use fl_bitpacking::unpack_iter::BitPacked;
+use fl_column::{ConstantArray, FastLanesError, NativePType, PrimitiveArray};
+use num_traits::WrappingAdd;
+use std::alloc::Global;
+
+/// Copies the integers of a primitive array.
+pub(crate) fn copy_into<T: NativePType>(plain: &PrimitiveArray, values: &mut [T])
+    requires typed { IsTrue (has_ptype T.PTYPE (column_of_primitive plain.now).dtype) }
+    requires long { length values.old ≡ length (column_of_primitive plain.now).items }
+    ensures { AreItemsOf (map T.value values.new) (column_of_primitive plain.now) }
+{
+    let (_len, _validity) = (plain.len(), plain.validity());
+    values.copy_from_slice(plain.as_slice::<T>());
+}
+
+/// The integer of a constant array, or 0 if it is a null.
+fn value_of<T: NativePType>(constant: &ConstantArray) -> T
+    requires { IsTrue (has_ptype T.PTYPE (column_of_constant constant.now).dtype) }
+    ensures { IfSome constant.now.scalar.value (λ z. T.value result ≡ z) }
+{
+    match constant.value() {
+        Some(value) => T::from_pvalue(value).unwrap(),
+        None => T::zero(),
+    }
+}
+
+/// Writes a value at each index.
+fn fill<T: NativePType>(values: &mut [T], value: T)
+    ensures { (i : ℕ) → i < length values.old → value_at T.value values.new i ≡ T.value value }
+{
+    for i in 0..values.len() {
+        values[i] = value;
+    }
+}
+
+/// Writes the integer of a constant array at each index, or 0 if it is a null.
+fn fill_with<T: NativePType>(constant: &ConstantArray, values: &mut [T])
+    requires typed { IsTrue (has_ptype T.PTYPE (column_of_constant constant.now).dtype) }
+    requires long { length values.old ≡ length (column_of_constant constant.now).items }
+    ensures { AreItemsOf (map T.value values.new) (column_of_constant constant.now) }
+{
+    let value = value_of::<T>(constant);
+    fill(values, value);
+}
+
+impl ArrayRef {
+    /// Writes the items, decoded into a primitive array first.
+    fn decode_and_copy<T: NativePType>(
+        &self,
+        alloc: Global,
+        values: &mut [T],
+    ) -> Result<(), FastLanesError>
+        requires typed { IsTrue (has_ptype T.PTYPE (column self.now).dtype) }
+        requires long { length values.old ≡ length (column self.now).items }
+        ensures answer { Answers (λ u. u) result (Ok tt) }
+        ensures items { OnOk result (AreItemsOf (map T.value values.new) (column self.now)) }
+        ensures unwritten { OnErr result (values.new ≡ values.old) }
+    {
+        let plain = self.to_primitive(alloc)?;
+        copy_into(&plain, values);
+        Ok(())
+    }
+
+    /// Writes the items into a slice of as many integers of the column's type. What a null leaves at its index is
+    /// not specified; `validity` says which items are null.
+    ///
+    /// Primitive, constant and bit-packed arrays, and FoR arrays over bit-packed ones whose blocks are the chunks
+    /// of the references, are decoded straight into the slice, block by block: the memory that is allocated is
+    /// that of the boundaries and of the references. Any other array is decoded first and then copied.
+    ///
+    /// # Errors
+    /// None but `OutOfMemory`, after which the slice is unchanged.
+    pub fn decode_into<T: BitPacked + WrappingAdd>(
+        &self,
+        alloc: Global,
+        values: &mut [T],
+    ) -> Result<(), FastLanesError>
+        requires typed { IsTrue (has_ptype T.PTYPE (column self.now).dtype) }
+        requires long { length values.old ≡ length (column self.now).items }
+        ensures answer { Answers (λ u. u) result (Ok tt) }
+        ensures items { OnOk result (AreItemsOf (map T.value values.new) (column self.now)) }
+        ensures unwritten { OnErr result (values.new ≡ values.old) }
+    {
+        let mut work = Work::new();
+        match &self.node {
+            Node::Primitive(array) => {
+                copy_into(array, values);
+                Ok(())
+            }
+            Node::Constant(array) => {
+                fill_with(array, values);
+                Ok(())
+            }
+            Node::BitPacked(array) => array.decode_into(alloc, None, values, &mut work),
+            Node::FoR(array) => array.decode_into(alloc, values, &mut work),
+            _ => self.decode_and_copy(alloc, values),
+        }
+    }
+}

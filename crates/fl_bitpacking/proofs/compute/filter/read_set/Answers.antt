@@ -1,0 +1,47 @@
+use Rattle.std.proofs.Common.{◌≡◌, ℕ, ◌+◌, ◌<◌, ◌∙◌, bit_and, length, set, ap, sym, arith, length-set}
+use Rattle.std.specs.Int.{w64, trailing_zeros}
+use Rattle.std.proofs.lemmas.Nat.Bits.{bit_at-trailing_zeros}
+use Rattle.fl_types.specs.Bits.{bit_of_word}
+use Rattle.fl_types.proofs.BitLists.{no_bit}
+use Rattle.fl_types.proofs.KeptLaws.{bit_stays, bit_true}
+use Rattle.fl_bitpacking.specs.Blocks.{block_item}
+use Rattle.fl_bitpacking.proofs.FilteredLaws.{word_read}
+use Rattle.fl_bitpacking.proofs.compute.filter.read_set.Goals as goal
+
+pub unpack_block_item-requires-clause-index : goal.unpack_block_item-requires-clause-index
+unpack_block_item-requires-clause-index g c =
+    let rest = c.loop-rest.rest in
+    let t = trailing_zeros w64 rest in
+    let place = bit_at-trailing_zeros w64 rest (omega arith) (omega arith) in
+    let inside = c.loop-rest.invariant.set t (bit_true rest t place.1) in
+    let room = c.requires.within in
+    omega arith
+
+pub write_at-requires : goal.write_at-requires
+write_at-requires g c =
+    let rest = c.loop-rest.rest in
+    let t = trailing_zeros w64 rest in
+    let place = bit_at-trailing_zeros w64 rest (omega arith) (omega arith) in
+    let inside = c.loop-rest.invariant.set t (bit_true rest t place.1) in
+    let long = c.loop-rest.invariant.long in
+    omega arith
+
+pub loop-rest-preserved : goal.loop-rest-preserved
+loop-rest-preserved g c =
+    let value = g.T.Number.value in
+    let rest = c.loop-rest.rest in
+    let t = trailing_zeros w64 rest in
+    let place = bit_at-trailing_zeros w64 rest (omega arith) (omega arith) in
+    let within = c.loop-rest.invariant.set t (bit_true rest t place.1) in
+    let long = c.loop-rest.invariant.long in
+    record {
+      long = rw (c.write_at.ensures, length-set) long;
+      set = λ j set. c.loop-rest.invariant.set j (bit_stays rest t j place.1 place.2 set);
+      done = rw c.write_at.ensures (word_read value (λ j. block_item g.T.NativePType.PTYPE c.args.width c.args.block.now (c.args.first + j)) c.loop-rest.items c.unpack_block_item.result c.args.word rest t (omega arith) c.unpack_block_item.ensures.item place.1 place.2 c.loop-rest.invariant.done);
+      blocks = c.unpack_block_item.ensures.blocks ∙ c.loop-rest.invariant.blocks;
+    }
+
+pub returns-clause-items : goal.returns-clause-items
+returns-clause-items g c j set =
+    let none : c.loop-rest.rest ≡ 0 = omega arith in
+    c.loop-rest.invariant.done j set (ap (λ (n : ℕ). bit_of_word n j) none ∙ no_bit j)
