@@ -1,5 +1,6 @@
 -- What the steps of the search answer, by what the calls in them answered.
-use Rattle.std.proofs.Common.{◌≡◌, ◌≤◌, ◌<◌, ℕ, ◌-◌, ℤ, Bool, true, false, List, [], ◌∷◌, ◌++◌, length, Option, Some, None, Ok, Err, ap, sym, subst, ◌∙◌, inl, inr}
+use Rattle.std.proofs.lemmas.Bool.Decides.{nat_tests}
+use Rattle.std.proofs.Common.{◌≡◌, ◌≤◌, ◌<◌, ℕ, ◌+◌, ◌-◌, ℤ, Bool, true, false, List, [], ◌∷◌, ◌++◌, length, Option, Some, None, Ok, Err, ap, sym, subst, ◌∙◌, inl, inr, refl, arith}
 use Rattle.std.specs.Prelude.{IfErr, IfOk, IsTrue, Result}
 use Rattle.fl_types.specs.declared.error.FastLanesError.{FastLanesError}
 use Rattle.fl_types.specs.declared.error.FastLanesError.TheVariants.{NoMinimum, OutOfMemory}
@@ -32,8 +33,8 @@ use Rattle.fl_compress.specs.Choices.{chosen, or_frames, runs_of, two, with_byte
 use Rattle.fl_compress.specs.EncodedBytes.{encoded_bytes}
 use Rattle.fl_compress.specs.Smallest.{IsSmallest}
 use Rattle.fl_compress.proofs.AlikeLaws.{AreAlike, frames_alike}
-use Rattle.fl_compress.proofs.CheapestLaws.{cheapest_append, first_cheapest, free_first, wrapped}
-use Rattle.fl_compress.proofs.ListLaws.{candidate_list, chunk_list, delta_list, deltas_list, framed_list, no_candidate_list, no_delta_list, not_framed_list, nulls_list, one_list, packed_list, packings_there, runs_list, whole_list}
+use Rattle.fl_compress.proofs.CheapestLaws.{cheaper_none, cheapest_append, first_cheapest, free_first, wrapped}
+use Rattle.fl_compress.proofs.ListLaws.{candidate_list, chunk_list, delta_list, deltas_list, framed_list, no_candidate_list, no_delta_list, no_list, not_framed_list, nulls_list, one_list, packed_list, packings_there, runs_list, whole_list}
 use Rattle.fl_compress.proofs.MadeBytes.{free_of_refusal}
 use Rattle.fl_compress.proofs.SmallestLaws.{constant_is_constant, empty_is_plain, never_larger, smallest_is}
 
@@ -81,29 +82,26 @@ packed_choice limits depth p best packing choice g k c =
     let lists = packed_list limits depth p in
     cc
 
+-- where nothing may be packed
+pub unpacked_choice : (limits : Limits) (depth : ℕ) (p : PrimitiveParts) (best : Option (Shape × ℕ)) → has_level limits.bitpacked depth ≡ false → best ≡ cheaper (Some (Primitive, primitive_bytes p)) (cheapest (encoded_bytes p) (where_allowed limits.constant (Constant ∷ [])))
+    → best ≡ cheapest (encoded_bytes p) (packed_schemes limits depth)
+unpacked_choice limits depth p best none g =
+    packed_choice limits depth p best None best g (sym (no_list p (has_level limits.bitpacked depth) (BitPacked BestWidth ∷ BitPacked BestWidths ∷ []) none)) (sym (cheaper_none best))
+
 -- ---- frames of reference
 pub one_choice : (order : ItemOrder) (p q : PrimitiveParts) (parts : OneReference) (schemes : List Shape) (s : Shape) (n : ℕ) (choice : Option (Shape × ℕ)) → encode_global_by order p ≡ Ok parts → q ≡ parts.child
     → Some (s, n) ≡ cheapest (encoded_bytes q) schemes → Gives (Some (with_reference order s, n)) choice → Gives (cheapest (encoded_bytes p) (over_one_reference order schemes)) choice
 one_choice order p q parts schemes s n choice e f g h =
     gives _ _ (one_list order p parts schemes e ∙ (ap (wrapped (with_reference order)) (ap (λ r. cheapest (encoded_bytes r) schemes) (sym f) ∙ sym g) ∙ ok_is _ _ h))
 
--- a column without a least item is refused for that alone
-no_least : (p : PrimitiveParts) (o : Option ℤ) (refusal : FastLanesError) → subtract_min p o ≡ Err refusal → NoMinimum ≡ refusal
-no_least p None refusal e = cc
-no_least p (Some z) refusal e = cc
+-- two choices that are the cheapest, beside each other
+pub over_two : (order : ItemOrder) (child others first other : Option (Shape × ℕ)) (r : Result Choice FastLanesError) → child ≡ first → others ≡ other
+    → Answers chosen r (Ok (combined (with_references order) child others)) → Answers chosen r (Ok (combined (with_references order) first other))
+over_two order child others first other r e f a = answers_same r _ _ (ap (λ c. combined (with_references order) c others) e ∙ ap (combined (with_references order) first) f) a
 
-pub only_no_minimum : (order : ItemOrder) (p : PrimitiveParts) (refusal : FastLanesError) (r : Result (Option (Shape × ℕ)) FastLanesError) → Refuses refusal (encode_global_by order p) → (refusal ≡ NoMinimum → Refuses refusal r) → Refuses refusal r
-only_no_minimum order p refusal r h k = elim (Refuses_cases refusal (encode_global_by order p) h) [
-  | inl memory ↦ subst (λ e. Refuses e r) (sym memory) tt
-  | inr is ↦ k (sym (no_least p (least_by (reading order p.ptype) (items_of_primitive p)) refusal is))
-]
-
-pub whole_choice : (order : ItemOrder) (p q : PrimitiveParts) (parts : OneReference) (limits : Limits) (depth : ℕ) (child others : Option (Shape × ℕ)) (r : Result Choice FastLanesError) → encode_chunked_by order p ≡ Whole parts → q ≡ parts.child
-    → child ≡ cheapest (encoded_bytes q) (packed_schemes limits depth) → others ≡ Some (Primitive, 0) → Answers chosen r (Ok (combined (with_references order) child others)) → Answers chosen r (Ok (cheapest (encoded_bytes p) (over_chunk_references order (packed_schemes limits depth))))
-whole_choice order p q parts limits depth child others r e f g h a =
-    let schemes = packed_schemes limits depth in
-    let here : cheapest (encoded_bytes parts.child) schemes ≡ child = ap (λ s. cheapest (encoded_bytes s) schemes) (sym f) ∙ sym g in
-    answers_same r _ _ (sym (whole_list order p parts limits depth e ∙ (ap (λ c. combined (with_references order) c (Some (Primitive, 0))) here ∙ ap (combined (with_references order) child) (sym h)))) a
+pub common_choice : (order : ItemOrder) (p : PrimitiveParts) (parts : OneReference) (limits : Limits) (depth : ℕ) (r : Result Choice FastLanesError) → encode_chunked_by order p ≡ Whole parts
+    → Answers chosen r (Ok (combined (with_references order) (cheapest (encoded_bytes parts.child) (packed_schemes limits depth)) (Some (Primitive, 0)))) → Answers chosen r (Ok (cheapest (encoded_bytes p) (over_chunk_references order (packed_schemes limits depth))))
+common_choice order p parts limits depth r e a = answers_same r _ _ (sym (whole_list order p parts limits depth e)) a
 
 pub chunks_choice : (order : ItemOrder) (p child others : PrimitiveParts) (schemes : List Shape) (r : Result Choice FastLanesError) → encode_chunked_by order p ≡ ByChunk child others
     → Answers chosen r (Ok (combined (with_references order) (cheapest (encoded_bytes child) schemes) (cheapest (encoded_bytes others) schemes))) → Answers chosen r (Ok (cheapest (encoded_bytes p) (over_chunk_references order schemes)))
@@ -175,20 +173,35 @@ pub no_delta_choice : (limits : Limits) (depth : ℕ) (p : PrimitiveParts) (fram
 no_delta_choice limits depth p framed e f = gives _ _ (no_delta_list limits depth p e ∙ ok_is _ _ f)
 
 -- ---- runs
-pub runs_choice : (p : PrimitiveParts) (runs : RunParts) (values others : List Shape) (r : Result Choice FastLanesError) → encode_runs p ≡ runs
-    → Answers chosen r (Ok (combined runs_of (cheapest (encoded_bytes runs.values) values) (combined two (cheapest (encoded_bytes runs.indices) others) (cheapest (encoded_bytes runs.offsets) others))))
-    → Answers chosen r (Ok (cheapest (encoded_bytes p) (over_runs values others)))
-runs_choice p runs values others r e a =
-    answers_same r _ _ (sym (runs_list p values others
-    ∙ ap (λ (x : RunParts). combined runs_of (cheapest (encoded_bytes x.values) values) (combined two (cheapest (encoded_bytes x.indices) others) (cheapest (encoded_bytes x.offsets) others))) e)) a
+pub runs_choice : (p : PrimitiveParts) (runs : RunParts) (values others : List Shape) (first : Option (Shape × ℕ)) (r : Result Choice FastLanesError) → encode_runs p ≡ runs
+    → Answers chosen r (Ok (cheaper first (combined runs_of (cheapest (encoded_bytes runs.values) values) (combined two (cheapest (encoded_bytes runs.indices) others) (cheapest (encoded_bytes runs.offsets) others)))))
+    → Answers chosen r (Ok (cheaper first (cheapest (encoded_bytes p) (over_runs values others))))
+runs_choice p runs values others first r e a =
+    answers_same r _ _ (ap (cheaper first) (sym (runs_list p values others
+    ∙ ap (λ (x : RunParts). combined runs_of (cheapest (encoded_bytes x.values) values) (combined two (cheapest (encoded_bytes x.indices) others) (cheapest (encoded_bytes x.offsets) others))) e))) a
 
-pub whole_search : (limits : Limits) (p : PrimitiveParts) (best runs choice : Option (Shape × ℕ)) → has_level limits.rle limits.depth ≡ true → Gives (cheapest (encoded_bytes p) (delta_schemes limits limits.depth)) best
-    → Gives (cheapest (encoded_bytes p) (over_runs (delta_schemes limits (limits.depth - 1)) (framed_schemes limits (limits.depth - 1)))) runs → choice ≡ cheaper best runs → Gives (cheapest (encoded_bytes p) (candidates limits)) choice
-whole_search limits p best runs choice e f g c =
-    let lists = candidate_list limits p e in
-    let first = ok_is _ _ f in
-    let other = ok_is _ _ g in
-    gives _ _ (cc)
+-- two parts that take as many bytes as another choice
+dear_parts : (first : Shape × ℕ) (values : Option (Shape × ℕ)) (i o : Shape × ℕ) → first.1 ≤ i.1 + o.1 → cheaper (Some first) (combined runs_of values (combined two (Some i) (Some o))) ≡ Some first
+dear_parts first None i o h = refl
+dear_parts first (Some v) i o h = grind (arith, nat_tests)
+
+pub dear_runs : (first : Shape) (n : ℕ) (values indices offsets : Option (Shape × ℕ)) (i o : Shape × ℕ) → Gives indices (Some i) → Gives offsets (Some o) → n ≤ i.1 + o.1
+    → Gives (cheaper (Some (first, n)) (combined runs_of values (combined two indices offsets))) (Some (first, n))
+dear_runs first n values indices offsets i o e f h =
+    gives _ _ (ap (λ x. cheaper (Some (first, n)) (combined runs_of values (combined two x offsets))) (ok_is _ _ e)
+    ∙ (ap (λ x. cheaper (Some (first, n)) (combined runs_of values (combined two (Some i) x))) (ok_is _ _ f) ∙ dear_parts (first, n) values i o h))
+
+pub run_parts_choice : (first values indices offsets i o made choice : Option (Shape × ℕ)) → Gives indices i → Gives offsets o → Gives (combined runs_of values (combined two i o)) made → choice ≡ cheaper first made
+    → Gives (cheaper first (combined runs_of values (combined two indices offsets))) choice
+run_parts_choice first values indices offsets i o made choice e f g c =
+    gives _ _ (ap (λ x. cheaper first (combined runs_of values (combined two x offsets))) (ok_is _ _ e)
+    ∙ (ap (λ x. cheaper first (combined runs_of values (combined two i x))) (ok_is _ _ f) ∙ (ap (cheaper first) (ok_is _ _ g) ∙ sym c)))
+
+pub whole_search : (limits : Limits) (p : PrimitiveParts) (best : Option (Shape × ℕ)) (r : Result Choice FastLanesError) → has_level limits.rle limits.depth ≡ true → Gives (cheapest (encoded_bytes p) (delta_schemes limits limits.depth)) best
+    → Answers chosen r (Ok (cheaper best (cheapest (encoded_bytes p) (over_runs (delta_schemes limits (limits.depth - 1)) (framed_schemes limits (limits.depth - 1)))))) → Answers chosen r (Ok (cheapest (encoded_bytes p) (candidates limits)))
+whole_search limits p best r e f a =
+    let runs = cheapest (encoded_bytes p) (over_runs (delta_schemes limits (limits.depth - 1)) (framed_schemes limits (limits.depth - 1))) in
+    answers_same r _ _ (sym (candidate_list limits p e ∙ ap (λ c. cheaper c runs) (ok_is _ _ f))) a
 
 pub search_without_runs : (limits : Limits) (p : PrimitiveParts) (best : Option (Shape × ℕ)) → has_level limits.rle limits.depth ≡ false → Gives (cheapest (encoded_bytes p) (delta_schemes limits limits.depth)) best → Gives (cheapest (encoded_bytes p) (candidates limits)) best
 search_without_runs limits p best e f = gives _ _ (no_candidate_list limits p e ∙ ok_is _ _ f)

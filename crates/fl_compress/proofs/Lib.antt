@@ -2,8 +2,11 @@ pub mod AlikeLaws
 pub mod AnswerLaws
 pub mod CandidateLaws
 pub mod CheapestLaws
+pub mod DifferenceLaws
 pub mod ListLaws
 pub mod MadeBytes
 pub mod PackedBytes
 pub mod SmallestLaws
 pub mod StatisticsLaws
+pub mod FewerLevels
+pub mod SingleRuns

@@ -1,6 +1,6 @@
 -- How many bytes packed parts have.
 use Rattle.std.proofs.Common.{◌≡◌, ◌<◌, ◌≤◌, ℕ, ℤ, pos, ◌+◌, ◌-◌, ◌*◌, ◌^◌, Bool, true, false, List, [], ◌∷◌, length, map, min, sum, Option, Some, None, refl, ap, sym, ◌∙◌, inl, inr, arith}
-use Rattle.std.specs.Prelude.{◌==◌, ◌&&◌, ◌⊎◌, nat_le, nat_lt, not, if◌then◌else◌}
+use Rattle.std.specs.Prelude.{◌==◌, ◌&&◌, ◌⊎◌, nat_le, nat_lt, not, if◌then◌else◌, IsTrue}
 use Rattle.std.specs.List.{list_all, list_any}
 use Rattle.std.proofs.lemmas.Bool.{cases_lt, eqb-true, eq-eqb, le-leb, lt-leb, lt-ltb}
 use Rattle.std.proofs.lemmas.Bool.Decides.{nat_tests}
@@ -11,14 +11,14 @@ use Rattle.fl_types.specs.declared.dtype.Nullability.{Nullability}
 use Rattle.fl_types.specs.declared.error.FastLanesError.{FastLanesError}
 use Rattle.fl_types.specs.declared.error.FastLanesError.TheVariants.{AllBlocksNative, NegativeValue, WidthTooLarge}
 use Rattle.fl_types.specs.Integers.{bits_of_type, smallest_type}
-use Rattle.fl_types.specs.Validities.{items_of, nullability_of}
+use Rattle.fl_types.specs.Validities.{covers, items_of, nullability_of}
+use Rattle.fl_column.proofs.ItemLaws.{length-items_of}
 use Rattle.fl_column.specs.Chunks.{chunk_count}
 use Rattle.fl_column.specs.Columns.{PrimitiveParts}
-use Rattle.fl_patches.specs.Costs.{chosen_widths, count_above}
-use Rattle.fl_patches.specs.Exceptions.{exceptions_of, histogram_of, is_negative}
+use Rattle.fl_patches.specs.Exceptions.{exceptions_of, is_negative}
 use Rattle.fl_patches.specs.PatchMaps.{places_from, values_in}
 use Rattle.fl_patches.specs.PatchParts.{blocked_patches, chunk_offsets_of, exception_patches, global_patches, patch_count, patches_with}
-use Rattle.fl_patches.proofs.Counted.{count_patches}
+use Rattle.fl_patches.proofs.Counted.{count_patches, global_counted, patches_counted}
 use Rattle.fl_patches.proofs.LeastTotals.{length-widths, widths_fit}
 use Rattle.fl_statistics.specs.declared.widths.BitStatistics.{BitStatistics}
 use Rattle.fl_statistics.specs.BitStatistics.{bit_statistics}
@@ -33,6 +33,7 @@ use Rattle.fl_encode.specs.Packings.{packing_refusal}
 use Rattle.fl_encode.specs.Shapes.{BitPacked}
 use Rattle.fl_serde.specs.ByteCounts.{packed_bytes, patches_bytes, primitive_bytes, validity_bytes}
 use Rattle.fl_serde.specs.Leaves.{slots_size}
+use Rattle.fl_compress.specs.Choices.{with_slots}
 use Rattle.fl_compress.specs.EncodedBytes.{bytes_at, bytes_of_count, bytes_packed, encoded_bytes, unless}
 
 -- ---- patches
@@ -66,6 +67,14 @@ global_patch_bytes p width count e = ap (bytes_of_count p (smallest_type (length
 
 pub blocked_patch_bytes : (p : PrimitiveParts) (widths : List ℕ) (count : ℕ) → count ≡ patch_count (blocked_patches widths p) → bytes_of_count p (smallest_type (length p.slots)) count ≡ patches_bytes (blocked_patches widths p)
 blocked_patch_bytes p widths count e = ap (bytes_of_count p (smallest_type (length p.slots))) e ∙ sym (exception_bytes (smallest_type (length p.slots)) _ p)
+
+-- the bytes of patches are those of an array with other slots, where there are as many
+pub count_bytes_alike : (p : PrimitiveParts) (slots : List ℤ) (index_type : PType) (count : ℕ) → length slots ≡ length p.slots → bytes_of_count p index_type count ≡ bytes_of_count (with_slots p slots) index_type count
+count_bytes_alike p slots index_type count long = ap (λ n. if count == 0 then 0 else slots_size index_type count + slots_size p.ptype count + slots_size U64 (chunk_count n)) (sym long)
+
+-- there is an item for each of as many slots
+pub items_alike : (p : PrimitiveParts) (slots : List ℤ) → IsTrue (covers p.validity (length p.slots)) → length slots ≡ length p.slots → length (items_of p.validity slots) ≡ length slots
+items_alike p slots covered long = length-items_of p.validity slots (rw long covered)
 
 -- ---- boundaries
 pub boundary_bytes : (widths : List ℕ) → primitive_bytes (boundary_array widths) ≡ slots_size (smallest_type (128 * sum widths)) (length widths + 1)
@@ -137,17 +146,17 @@ pub width_is_best : (p : PrimitiveParts) (s : BitStatistics) → ArePackingStati
 unfolding bit_statistics
 width_is_best p s e = ap (λ a. a.width) e
 
-pub exceptions_are : (p : PrimitiveParts) (s : BitStatistics) → ((width : ℕ) → patch_count (global_patches width p) ≡ count_above width (histogram_of p.ptype (items_of p.validity p.slots))) → ArePackingStatistics p s → s.exceptions ≡ patch_count (global_patches s.width p)
+pub exceptions_are : (p : PrimitiveParts) (s : BitStatistics) → ArePackingStatistics p s → s.exceptions ≡ patch_count (global_patches s.width p)
 unfolding bit_statistics
-exceptions_are p s counted e = ap (λ a. a.exceptions) e ∙ (sym (counted (best_width_of p)) ∙ ap (λ w. patch_count (global_patches w p)) (sym (width_is_best p s e)))
+exceptions_are p s e = ap (λ a. a.exceptions) e ∙ (sym (global_counted _ (best_width_of p) p) ∙ ap (λ w. patch_count (global_patches w p)) (sym (width_is_best p s e)))
 
 pub sum_is : (p : PrimitiveParts) (s : BitStatistics) → ArePackingStatistics p s → s.block_widths ≡ sum (best_widths_of p)
 unfolding bit_statistics
 sum_is p s e = ap (λ a. a.block_widths) e
 
-pub block_exceptions_are : (p : PrimitiveParts) (s : BitStatistics) → patch_count (blocked_patches (best_widths_of p) p) ≡ (chosen_widths p.ptype (items_of p.validity p.slots)).exceptions → ArePackingStatistics p s → s.block_exceptions ≡ patch_count (blocked_patches (best_widths_of p) p)
+pub block_exceptions_are : (p : PrimitiveParts) (s : BitStatistics) → ArePackingStatistics p s → s.block_exceptions ≡ patch_count (blocked_patches (best_widths_of p) p)
 unfolding bit_statistics
-block_exceptions_are p s counted e = ap (λ a. a.block_exceptions) e ∙ sym counted
+block_exceptions_are p s e = ap (λ a. a.block_exceptions) e ∙ sym (patches_counted _ _ p)
 
 refused_width : (p : PrimitiveParts) (s : BitStatistics) (negative : Bool) → ArePackingStatistics p s → s.negative ≡ negative → list_any is_negative (items_of p.validity p.slots) ≡ negative
 unfolding bit_statistics

@@ -13,7 +13,7 @@ use Rattle.fl_encode.specs.declared.scheme.Packing.TheVariants.{BestWidth, BestW
 use Rattle.fl_encode.specs.declared.scheme.Scheme.{Scheme}
 use Rattle.fl_encode.specs.Encodings.{IsEncodedAs, encode_refusal}
 use Rattle.fl_encode.specs.Shapes.{BitPacked, Constant, Delta, FoR, FoRChunked, FoRChunkedWrapped, FoRWrapped, Plain, Primitive, RLE, Shape, shape}
-use Rattle.fl_serde.specs.ByteCounts.{tree_bytes, validity_bytes}
+use Rattle.fl_serde.specs.ByteCounts.{primitive_bytes, tree_bytes, validity_bytes}
 use Rattle.fl_compress.specs.declared.statistics.DeltaSizes.{DeltaSizes}
 use Rattle.fl_compress.specs.declared.statistics.FramedSizes.{FramedSizes}
 use Rattle.fl_compress.specs.declared.statistics.Statistics.{Statistics}
@@ -24,6 +24,10 @@ use Rattle.fl_compress.proofs.AnswerLaws.{Gives, gives}
 use Rattle.fl_compress.proofs.MadeBytes.{made_bytes}
 
 -- ---- what is computed
+pub packed_sizes_are : (p : PrimitiveParts) (plain : ℕ) (same : Bool) (one each : Option ℕ) → plain ≡ primitive_bytes p → same ≡ are_constant (column_of_primitive p).items → one ≡ encoded_bytes p (BitPacked BestWidth) → each ≡ encoded_bytes p (BitPacked BestWidths)
+    → record { plain = plain; is_constant = same; best_width = one; best_widths = each } ≡ packed_sizes p
+packed_sizes_are p plain same one each e f g h = rw (e, f, g, h) refl
+
 pub delta_sizes_are : (p bases deltas : PrimitiveParts) (framed b d : FramedSizes) (v : Validity) (own len : ℕ) → framed_sizes p ≡ framed → compress_deltas p ≡ (bases, deltas) → framed_sizes bases ≡ b → framed_sizes deltas ≡ d → own ≡ validity_bytes len v → len ≡ length p.slots → v ≡ p.validity
     → Gives (delta_sizes p) (record { framed = framed; bases = b; deltas = d; validity = own })
 delta_sizes_are p bases deltas framed b d v own len e f g h o l w =

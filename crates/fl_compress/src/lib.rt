@@ -12,6 +12,7 @@ pub mod limits;
 mod orders;
 mod packing;
 mod search;
+mod single_runs;
 pub mod sizes;
 pub mod statistics;
 

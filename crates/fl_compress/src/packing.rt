@@ -1,23 +1,21 @@
-//! How many bytes an array takes when it is bit-packed, by its histograms.
+//! How many bytes an array takes when it is bit-packed, by its histograms. The contracts speak of any array of as many
+//! slots, of the same type and validity, whose histograms these are: so that of differences need not be made.
 
-ghost use Rattle.std.specs.Prelude.{◌≡◌, ◌*◌, ◌+◌, ◌<◌, ◌≤◌, ◌^◌, [], ◌∷◌};
+ghost use Rattle.std.specs.Prelude.{◌≡◌, ◌*◌, ◌+◌, ◌<◌, ◌≤◌, ◌^◌, ℤ, List, [], ◌∷◌, length};
 ghost use Rattle.fl_types.specs.Integers.{smallest_type};
-ghost use Rattle.fl_types.specs.Validities.{items_of};
 ghost use Rattle.fl_patches.specs.PatchParts.{global_patches, patch_count};
-ghost use Rattle.fl_statistics.specs.BitStatistics.{bit_statistics};
 ghost use Rattle.fl_encode.specs.declared.scheme.Packing.TheVariants.{BestWidth, BestWidths};
 ghost use Rattle.fl_encode.specs.Shapes as shapes;
 ghost use Rattle.fl_serde.specs.Leaves.{slots_size};
 ghost use Rattle.fl_compress.specs.Candidates.{has_level, where_allowed};
 ghost use Rattle.fl_compress.specs.Cheapest.{cheaper, cheapest};
-ghost use Rattle.fl_compress.specs.Choices.{chosen_in, with_bytes};
+ghost use Rattle.fl_compress.specs.Choices.{AreStatisticsOf, chosen_in, with_bytes, with_slots};
 ghost use Rattle.fl_compress.specs.EncodedBytes.{bytes_at, bytes_of_count, bytes_packed, encoded_bytes};
 
 use crate::choice::Choice;
 use crate::limits::{Limits, has_level};
 use fl_column::{PType, PrimitiveArray, chunk_count};
 use fl_encode::{Packing, Scheme};
-use fl_patches::laws::{blocked_patches_are_counted, patches_are_counted};
 use fl_serde::byte_counts::{slots_size, validity_bytes};
 use fl_statistics::BitStatistics;
 
@@ -36,8 +34,7 @@ fn bytes_of_count(array: &PrimitiveArray, index_type: PType, count: usize) -> u1
 
 /// The bytes of an array at a width that leaves `count` patches.
 fn bytes_at(array: &PrimitiveArray, width: u8, count: usize) -> u128
-    requires { count ≡ patch_count (global_patches width array.now) }
-    ensures value { result ≡ bytes_at width array.now }
+    ensures value { (slots : List ℤ) → length slots ≡ length array.now.slots → count ≡ patch_count (global_patches width (with_slots array.now slots)) → result ≡ bytes_at width (with_slots array.now slots) }
     ensures few { result < 2 ^ 78 }
 {
     let len = array.len();
@@ -49,10 +46,8 @@ fn bytes_at(array: &PrimitiveArray, width: u8, count: usize) -> u128
 
 /// The bytes at the width of least cost, if the array may be packed.
 pub(crate) fn at_best_width(array: &PrimitiveArray, statistics: &BitStatistics) -> Option<u128>
-    requires { statistics.now ≡ bit_statistics array.now.ptype (items_of array.now.validity array.now.slots) }
-    ensures { result ≡ encoded_bytes array.now (shapes.BitPacked BestWidth) }
+    ensures { (slots : List ℤ) → length slots ≡ length array.now.slots → AreStatisticsOf statistics.now (with_slots array.now slots) → result ≡ encoded_bytes (with_slots array.now slots) (shapes.BitPacked BestWidth) }
 {
-    patches_are_counted(array);
     let width = statistics.width;
     if statistics.negative {
         return None;
@@ -75,10 +70,8 @@ fn boundaries_bytes(widths: usize, blocks: usize) -> u128
 
 /// The bytes of an array whose blocks are packed at their widths of least cost.
 fn bytes_of_blocks(array: &PrimitiveArray, statistics: &BitStatistics) -> u128
-    requires { statistics.now ≡ bit_statistics array.now.ptype (items_of array.now.validity array.now.slots) }
-    ensures { result ≡ bytes_packed BestWidths array.now }
+    ensures { (slots : List ℤ) → length slots ≡ length array.now.slots → AreStatisticsOf statistics.now (with_slots array.now slots) → result ≡ bytes_packed BestWidths (with_slots array.now slots) }
 {
-    blocked_patches_are_counted(array);
     let len = array.len();
     let size = 128 * statistics.block_widths as u128;
     let index_type = PType::min_unsigned_ptype_for_value(len as u64);
@@ -89,9 +82,9 @@ fn bytes_of_blocks(array: &PrimitiveArray, statistics: &BitStatistics) -> u128
 
 /// The bytes at a width of least cost for each block, if the array may be packed.
 pub(crate) fn at_best_widths(array: &PrimitiveArray, statistics: &BitStatistics) -> Option<u128>
-    requires { statistics.now ≡ bit_statistics array.now.ptype (items_of array.now.validity array.now.slots) }
-    ensures { result ≡ encoded_bytes array.now (shapes.BitPacked BestWidths) }
+    ensures { (slots : List ℤ) → length slots ≡ length array.now.slots → AreStatisticsOf statistics.now (with_slots array.now slots) → result ≡ encoded_bytes (with_slots array.now slots) (shapes.BitPacked BestWidths) }
 {
+    let _validity = array.validity();
     if statistics.negative {
         return None;
     }
@@ -122,8 +115,7 @@ pub(crate) fn choose_packing(
     limits: &Limits,
     depth: u8,
 ) -> Option<Choice>
-    requires { statistics.now ≡ bit_statistics array.now.ptype (items_of array.now.validity array.now.slots) }
-    ensures { chosen_in result ≡ cheapest (encoded_bytes array.now) (where_allowed (has_level limits.now.bitpacked depth) (shapes.BitPacked BestWidth ∷ shapes.BitPacked BestWidths ∷ [])) }
+    ensures { (slots : List ℤ) → length slots ≡ length array.now.slots → AreStatisticsOf statistics.now (with_slots array.now slots) → chosen_in result ≡ cheapest (encoded_bytes (with_slots array.now slots)) (where_allowed (has_level limits.now.bitpacked depth) (shapes.BitPacked BestWidth ∷ shapes.BitPacked BestWidths ∷ [])) }
 {
     if !has_level(limits.bitpacked, depth) {
         return None;

@@ -1,5 +1,5 @@
 -- Histograms of items that are counted one by one, and in parts.
-use Rattle.std.proofs.Common.{◌≡◌, ℕ, ℤ, ◌+◌, ◌-◌, ◌<◌, ◌≤◌, ◌==◌, List, [], ◌∷◌, ◌++◌, length, map, take, drop, get_or, cond, Option, Some, None, le_trans, refl, ap, sym, ◌∙◌, arith, zero-add, inl, inr}
+use Rattle.std.proofs.Common.{◌≡◌, ℕ, ℤ, ◌+◌, ◌-◌, ◌<◌, ◌≤◌, ◌==◌, List, [], ◌∷◌, ◌++◌, length, map, take, drop, get_or, cond, Option, Some, None, option_map, le_trans, refl, ap, sym, ◌∙◌, arith, zero-add, inl, inr}
 use Rattle.std.specs.Prelude.{◌⊎◌}
 use Rattle.std.proofs.lemmas.List.{drop-map, get_or-map, length-drop, length-map, length-take, take-map}
 use Rattle.std.proofs.lemmas.List.FromFn.{fill_by_all, get_or-map-range_with_len}
@@ -12,6 +12,7 @@ use Rattle.fl_types.specs.declared.validity.Validity.{Validity}
 use Rattle.fl_types.specs.declared.validity.Validity.TheVariants.{AllValid, NonNullable}
 use Rattle.fl_types.specs.Validities.{items_of}
 use Rattle.fl_patches.specs.Costs.{count_above}
+use Rattle.fl_statistics.specs.Differences.{difference}
 use Rattle.fl_patches.proofs.Counted.{few_above}
 use Rattle.fl_patches.proofs.Blocks.{take_between}
 use Rattle.fl_patches.proofs.Histograms.{between_next, entry_few, length-histogram, length_between_few}
@@ -50,6 +51,10 @@ pub few_of_part : (t : PType) (xs : List (Option ℤ)) (start end : ℕ) (entrie
 few_of_part t xs start end entries k is = le_trans (entry_few t (between start end xs) entries k is) (length_between_few xs start end)
 
 -- ---- items that are there
+-- the value of an item less a reference
+abbrev pub less : {X : Type 0} → (X → ℤ) → PType → ℤ → X → ℤ
+less value t reference x = difference t reference (value x)
+
 -- the items of values, none of which is null
 abbrev pub present : {X : Type 0} → (X → ℤ) → List X → List (Option ℤ)
 present value xs = map (λ z. Some z) (map value xs)
@@ -101,3 +106,8 @@ present_between value xs start end =
 pub above_part : (t : PType) (width : ℕ) (items : List (Option ℤ)) (end : ℕ) (entries : List ℕ) → entries ≡ histogram_of t (between 0 end items) → count_above width entries ≤ length items
 above_part t width items end entries is =
     rw is (omega (arith, few_above t width (between 0 end items), length-take (end - 0) (drop 0 items), length-drop 0 items))
+
+-- items less a reference
+pub less_present : {X : Type 0} (value : X → ℤ) (t : PType) (reference : ℤ) (xs : List X) → present (less value t reference) xs ≡ map (option_map (difference t reference)) (present value xs)
+less_present value t reference [] = refl
+less_present value t reference (x ∷ xs) = ap (λ ys. Some (difference t reference (value x)) ∷ ys) (less_present value t reference xs)

@@ -1,2 +1,4 @@
 pub mod Counts
+pub mod Signs
 pub mod WidthTotals
+pub mod Differences

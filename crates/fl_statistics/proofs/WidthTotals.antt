@@ -1,19 +1,21 @@
 -- Totals over the best widths of blocks, one block at a time.
-use Rattle.std.proofs.Common.{◌≡◌, ℕ, ℤ, ◌+◌, ◌*◌, ◌≤◌, ◌==◌, ◌&&◌, Bool, true, false, List, [], ◌∷◌, ◌++◌, length, get_or, min, sum, Option, refl, ap, sym, ◌∙◌, arith}
+use Rattle.std.proofs.Common.{◌≡◌, ℕ, ℤ, ◌+◌, ◌*◌, ◌≤◌, ◌==◌, ◌&&◌, Bool, true, false, not, nat_lt, List, [], ◌∷◌, ◌++◌, length, get_or, min, sum, Option, refl, ap, sym, ◌∙◌, arith}
 use Rattle.std.specs.List.{list_all, list_any}
 use Rattle.std.proofs.lemmas.List.{take_all}
 use Rattle.std.proofs.lemmas.List.Folds.{list_all-append}
 use Rattle.std.proofs.lemmas.List.Sums.{sum_by_push}
 use Rattle.fl_types.specs.declared.dtype.PType.{PType}
 use Rattle.fl_types.specs.Bits.{between}
-use Rattle.fl_types.specs.Integers.{bits_of_type}
+use Rattle.fl_types.specs.Integers.{bits_of_type, fits, is_unsigned}
 use Rattle.fl_column.specs.Chunks.{chunk_count}
+use Rattle.fl_column.specs.Columns.{option_all}
 use Rattle.fl_patches.specs.Costs.{best_width, best_widths, block_histogram, count_above, first_widths}
 use Rattle.fl_patches.specs.Exceptions.{exception_count, histogram_of, is_negative, width_of_block}
 use Rattle.fl_patches.proofs.Blocks.{take_to_block}
 use Rattle.fl_patches.proofs.LeastTotals.{chosen_after, exceptions_to, widths_more}
 use Rattle.fl_statistics.specs.BitStatistics.{bit_statistics}
 use Rattle.fl_statistics.proofs.Counts.{entry_at, first_part}
+use Rattle.fl_statistics.proofs.Signs.{negative_by_bits}
 
 next_widths : (t : PType) (items : List (Option ℤ)) (block w : ℕ) → w ≡ best_width t (block_histogram t items block) → first_widths t items block ++ w ∷ [] ≡ first_widths t items (block + 1)
 next_widths t items block w best = widths_more t items block w (first_widths t items block) (first_widths t items block ++ w ∷ []) best refl refl
@@ -52,15 +54,16 @@ pub to_block : {A : Type 0} (items : List A) (block start end : ℕ) → start �
 to_block items block start end starts ends begun = first_part items end ∙ (take_to_block items block end begun (omega arith) ∙ sym (first_part items (1024 * (block + 1))))
 
 -- ---- the answer
-pub statistics_are : (t : PType) (items : List (Option ℤ)) (blocks width exceptions widths block_exceptions bits : ℕ) (all : List ℕ) (native negative : Bool) → negative ≡ list_any is_negative items → blocks ≡ chunk_count (length items) → bits ≡ bits_of_type t → all ≡ histogram_of t (between 0 (1024 * blocks) items)
+pub statistics_are : (t : PType) (items : List (Option ℤ)) (blocks width exceptions widths block_exceptions bits : ℕ) (all : List ℕ) (native negative : Bool) → list_all (option_all (fits t)) items ≡ true → negative ≡ (not (is_unsigned t) && nat_lt 0 (get_or all bits 0)) → blocks ≡ chunk_count (length items) → bits ≡ bits_of_type t → all ≡ histogram_of t (between 0 (1024 * blocks) items)
     → width ≡ best_width t all → exceptions ≡ count_above width all → widths ≡ sum (first_widths t items blocks) → block_exceptions ≡ exceptions_to t items blocks → native ≡ list_all (λ w. w == bits_of_type t) (first_widths t items blocks)
     → record { negative = negative; width = width; exceptions = exceptions; block_widths = widths; block_exceptions = block_exceptions; all_native = native; widest = get_or all bits 0 } ≡ bit_statistics t items
 unfolding bit_statistics
-statistics_are t items blocks width exceptions widths block_exceptions bits all native negative below last room counted best out sums left natives =
+statistics_are t items blocks width exceptions widths block_exceptions bits all native negative fit wide last room counted best out sums left natives =
     let whole : all ≡ histogram_of t items = counted ∙ ap (histogram_of t) all_items in
     let chosen = chosen_after t items blocks (first_widths t items blocks) block_exceptions last refl left in
     let lost : block_exceptions ≡ exception_count t (width_of_block (best_widths t items)) items = ap (λ c. c.exceptions) chosen in
     let entry = ap (λ n. get_or all n 0) room ∙ (ap (λ es. get_or es (bits_of_type t) 0) whole ∙ entry_at t items (bits_of_type t) (omega arith)) in
+    let below : negative ≡ list_any is_negative items = wide ∙ (ap (λ n. not (is_unsigned t) && nat_lt 0 n) entry ∙ sym (negative_by_bits t items fit)) in
     rw (below, entry, lost, natives, sums, out, best, whole, last) refl
   where
     all_items : between 0 (1024 * blocks) items ≡ items

@@ -1,1 +1,2 @@
 pub mod BitStatistics
+pub mod Differences

@@ -5,9 +5,11 @@ ghost use Rattle.fl_types.specs.Bits.{between};
 ghost use Rattle.fl_types.specs.Integers.{bits_of_type, pattern_of};
 ghost use Rattle.fl_types.specs.Validities.{covers, items_of};
 ghost use Rattle.fl_patches.specs.Exceptions.{bit_count, histogram_of};
+ghost use Rattle.fl_statistics.specs.Differences.{difference};
 
 use fl_column::{PhysicalPType, item_at};
 use fl_types::Validity;
+use num_traits::WrappingSub;
 
 /// How many bits the pattern of a value has.
 #[tactic(auto, using(fl_patches::proofs::BitCounts::count_by_zeros, fl_patches::proofs::BitCounts::bits_of_pattern))]
@@ -25,6 +27,15 @@ fn count_item<T: PhysicalPType>(entries: &mut [usize], item: T)
     ensures { (before : List (Option ℤ)) → entries.old ≡ histogram_of T.PTYPE before → entries.new ≡ histogram_of T.PTYPE (before ++ Some (T.value item) ∷ []) }
 {
     entries[bits_of(item)] += 1;
+}
+
+/// Counts an item less a reference by its bits.
+fn count_difference<T: PhysicalPType + WrappingSub>(entries: &mut [usize], item: T, reference: T)
+    requires room { length entries.old ≡ bits_of_type T.PTYPE + 1 }
+    requires few { (k : ℕ) → slice_index entries.old k < 2 ^ 63 }
+    ensures { (before : List (Option ℤ)) → entries.old ≡ histogram_of T.PTYPE before → entries.new ≡ histogram_of T.PTYPE (before ++ Some (difference T.PTYPE (T.value reference) (T.value item)) ∷ []) }
+{
+    count_item(entries, item.wrapping_sub(&reference));
 }
 
 /// Adds to each entry the other one at its place.
@@ -50,9 +61,10 @@ pub(crate) fn clear<T: PhysicalPType>(entries: &mut [usize])
     }
 }
 
-/// Counts the quarters of items by their bits, each into entries of its own, which are 0 before.
-fn count_quarters<T: PhysicalPType>(
+/// Counts the quarters of items less a reference by their bits, each into entries of its own, which are 0 before.
+fn count_quarters<T: PhysicalPType + WrappingSub>(
     items: &[T],
+    reference: T,
     quarter: usize,
     first: &mut [usize],
     second: &mut [usize],
@@ -65,26 +77,31 @@ fn count_quarters<T: PhysicalPType>(
     requires second { second.old ≡ histogram_of T.PTYPE [] }
     requires third { third.old ≡ histogram_of T.PTYPE [] }
     requires fourth { fourth.old ≡ histogram_of T.PTYPE [] }
-    ensures first { first.new ≡ histogram_of T.PTYPE (between 0 quarter (map (λ z. Some z) (map T.value items.now))) }
-    ensures second { second.new ≡ histogram_of T.PTYPE (between quarter (2 * quarter) (map (λ z. Some z) (map T.value items.now))) }
-    ensures third { third.new ≡ histogram_of T.PTYPE (between (2 * quarter) (3 * quarter) (map (λ z. Some z) (map T.value items.now))) }
-    ensures fourth { fourth.new ≡ histogram_of T.PTYPE (between (3 * quarter) (4 * quarter) (map (λ z. Some z) (map T.value items.now))) }
+    ensures first { first.new ≡ histogram_of T.PTYPE (between 0 quarter (map (λ z. Some z) (map (λ x. difference T.PTYPE (T.value reference) (T.value x)) items.now))) }
+    ensures second { second.new ≡ histogram_of T.PTYPE (between quarter (2 * quarter) (map (λ z. Some z) (map (λ x. difference T.PTYPE (T.value reference) (T.value x)) items.now))) }
+    ensures third { third.new ≡ histogram_of T.PTYPE (between (2 * quarter) (3 * quarter) (map (λ z. Some z) (map (λ x. difference T.PTYPE (T.value reference) (T.value x)) items.now))) }
+    ensures fourth { fourth.new ≡ histogram_of T.PTYPE (between (3 * quarter) (4 * quarter) (map (λ z. Some z) (map (λ x. difference T.PTYPE (T.value reference) (T.value x)) items.now))) }
 {
     for i in 0..quarter {
-        count_item(first, items[i]);
-        count_item(second, items[quarter + i]);
-        count_item(third, items[2 * quarter + i]);
-        count_item(fourth, items[3 * quarter + i]);
+        count_difference(first, items[i], reference);
+        count_difference(second, items[quarter + i], reference);
+        count_difference(third, items[2 * quarter + i], reference);
+        count_difference(fourth, items[3 * quarter + i], reference);
     }
 }
 
-/// Counts items by their bits, four at a time: items that follow one another often have as many bits, so
+/// Counts items less a reference by their bits, four at a time: items that follow one another often have as many bits, so
 /// each quarter has entries of its own, and no count waits for the one before it.
-fn count_side_by_side<T: PhysicalPType>(items: &[T], quarter: usize, entries: &mut [usize])
+fn count_side_by_side<T: PhysicalPType + WrappingSub>(
+    items: &[T],
+    reference: T,
+    quarter: usize,
+    entries: &mut [usize],
+)
     requires quarter { quarter ≡ length items.now / 4 }
     requires few { length items.now ≤ 1024 }
     requires room { length entries.old ≡ bits_of_type T.PTYPE + 1 }
-    ensures { entries.new ≡ histogram_of T.PTYPE (between 0 (4 * quarter) (map (λ z. Some z) (map T.value items.now))) }
+    ensures { entries.new ≡ histogram_of T.PTYPE (between 0 (4 * quarter) (map (λ z. Some z) (map (λ x. difference T.PTYPE (T.value reference) (T.value x)) items.now))) }
 {
     // No type here has more than 64 bits.
     let mut second = [0; 65];
@@ -97,43 +114,44 @@ fn count_side_by_side<T: PhysicalPType>(items: &[T], quarter: usize, entries: &m
     clear::<T>(second);
     clear::<T>(third);
     clear::<T>(fourth);
-    count_quarters(items, quarter, entries, second, third, fourth);
+    count_quarters(items, reference, quarter, entries, second, third, fourth);
     add_entries(entries, second);
     add_entries(entries, third);
     add_entries(entries, fourth);
 }
 
-/// Counts items by their bits, where none is null.
-fn count_present<T: PhysicalPType>(items: &[T], entries: &mut [usize])
+/// Counts items less a reference by their bits, where none is null.
+fn count_present<T: PhysicalPType + WrappingSub>(items: &[T], reference: T, entries: &mut [usize])
     requires few { length items.now ≤ 1024 }
     requires room { length entries.old ≡ bits_of_type T.PTYPE + 1 }
-    ensures { entries.new ≡ histogram_of T.PTYPE (map (λ z. Some z) (map T.value items.now)) }
+    ensures { entries.new ≡ histogram_of T.PTYPE (map (λ z. Some z) (map (λ x. difference T.PTYPE (T.value reference) (T.value x)) items.now)) }
 {
     let quarter = items.len() / 4;
-    count_side_by_side(items, quarter, entries);
+    count_side_by_side(items, reference, quarter, entries);
     for i in 4 * quarter..items.len() {
-        count_item(entries, items[i]);
+        count_difference(entries, items[i], reference);
     }
 }
 
-/// Counts an item by its bits, of which a null has none.
-fn count_slot<T: PhysicalPType>(entries: &mut [usize], item: Option<T>)
+/// Counts an item less a reference by its bits, of which a null has none.
+fn count_slot<T: PhysicalPType + WrappingSub>(entries: &mut [usize], item: Option<T>, reference: T)
     requires room { length entries.old ≡ bits_of_type T.PTYPE + 1 }
     requires few { (k : ℕ) → slice_index entries.old k < 2 ^ 63 }
-    ensures { (before : List (Option ℤ)) → entries.old ≡ histogram_of T.PTYPE before → entries.new ≡ histogram_of T.PTYPE (before ++ option_map T.value item ∷ []) }
+    ensures { (before : List (Option ℤ)) → entries.old ≡ histogram_of T.PTYPE before → entries.new ≡ histogram_of T.PTYPE (before ++ option_map (difference T.PTYPE (T.value reference)) (option_map T.value item) ∷ []) }
 {
     match item {
-        Some(item) => count_item(entries, item),
+        Some(item) => count_difference(entries, item, reference),
         None => entries[0] += 1,
     }
 }
 
-/// Counts the items from `start` to below `end` by their bits, each of which may be null.
-fn count_valid<T: PhysicalPType>(
+/// Counts the items from `start` to below `end` less a reference by their bits, each of which may be null.
+fn count_valid<T: PhysicalPType + WrappingSub>(
     items: &[T],
     validity: &Validity,
     start: usize,
     end: usize,
+    reference: T,
     entries: &mut [usize],
 )
     requires covers { IsTrue (covers validity.now (length items.now)) }
@@ -141,21 +159,22 @@ fn count_valid<T: PhysicalPType>(
     requires range { end ≤ length items.now }
     requires few { end ≤ start + 1024 }
     requires room { length entries.old ≡ bits_of_type T.PTYPE + 1 }
-    ensures { entries.new ≡ histogram_of T.PTYPE (between start end (items_of validity.now (map T.value items.now))) }
+    ensures { entries.new ≡ histogram_of T.PTYPE (map (option_map (difference T.PTYPE (T.value reference))) (between start end (items_of validity.now (map T.value items.now)))) }
 {
     clear::<T>(entries);
     for i in start..end {
-        count_slot(entries, item_at(items, validity, i));
+        count_slot(entries, item_at(items, validity, i), reference);
     }
 }
 
-/// Counts the items from `start` to below `end`, at most a block, by their bits: entry `b` is how many have
-/// `b` bits. A null has none.
-pub(crate) fn count_items<T: PhysicalPType>(
+/// Counts the items from `start` to below `end`, at most a block, less a reference by their bits: entry `b` is
+/// how many have `b` bits. A null has none.
+pub(crate) fn count_items<T: PhysicalPType + WrappingSub>(
     items: &[T],
     validity: &Validity,
     start: usize,
     end: usize,
+    reference: T,
     entries: &mut [usize],
 )
     requires covers { IsTrue (covers validity.now (length items.now)) }
@@ -163,10 +182,12 @@ pub(crate) fn count_items<T: PhysicalPType>(
     requires range { end ≤ length items.now }
     requires few { end ≤ start + 1024 }
     requires room { length entries.old ≡ bits_of_type T.PTYPE + 1 }
-    ensures { entries.new ≡ histogram_of T.PTYPE (between start end (items_of validity.now (map T.value items.now))) }
+    ensures { entries.new ≡ histogram_of T.PTYPE (map (option_map (difference T.PTYPE (T.value reference))) (between start end (items_of validity.now (map T.value items.now)))) }
 {
     match validity {
-        Validity::NonNullable | Validity::AllValid => count_present(&items[start..end], entries),
-        _ => count_valid(items, validity, start, end, entries),
+        Validity::NonNullable | Validity::AllValid => {
+            count_present(&items[start..end], reference, entries)
+        }
+        _ => count_valid(items, validity, start, end, reference, entries),
     }
 }

@@ -1,7 +1,9 @@
 //! Statistics of arrays: what the bits of their items say of packing them, without packing anything.
 #![tactic(auto)]
 
+pub mod constants;
 mod counting;
 pub mod widths;
 
-pub use crate::widths::{BitStatistics, bit_statistics};
+pub use crate::constants::is_constant_less;
+pub use crate::widths::{BitStatistics, bit_statistics, bit_statistics_less};

@@ -18,6 +18,7 @@ use fl_bitpacking::bitpack_compress::word_packing::bitpack_primitive;
 use fl_bitpacking::bitpack_compress::{bitpack_into, bitpack_unchecked};
 use fl_codec::delta::delta_compress;
 use fl_column::{PhysicalPType, PrimitiveArray};
+use fl_compress::compress;
 use fl_types::{FastLanesError, PType, match_each_integer_ptype};
 use row_reader::asked::Asked;
 use row_reader::columns::{Made, width_of};
@@ -115,6 +116,7 @@ enum Call {
     EncodeBests,
     EncodeArray,
     EncodeData,
+    Compress,
 }
 
 const CALLS: &[(&str, Call)] = &[
@@ -136,6 +138,7 @@ const CALLS: &[(&str, Call)] = &[
     ("encode_bests", Call::EncodeBests),
     ("encode_array", Call::EncodeArray),
     ("encode_data", Call::EncodeData),
+    ("compress", Call::Compress),
 ];
 
 pub(crate) fn make(asked: Asked, inputs: &Inputs, answer: &mut Text) -> bool {
@@ -163,6 +166,7 @@ pub(crate) fn make(asked: Asked, inputs: &Inputs, answer: &mut Text) -> bool {
         Call::EncodeBests => encoded(answer, bitpack_blocked_to_best_bit_widths(alloc, column)),
         Call::EncodeArray => encoded(answer, BitPacked::encode(alloc, array, width)),
         Call::EncodeData => encoded(answer, BitPackedData::encode(alloc, array, width)),
+        Call::Compress => came_array(answer, compress(alloc, column)),
     }
     true
 }

@@ -1,6 +1,7 @@
+use Rattle.std.proofs.Common.{refl, sym, ◌∙◌}
 use Rattle.fl_encode.specs.Shapes.{shape}
 use Rattle.fl_compress.specs.Choices.{chosen, chosen_in}
-use Rattle.fl_compress.proofs.AnswerLaws.{free_choice, packed_choice}
+use Rattle.fl_compress.proofs.AnswerLaws.{free_choice, packed_choice, unpacked_choice}
 use Rattle.fl_compress.proofs.search.choose_packed.Goals as goal
 
 pub returns-then-best-eq0-clause-choice : goal.returns-then-best-eq0-clause-choice
@@ -8,4 +9,7 @@ returns-then-best-eq0-clause-choice c = free_choice c.args.limits.now c.args.dep
 
 pub returns-clause-choice : goal.returns-clause-choice
 returns-clause-choice c =
-    packed_choice c.args.limits.now c.args.depth c.args.array.now (chosen c.choose_whole-best.result) (chosen_in c.choose_packing.result) (chosen c.cheaper.result) c.choose_whole-best.ensures.choice c.choose_packing.ensures c.cheaper.ensures.choice
+    packed_choice c.args.limits.now c.args.depth c.args.array.now (chosen c.choose_whole-best.result) (chosen_in c.choose_packing.result) (chosen c.cheaper.result) c.choose_whole-best.ensures.choice (c.choose_packing.ensures c.args.array.now.slots refl c.bit_statistics-statistics.ensures) c.cheaper.ensures.choice
+
+pub returns-then-not-has_level-clause-choice : goal.returns-then-not-has_level-clause-choice
+returns-then-not-has_level-clause-choice c = unpacked_choice c.args.limits.now c.args.depth c.args.array.now (chosen c.choose_whole-best.result) (sym c.has_level.ensures ∙ c.if-not-has_level.true) c.choose_whole-best.ensures.choice

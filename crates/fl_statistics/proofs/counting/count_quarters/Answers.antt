@@ -1,31 +1,31 @@
 use Rattle.std.proofs.Common.{◌≡◌, ◌+◌, ◌*◌, arith}
-use Rattle.fl_statistics.proofs.Counts.{few_of_part, next_from, present}
+use Rattle.fl_statistics.proofs.Counts.{few_of_part, less, next_from, present}
 use Rattle.fl_statistics.proofs.counting.count_quarters.Goals as goal
 
-pub count_item-requires-clause-few : goal.count_item-requires-clause-few
-count_item-requires-clause-few g c = λ k. let few = few_of_part g.T.NativePType.PTYPE (present g.T.Number.value c.args.items.now) 0 (0 + c.loop-i.i) c.loop-i.first k c.loop-i.invariant.first in omega arith
+pub count_difference-requires-clause-few : goal.count_difference-requires-clause-few
+count_difference-requires-clause-few g c = λ k. let few = few_of_part g.T.NativePType.PTYPE (present (less g.T.Number.value g.T.NativePType.PTYPE (g.T.Number.value c.args.reference)) c.args.items.now) 0 (0 + c.loop-i.i) c.loop-i.first k c.loop-i.invariant.first in omega arith
 
-pub count_item-requires-in-loop-i-clause-few : goal.count_item-requires-in-loop-i-clause-few
-count_item-requires-in-loop-i-clause-few g c = λ k. let few = few_of_part g.T.NativePType.PTYPE (present g.T.Number.value c.args.items.now) c.args.quarter (c.args.quarter + c.loop-i.i) c.loop-i.second k c.loop-i.invariant.second in omega arith
+pub count_difference-requires-in-loop-i-clause-few : goal.count_difference-requires-in-loop-i-clause-few
+count_difference-requires-in-loop-i-clause-few g c = λ k. let few = few_of_part g.T.NativePType.PTYPE (present (less g.T.Number.value g.T.NativePType.PTYPE (g.T.Number.value c.args.reference)) c.args.items.now) c.args.quarter (c.args.quarter + c.loop-i.i) c.loop-i.second k c.loop-i.invariant.second in omega arith
 
-pub count_item-requires-in-loop-i-2-clause-few : goal.count_item-requires-in-loop-i-2-clause-few
-count_item-requires-in-loop-i-2-clause-few g c = λ k. let few = few_of_part g.T.NativePType.PTYPE (present g.T.Number.value c.args.items.now) (2 * c.args.quarter) (2 * c.args.quarter + c.loop-i.i) c.loop-i.third k c.loop-i.invariant.third in omega arith
+pub count_difference-requires-in-loop-i-2-clause-few : goal.count_difference-requires-in-loop-i-2-clause-few
+count_difference-requires-in-loop-i-2-clause-few g c = λ k. let few = few_of_part g.T.NativePType.PTYPE (present (less g.T.Number.value g.T.NativePType.PTYPE (g.T.Number.value c.args.reference)) c.args.items.now) (2 * c.args.quarter) (2 * c.args.quarter + c.loop-i.i) c.loop-i.third k c.loop-i.invariant.third in omega arith
 
-pub count_item-requires-in-loop-i-3-clause-few : goal.count_item-requires-in-loop-i-3-clause-few
-count_item-requires-in-loop-i-3-clause-few g c = λ k. let few = few_of_part g.T.NativePType.PTYPE (present g.T.Number.value c.args.items.now) (3 * c.args.quarter) (3 * c.args.quarter + c.loop-i.i) c.loop-i.fourth k c.loop-i.invariant.fourth in omega arith
+pub count_difference-requires-in-loop-i-3-clause-few : goal.count_difference-requires-in-loop-i-3-clause-few
+count_difference-requires-in-loop-i-3-clause-few g c = λ k. let few = few_of_part g.T.NativePType.PTYPE (present (less g.T.Number.value g.T.NativePType.PTYPE (g.T.Number.value c.args.reference)) c.args.items.now) (3 * c.args.quarter) (3 * c.args.quarter + c.loop-i.i) c.loop-i.fourth k c.loop-i.invariant.fourth in omega arith
 
 pub loop-i-preserved : goal.loop-i-preserved
 loop-i-preserved g c =
     let t = g.T.NativePType.PTYPE in
-    let value = g.T.Number.value in
+    let value = less g.T.Number.value t (g.T.Number.value c.args.reference) in
     let xs = c.args.items.now in
     let q = c.args.quarter in
     let i = c.loop-i.i in
     record {
-      first = next_from t value xs 0 i c.index-items-i.result c.loop-i.first c.count_item.new.entries (omega arith) (rw (let here : 0 + i ≡ i = omega arith in here) c.index-items-i.is) c.loop-i.invariant.first c.count_item.ensures;
-      second = next_from t value xs q i c.index-items-quarter.result c.loop-i.second c.count_item-in-loop-i.new.entries (omega arith) c.index-items-quarter.is c.loop-i.invariant.second c.count_item-in-loop-i.ensures;
-      third = next_from t value xs (2 * q) i c.index-items-quarter-in-loop-i.result c.loop-i.third c.count_item-in-loop-i-2.new.entries (omega arith) c.index-items-quarter-in-loop-i.is c.loop-i.invariant.third c.count_item-in-loop-i-2.ensures;
-      fourth = next_from t value xs (3 * q) i c.index-items-quarter-in-loop-i-2.result c.loop-i.fourth c.count_item-in-loop-i-3.new.entries (omega arith) c.index-items-quarter-in-loop-i-2.is c.loop-i.invariant.fourth c.count_item-in-loop-i-3.ensures;
+      first = next_from t value xs 0 i c.index-items-i.result c.loop-i.first c.count_difference.new.entries (omega arith) (rw (let here : 0 + i ≡ i = omega arith in here) c.index-items-i.is) c.loop-i.invariant.first c.count_difference.ensures;
+      second = next_from t value xs q i c.index-items-quarter.result c.loop-i.second c.count_difference-in-loop-i.new.entries (omega arith) c.index-items-quarter.is c.loop-i.invariant.second c.count_difference-in-loop-i.ensures;
+      third = next_from t value xs (2 * q) i c.index-items-quarter-in-loop-i.result c.loop-i.third c.count_difference-in-loop-i-2.new.entries (omega arith) c.index-items-quarter-in-loop-i.is c.loop-i.invariant.third c.count_difference-in-loop-i-2.ensures;
+      fourth = next_from t value xs (3 * q) i c.index-items-quarter-in-loop-i-2.result c.loop-i.fourth c.count_difference-in-loop-i-3.new.entries (omega arith) c.index-items-quarter-in-loop-i-2.is c.loop-i.invariant.fourth c.count_difference-in-loop-i-3.ensures;
     }
 
 pub returns-clause-first : goal.returns-clause-first

@@ -6,14 +6,16 @@ use Rattle.fl_patches.proofs.BitCounts.{type_most}
 use Rattle.fl_patches.proofs.Gathers.{covered_values}
 use Rattle.fl_patches.proofs.LeastTotals.{above_few, exceptions_few, exceptions_more, exceptions_none, length-block_histogram}
 use Rattle.fl_statistics.proofs.WidthTotals.{native_else, native_none, native_then, statistics_are, sum_more, sum_none}
+use Rattle.fl_statistics.specs.Differences.{less_references}
 use Rattle.fl_statistics.proofs.Counts.{above_part}
+use Rattle.fl_statistics.proofs.Differences.{length-less, less_fits}
 use Rattle.fl_statistics.proofs.widths.statistics_of.Goals as goal
 use Rattle.fl_statistics.proofs.widths.statistics_of.Goals.{then-all_native, else-all_native}
 
 pub loop-block-init : goal.loop-block-init
 loop-block-init g c =
     let t = g.T.NativePType.PTYPE in
-    let items = items_of c.args.validity.now (map g.T.Number.value c.args.items.now) in
+    let items = less_references g.T.NativePType.PTYPE (g.T.Number.value c.args.one) (map g.T.Number.value c.args.references.now) (items_of c.args.validity.now (map g.T.Number.value c.args.items.now)) in
     record {
       counted = c.clear.ensures;
       room = omega (arith, type_most t, length-take {A = ℕ}, c.type_bits-bits.ensures);
@@ -25,14 +27,14 @@ loop-block-init g c =
 
 pub best_of-width-requires-clause-few : goal.best_of-width-requires-clause-few
 best_of-width-requires-clause-few g c = λ width.
-    let few : count_above width c.count_block.new.entries ≤ 1024 = above_few g.T.NativePType.PTYPE width (items_of c.args.validity.now (map g.T.Number.value c.args.items.now)) c.loop-block.block c.count_block.new.entries c.count_block.ensures.block in
+    let few : count_above width c.count_block.new.entries ≤ 1024 = above_few g.T.NativePType.PTYPE width (less_references g.T.NativePType.PTYPE (g.T.Number.value c.args.one) (map g.T.Number.value c.args.references.now) (items_of c.args.validity.now (map g.T.Number.value c.args.items.now))) c.loop-block.block c.count_block.new.entries c.count_block.ensures.block in
     omega arith
 
 pub overflow_add-block_exceptions : goal.overflow_add-block_exceptions
 overflow_add-block_exceptions g c =
     let t = g.T.NativePType.PTYPE in
-    let items = items_of c.args.validity.now (map g.T.Number.value c.args.items.now) in
-    let count : length items ≡ length c.args.items.now = covered_values g.T.Number.value c.args.validity.now c.args.items.now c.requires in
+    let items = less_references g.T.NativePType.PTYPE (g.T.Number.value c.args.one) (map g.T.Number.value c.args.references.now) (items_of c.args.validity.now (map g.T.Number.value c.args.items.now)) in
+    let count : length items ≡ length c.args.items.now = length-less g.T.NativePType.PTYPE (g.T.Number.value c.args.one) (map g.T.Number.value c.args.references.now) (items_of c.args.validity.now (map g.T.Number.value c.args.items.now)) ∙ covered_values g.T.Number.value c.args.validity.now c.args.items.now c.requires in
     let entries = c.count_block.new.entries in
     let next = exceptions_more t items c.loop-block.block c.best_of-width.result.0 c.loop-block.block_exceptions c.best_of-width.result.1 (omega arith) (rw c.count_block.ensures.block at c.best_of-width.ensures.width) (rw c.count_block.ensures.block at c.best_of-width.ensures.exceptions) c.loop-block.invariant.exceptions in
     let few = exceptions_few t items (c.loop-block.block + 1) in
@@ -41,9 +43,9 @@ overflow_add-block_exceptions g c =
 pub loop-block-preserved : goal.loop-block-preserved
 loop-block-preserved g c =
     let t = g.T.NativePType.PTYPE in
-    let items = items_of c.args.validity.now (map g.T.Number.value c.args.items.now) in
+    let items = less_references g.T.NativePType.PTYPE (g.T.Number.value c.args.one) (map g.T.Number.value c.args.references.now) (items_of c.args.validity.now (map g.T.Number.value c.args.items.now)) in
     let block = c.loop-block.block in
-    let count : length items ≡ length c.args.items.now = covered_values g.T.Number.value c.args.validity.now c.args.items.now c.requires in
+    let count : length items ≡ length c.args.items.now = length-less g.T.NativePType.PTYPE (g.T.Number.value c.args.one) (map g.T.Number.value c.args.references.now) (items_of c.args.validity.now (map g.T.Number.value c.args.items.now)) ∙ covered_values g.T.Number.value c.args.validity.now c.args.items.now c.requires in
     let best = rw c.count_block.ensures.block at c.best_of-width.ensures.width in
     let out = rw c.count_block.ensures.block at c.best_of-width.ensures.exceptions in
     record {
@@ -60,14 +62,14 @@ loop-block-preserved g c =
 
 pub best_of-width-requires-2-clause-few : goal.best_of-width-requires-2-clause-few
 best_of-width-requires-2-clause-few g c = λ width.
-    let few = above_part g.T.NativePType.PTYPE width (items_of c.args.validity.now (map g.T.Number.value c.args.items.now)) (1024 * c.loop-block.block) c.loop-block.all c.loop-block.invariant.counted in
-    let count : length (items_of c.args.validity.now (map g.T.Number.value c.args.items.now)) ≡ length c.args.items.now = covered_values g.T.Number.value c.args.validity.now c.args.items.now c.requires in
+    let few = above_part g.T.NativePType.PTYPE width (less_references g.T.NativePType.PTYPE (g.T.Number.value c.args.one) (map g.T.Number.value c.args.references.now) (items_of c.args.validity.now (map g.T.Number.value c.args.items.now))) (1024 * c.loop-block.block) c.loop-block.all c.loop-block.invariant.counted in
+    let count : length (less_references g.T.NativePType.PTYPE (g.T.Number.value c.args.one) (map g.T.Number.value c.args.references.now) (items_of c.args.validity.now (map g.T.Number.value c.args.items.now))) ≡ length c.args.items.now = length-less g.T.NativePType.PTYPE (g.T.Number.value c.args.one) (map g.T.Number.value c.args.references.now) (items_of c.args.validity.now (map g.T.Number.value c.args.items.now)) ∙ covered_values g.T.Number.value c.args.validity.now c.args.items.now c.requires in
     omega arith
 
 pub returns : goal.returns
 returns g c =
     let t = g.T.NativePType.PTYPE in
-    let items = items_of c.args.validity.now (map g.T.Number.value c.args.items.now) in
-    let count : length items ≡ length c.args.items.now = covered_values g.T.Number.value c.args.validity.now c.args.items.now c.requires in
-    statistics_are t items c.loop-block.block c.best_of-width-2.result.0 c.best_of-width-2.result.1 c.loop-block.block_widths c.loop-block.block_exceptions c.type_bits-bits.result c.loop-block.all c.loop-block.all_native c.has_negative-negative.result c.has_negative-negative.ensures (omega arith) c.type_bits-bits.ensures c.loop-block.invariant.counted
+    let items = less_references g.T.NativePType.PTYPE (g.T.Number.value c.args.one) (map g.T.Number.value c.args.references.now) (items_of c.args.validity.now (map g.T.Number.value c.args.items.now)) in
+    let count : length items ≡ length c.args.items.now = length-less g.T.NativePType.PTYPE (g.T.Number.value c.args.one) (map g.T.Number.value c.args.references.now) (items_of c.args.validity.now (map g.T.Number.value c.args.items.now)) ∙ covered_values g.T.Number.value c.args.validity.now c.args.items.now c.requires in
+    statistics_are t items c.loop-block.block c.best_of-width-2.result.0 c.best_of-width-2.result.1 c.loop-block.block_widths c.loop-block.block_exceptions c.type_bits-bits.result c.loop-block.all c.loop-block.all_native c.has_negative.result (less_fits t (g.T.Number.value c.args.one) (map g.T.Number.value c.args.references.now) (items_of c.args.validity.now (map g.T.Number.value c.args.items.now))) c.has_negative.ensures (omega arith) c.type_bits-bits.ensures c.loop-block.invariant.counted
     c.best_of-width-2.ensures.width c.best_of-width-2.ensures.exceptions c.loop-block.invariant.widths c.loop-block.invariant.exceptions c.loop-block.invariant.native
