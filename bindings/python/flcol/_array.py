@@ -7,8 +7,8 @@ from ctypes import byref, c_size_t, c_uint8, c_uint64, create_string_buffer
 from typing import Any, Iterable, Iterator, Optional
 
 from ._bools import BoolArray
-from ._buffers import address, bytes_of_bits, flags_of, is_buffer, new_values, numpy, one_dimension, pack_bits, type_of
-from ._buffers import unpack_bits, values_of
+from ._buffers import address, bytes_of_bits, flags_of, is_buffer, new_bytes, new_values, numpy, one_dimension, pack_bits
+from ._buffers import type_of, unpack_bits, values_of
 from ._library import NULLABLE, TYPES, Error, Handle, Range, bounds, call, dtype_of, free, number_of, value_type
 
 _DECODED = 1 << 16  # how many items an iterator decodes at a time
@@ -127,10 +127,10 @@ class Array:
         view = memoryview(buffer)
         if view.ndim != 1 or not view.c_contiguous or type_of(view) != self._item_type():
             raise TypeError(f"a buffer of {self._item_type()} one behind the other is needed")
-        validity = bytearray(bytes_of_bits(self._len)) if self.nullable else None
-        with address(view, writable=True) as at, address(validity, writable=True) as bits:
+        validity = new_bytes(bytes_of_bits(self._len)) if self.nullable else None
+        with address(view, writable=True) as at, address(validity) as bits:
             self._call(f"read_{self._item_type()}", at, len(view), bits, len(validity or b""))
-        return None if validity is None else bytes(validity)
+        return validity
 
     # Choosing items
 
@@ -189,10 +189,10 @@ class Array:
 
     def __bytes__(self) -> bytes:
         """The array as a container, which can be kept in a file."""
-        container = bytearray(self._ask("serialized_len", c_size_t))
-        with address(container, writable=True) as at:
+        container = new_bytes(self._ask("serialized_len", c_size_t))
+        with address(container) as at:
             self._call("serialize", at, len(container))
-        return bytes(container)
+        return container
 
     def __reduce__(self) -> tuple[Any, tuple[bytes]]:
         return frombytes, (bytes(self),)
@@ -262,11 +262,11 @@ class Array:
 
     def _answers(self, name: str, *arguments: Any) -> BoolArray:
         """The bits that a call answers."""
-        bits = bytearray(bytes_of_bits(self._len))
-        validity = bytearray(len(bits)) if self.nullable else None
-        with address(bits, writable=True) as at, address(validity, writable=True) as valid:
+        bits = new_bytes(bytes_of_bits(self._len))
+        validity = new_bytes(len(bits)) if self.nullable else None
+        with address(bits) as at, address(validity) as valid:
             self._call(f"{name}_{self._item_type()}", *arguments, at, len(bits), valid, len(validity or b""))
-        return BoolArray(bytes(bits), None if validity is None else bytes(validity), self._len)
+        return BoolArray(bits, validity, self._len)
 
     def _item(self, index: int) -> Optional[int]:
         at = index + self._len if index < 0 else index

@@ -1,6 +1,7 @@
 """A bit for each item."""
 from __future__ import annotations
 
+import sys
 from typing import Any, Iterator, Optional
 
 from ._buffers import both, bytes_of_bits, numpy, unpack_bits
@@ -107,4 +108,5 @@ def _bit(bits: bytes, at: int) -> bool:
 
 
 def _ones(bits: bytes) -> int:
-    return bin(int.from_bytes(bits, "little")).count("1")
+    number = int.from_bytes(bits, "little")
+    return number.bit_count() if sys.version_info >= (3, 10) else bin(number).count("1")

@@ -40,6 +40,8 @@ _get.argtypes = [ctypes.py_object, ctypes.POINTER(_Buffer), ctypes.c_int]
 _release = ctypes.pythonapi.PyBuffer_Release
 _release.argtypes, _release.restype = [ctypes.POINTER(_Buffer)], None
 _WRITABLE = 1
+_new = ctypes.pythonapi.PyBytes_FromStringAndSize
+_new.argtypes, _new.restype = [ctypes.c_void_p, ctypes.c_ssize_t], ctypes.py_object
 
 
 @contextmanager
@@ -54,6 +56,12 @@ def address(buffer: Any, writable: bool = False) -> Iterator[Optional[int]]:
         yield view.buf
     finally:
         _release(ctypes.byref(view))
+
+
+def new_bytes(size: int) -> bytes:
+    """New bytes, for a call that writes each of them before anything else sees one."""
+    made: bytes = _new(None, size)
+    return made
 
 
 def code_of(name: str) -> str:

@@ -13,6 +13,8 @@ _VALUES = {name: getattr(ctypes, f"c_{'u' if name[0] == 'u' else ''}int{name[1:]
 BOOL, NULLABLE = 8, 16
 
 _NAME = "libflcol.so.0"
+#: What Linux calls the abilities that a processor of x86-64-v3 has beyond x86-64-v2.
+_NEWER = frozenset(("avx2", "bmi1", "bmi2", "fma", "f16c", "movbe", "abm"))
 _VERSION = 1
 
 _REFUSALS = {
@@ -90,10 +92,32 @@ def _typed_calls(value: Any) -> dict[str, list[Any]]:
     }
 
 
+def _abilities() -> frozenset[str]:
+    """What the processor can do, by the names of Linux."""
+    try:
+        with open("/proc/cpuinfo", encoding="ascii", errors="replace") as lines:
+            flags = next((line for line in lines if line.startswith("flags")), "")
+    except OSError:
+        flags = ""
+    return frozenset(flags.split())
+
+
+def _path() -> str:
+    """The library's file: the one that FLCOL_LIBRARY names, else one inside the package, as a wheel has it, else the loader's."""
+    named = os.environ.get("FLCOL_LIBRARY")
+    if named:
+        return named
+    inside = os.path.join(os.path.dirname(__file__), "lib")
+    newer, portable = os.path.join(inside, "glibc-hwcaps", "x86-64-v3", _NAME), os.path.join(inside, _NAME)
+    if os.path.exists(newer) and _NEWER <= _abilities():
+        return newer
+    return portable if os.path.exists(portable) else _NAME
+
+
 def _load() -> ctypes.PyDLL:
     # A PyDLL keeps Python's lock during a call, so that no two calls run at the same time.
     try:
-        library = ctypes.PyDLL(os.environ.get("FLCOL_LIBRARY") or _NAME)
+        library = ctypes.PyDLL(_path())
     except OSError as fault:
         raise ImportError(f"{fault}; ./library of flcol makes it, and FLCOL_LIBRARY may name its file") from None
     version = library.flcol_abi_version()
