@@ -1,7 +1,0 @@
-use Rattle.std.proofs.Common.{ℕ, ◌-◌, ◌/◌, ◌^◌, replicate, ◌∙◌, ap, refl}
-use Rattle.fastlanes.proofs.Shifts.{mask_is}
-use Rattle.fastlanes.proofs.Sixteen.{zipped_splat, splatted}
-use Rattle.fastlanes.proofs.words.U8FastLanes.low_mask.Goals as goal
-
-pub returns : goal.returns
-returns c = record { lanes = λ j h. zipped_splat (λ x s. x / 2 ^ s) (replicate 16 (2 ^ 8 - 1)) (8 - c.args.width) j h refl ∙ (ap (λ (n : ℕ). n / 2 ^ (8 - c.args.width)) (splatted (2 ^ 8 - 1) j h) ∙ mask_is 8 c.args.width c.requires.width) }
