@@ -6,10 +6,10 @@ use Rattle.std.proofs.lemmas.List.{length-map}
 use Rattle.fl_types.specs.Bits.{between}
 use Rattle.fl_column.specs.Columns.{Column, integers_in, numbers_of}
 use Rattle.fl_column.specs.Operations.{slice_of}
-use Rattle.fl_column.specs.Questions.{each_next}
+use Rattle.fl_column.specs.Queries.{each_next}
 use Rattle.fl_column.proofs.ListLaws.{and_first, and_second}
 use Rattle.fl_column.proofs.ItemLaws.{length-between}
-use Rattle.fl_column.proofs.QuestionLaws.{next_holds}
+use Rattle.fl_column.proofs.QueryLaws.{next_holds}
 use Rattle.fl_patches.proofs.Slices.{get_or-between, map-between}
 use Rattle.fl_bitpacking.specs.Blocks.{are_blocks, boundary_blocks, is_block}
 use Rattle.fl_bitpacking.proofs.PackedSlices.{AreLaterBlocks}

@@ -25,7 +25,7 @@ use Rattle.fl_types.specs.Values.{bool_number}
 use Rattle.fl_types.proofs.BitLists.{same_tables}
 use Rattle.fl_codec.specs.FoRColumns.{plus_reference}
 use Rattle.fl_column.specs.Columns.{BoolParts, Column, PrimitiveParts, column_of_bools, new_bools}
-use Rattle.fl_column.specs.Questions.{tested}
+use Rattle.fl_column.specs.Queries.{tested}
 use Rattle.fl_column.proofs.ItemLaws.{get_or-items_of, length-items_of}
 use Rattle.fl_patches.specs.PatchMaps.{is_rising, patched_in, rank_of}
 use Rattle.fl_patches.proofs.Rising.{rank_at, rank_found}

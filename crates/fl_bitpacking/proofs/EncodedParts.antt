@@ -17,7 +17,7 @@ use Rattle.fl_types.specs.Validities.{covers, items_of, nullability_of}
 use Rattle.fl_column.specs.Columns.{PrimitiveParts, column_of_primitive}
 use Rattle.fl_column.specs.Numbers.{numbers}
 use Rattle.fl_column.proofs.ItemLaws.{length-items_of}
-use Rattle.fl_column.proofs.QuestionLaws.{next_holds}
+use Rattle.fl_column.proofs.QueryLaws.{next_holds}
 use Rattle.fl_patches.specs.PatchMaps.{PatchesParts, places_from, values_in}
 use Rattle.fl_column.specs.Chunks.{chunk_count}
 use Rattle.fl_column.proofs.NumberLaws.{smallest_unsigned}

@@ -4,7 +4,7 @@ use Rattle.std.specs.Prelude.{unsigned_abs, unwrap_or, not, if◌then◌else◌}
 use Rattle.std.proofs.lemmas.Bool.{ne_eqb}
 use Rattle.fl_types.specs.declared.error.FastLanesError.TheVariants.{BlockSpan}
 use Rattle.fl_column.specs.Columns.{ConstantParts, column_of_constant, numbers_of}
-use Rattle.fl_column.specs.Questions.{each_next}
+use Rattle.fl_column.specs.Queries.{each_next}
 use Rattle.fl_column.proofs.ItemLaws.{map-replicate}
 use Rattle.fl_bitpacking.specs.Blocks.{are_blocks, boundary_blocks, global_blocks, is_block}
 use Rattle.fl_bitpacking.specs.Columns.{BitPackedParts, block_count, column_of_packed}

@@ -1,5 +1,5 @@
 -- Items that a mask keeps, word by word and block by block.
-use Rattle.std.proofs.Common.{◌≡◌, ℕ, ℤ, pos, zero, suc, ◌+◌, ◌-◌, ◌<◌, ◌≤◌, ◌++◌, ◌*◌, ◌/◌, ◌%◌, ◌==◌, Bool, true, false, cond, nat_lt, bit_and, set, inl, inr, List, [], ◌∷◌, length, map, get_or, take, drop, Option, Some, None, unwrap_or, IsTrue, map-id, refl, ap, sym, ◌∙◌, arith, append_assoc, append-nil, length-take, length-drop, ◌^◌, count_ones}
+use Rattle.std.proofs.Common.{◌≡◌, ℕ, ℤ, pos, suc, ◌+◌, ◌-◌, ◌<◌, ◌≤◌, ◌++◌, ◌/◌, ◌%◌, ◌==◌, Bool, true, false, cond, nat_lt, bit_and, set, inl, inr, List, [], ◌∷◌, length, map, get_or, take, drop, Option, Some, None, unwrap_or, IsTrue, map-id, refl, ap, sym, ◌∙◌, arith, append_assoc, append-nil, length-take, length-drop, ◌^◌, count_ones}
 use Rattle.std.specs.Prelude.{IfSome}
 use Rattle.std.specs.Option.{option_copied}
 use Rattle.std.specs.Int.{bit_at}

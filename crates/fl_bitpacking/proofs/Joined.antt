@@ -9,7 +9,7 @@ use Rattle.fastlanes.proofs.SingleItems.{single_none}
 use Rattle.std.proofs.Math.Nat.{mul-le-mul_left}
 use Rattle.std.specs.Prelude.{◌==◌}
 use Rattle.std.proofs.lemmas.Bool.{and_parts, eqb-true, leb-true}
-use Rattle.fl_column.specs.Questions.{each_next}
+use Rattle.fl_column.specs.Queries.{each_next}
 use Rattle.fl_column.proofs.ListLaws.{and_first, and_second}
 use Rattle.fl_bitpacking.specs.Blocks.{AreJoined, AreWithin, global_blocks, boundary_blocks, are_blocks, is_block, Blocks, block_item, bytes_of_block, item_of_blocks, pattern_in}
 use Rattle.fl_bitpacking.proofs.Natives.{packed_by_items}

@@ -1,3 +1,4 @@
+mod BlockItems
 pub mod BlockSums
 pub mod Bounds
 pub mod ColumnLaws
@@ -31,3 +32,4 @@ pub mod EqualBoundaries
 pub mod FilteredLaws
 pub mod MaskWords
 pub mod PartPatches
+pub mod RefusedNegatives

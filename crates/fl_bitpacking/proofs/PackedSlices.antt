@@ -8,7 +8,7 @@ use Rattle.fl_types.specs.declared.validity.Validity.TheVariants as valid
 use Rattle.fl_types.specs.Validities.{is_valid_at, nullability_of, validity_between}
 use Rattle.fl_types.proofs.BitLists.{same_tables}
 use Rattle.fl_column.specs.Operations.{slice_of}
-use Rattle.fl_column.specs.Questions.{scalar_in}
+use Rattle.fl_column.specs.Queries.{scalar_in}
 use Rattle.fl_column.proofs.ItemLaws.{nullability_of-between}
 use Rattle.fl_patches.specs.PatchMaps.{patched_in}
 use Rattle.fl_patches.proofs.Slices.{get_or-between}

@@ -1,7 +1,6 @@
 -- Patches of consecutive items: those whose indices are between two numbers.
-use Rattle.std.proofs.Common.{◌≡◌, ℕ, ℤ, pos, ◌+◌, ◌-◌, ◌<◌, ◌≤◌, ◌≢◌, unwrap_or, List, length, map, get_or, unsigned_abs, refl, ap, sym, ◌∙◌, arith, true, None, inl, inr}
+use Rattle.std.proofs.Common.{◌≡◌, ℕ, ℤ, ◌+◌, ◌-◌, ◌<◌, ◌≤◌, ◌≢◌, unwrap_or, List, length, map, get_or, unsigned_abs, refl, ap, sym, ◌∙◌, arith, true, None, inl, inr}
 use Rattle.std.proofs.lemmas.Bool.{cases_lt}
-use Rattle.std.proofs.lemmas.List.{length-map}
 use Rattle.fl_types.specs.Bits.{between}
 use Rattle.fl_column.proofs.ItemLaws.{length-between}
 use Rattle.fl_column.specs.Numbers.{numbers, numbers_by}

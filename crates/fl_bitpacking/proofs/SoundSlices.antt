@@ -1,7 +1,17 @@
 -- The parts of a slice make a bit-packed array.
-use Rattle.std.proofs.Common.{◌≡◌, ◌+◌, ◌*◌, ◌-◌, ◌%◌, ◌<◌, ◌≤◌, ℕ, length, get_or, refl, ap, ◌∙◌, sym, arith}
+use Rattle.std.proofs.Common.{◌≡◌, ◌==◌, ◌+◌, ◌*◌, ◌-◌, ◌%◌, ◌<◌, ◌≤◌, ℕ, Bool, true, false, List, Option, Some, None, Result, Ok, IsTrue, length, get_or, if◌then◌else◌, refl, ap, ◌∙◌, sym, arith}
+use Rattle.std.specs.Prelude.{IfSome, option_and_then}
+use Rattle.std.proofs.lemmas.Bool.{eq-eqb, eqb-true}
 use Rattle.fl_types.specs.Bits.{between}
 use Rattle.fl_types.specs.Integers.{bits_of_type}
+use Rattle.fl_types.specs.declared.dtype.PType.{PType}
+use Rattle.fl_types.specs.declared.error.FastLanesError.{FastLanesError}
+use Rattle.fl_types.specs.declared.validity.Validity.{Validity}
+use Rattle.fl_types.specs.declared.validity.Validity.TheVariants as valid
+use Rattle.fl_types.specs.Validities.{covers, validity_between}
+use Rattle.fl_column.specs.Columns.{slice_primitive}
+use Rattle.fl_patches.proofs.Parts.{ok_same}
+use Rattle.fl_patches.specs.PatchMaps.{PatchesParts, patches_before, slice_patches}
 use Rattle.fl_column.specs.Columns.{Column, numbers_of}
 use Rattle.fl_column.specs.Operations.{slice_of}
 use Rattle.fl_column.proofs.ItemLaws.{length-between}
@@ -23,6 +33,43 @@ kept_within offset end len h = omega arith
 
 pub kept_order : (offset start end : ℕ) → start ≤ end → first_block offset start ≤ end_block offset end
 kept_order offset start end h = omega arith
+
+-- ---- parts of their own
+-- the validity of some items
+covers_part : (v : Validity) (start end len : ℕ) → start ≤ end → end ≤ len → IsTrue (covers v len) → IsTrue (covers (validity_between start end v) (end - start))
+covers_part valid.NonNullable start end len o r k = refl
+covers_part valid.AllValid start end len o r k = refl
+covers_part valid.AllInvalid start end len o r k = refl
+covers_part (valid.Array bits) start end len o r k =
+    let long = eqb-true (length bits) len k in
+    eq-eqb _ _ (length-between bits start end o (omega arith))
+
+-- the patches of some items
+patched_part : (patches : Option PatchesParts) (ptype : PType) (start end len : ℕ) → IfSome patches (λ p. (p.array_len ≡ len) × (p.values.ptype ≡ ptype)) → IfSome (option_and_then (slice_patches start end) patches) (λ p. (p.array_len ≡ end - start) × (p.values.ptype ≡ ptype))
+patched_part None ptype start end len h = tt
+patched_part (Some p) ptype start end len h = by_count (patches_before start p == patches_before end p)
+  where
+    by_count : (none : Bool) → IfSome {T = PatchesParts} (if none then None else Some (record { array_len = end - start; offset = p.offset + start; indices = slice_primitive (patches_before start p) (patches_before end p) p.indices; values = slice_primitive (patches_before start p) (patches_before end p) p.values; chunk_offsets = None })) (λ q. (q.array_len ≡ end - start) × (q.values.ptype ≡ ptype))
+    by_count true = tt
+    by_count false = (refl, h.1)
+
+-- the parts of some items, with whatever bytes
+pub consistent_slice : (p : BitPackedParts) (packed : List ℕ) (v : Validity) (patches : Option PatchesParts) (start end : ℕ) → AreConsistent p → start ≤ end → end ≤ p.len
+    → ◌≡◌ {A = Result Validity FastLanesError} (Ok (validity_between start end p.validity)) (Ok v) → ◌≡◌ {A = Result (Option PatchesParts) FastLanesError} (Ok (option_and_then (slice_patches start end) p.patches)) (Ok patches)
+    → AreConsistent (record { packed = packed; ptype = p.ptype; validity = v; patches = patches; offset = (p.offset + start) % 1024; len = end - start })
+consistent_slice p packed v patches start end s o r valid patched =
+    let few = s.fit.few in
+    let all = s.few in
+    let positions : (p.offset + start) % 1024 + (end - start) ≤ p.offset + p.len = omega arith in
+    rw (ok_same _ _ valid, ok_same _ _ patched) (record {
+      fit = record {
+        offset = omega arith;
+        few = omega arith;
+        covers = covers_part p.validity start end p.len o r s.fit.covers;
+        patched = patched_part p.patches p.ptype start end p.len s.fit.patched;
+      };
+      few = omega arith;
+    })
 
 -- of one width
 pub global_slice : (p : BitPackedParts) (width start end : ℕ) → AreGlobal p width → start ≤ end → end ≤ p.len

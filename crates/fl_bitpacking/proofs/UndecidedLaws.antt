@@ -13,7 +13,7 @@ use Rattle.fl_types.specs.Integers.{bits_of_type}
 use Rattle.fl_types.specs.Values.{bool_number}
 use Rattle.fl_types.proofs.BitLists.{same_tables}
 use Rattle.fl_column.specs.Columns.{Column}
-use Rattle.fl_column.specs.Questions.{tested}
+use Rattle.fl_column.specs.Queries.{tested}
 use Rattle.fl_bitpacking.specs.Blocks.{Blocks, global_blocks}
 use Rattle.fl_bitpacking.specs.Columns.{BitPackedParts, block_count}
 use Rattle.fl_bitpacking.specs.Decided.{is_decided, undecided_below, undecided_blocks, undecided_by_block, undecided_of_one_width}

@@ -6,7 +6,7 @@ use Rattle.fl_types.specs.Bits.{between, tabulate}
 use Rattle.fl_types.specs.Integers.{bits_of_type, lanes_of_type, pattern_of, read_as}
 use Rattle.fl_column.specs.Columns.{PrimitiveParts}
 use Rattle.fl_column.specs.Numbers.{index_array, numbers}
-use Rattle.fl_column.specs.Questions.{each_next}
+use Rattle.fl_column.specs.Queries.{each_next}
 use Rattle.fl_patches.specs.declared.widths.Widths.{Widths}
 use Rattle.fl_patches.specs.declared.widths.Widths.TheVariants.{Global, Boundaries, PerBlock}
 use Rattle.fl_column.specs.Chunks.{chunk_count}

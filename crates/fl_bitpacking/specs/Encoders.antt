@@ -45,14 +45,19 @@ width_refusal p width =
     else if nat_le (bits_of_type p.ptype) width then Some WidthTooLarge
     else None
 
+-- why these widths are not those of an array's blocks, if they are not
+abbrev pub list_refusal : PrimitiveParts → List ℕ → Option FastLanesError
+list_refusal p widths =
+    if not (length widths == chunk_count (length p.slots)) then Some BlockCount
+    else if list_any (nat_lt (bits_of_type p.ptype)) widths then Some WidthTooLarge
+    else if nat_lt 0 (length widths) && list_all (λ width. width == bits_of_type p.ptype) widths then Some AllBlocksNative
+    else None
+
 -- why an array's blocks are not packed at these widths, if they are not
 abbrev pub widths_refusal : PrimitiveParts → List ℕ → Option FastLanesError
 widths_refusal p widths =
     if list_any is_negative (items_of p.validity p.slots) then Some NegativeValue
-    else if not (length widths == chunk_count (length p.slots)) then Some BlockCount
-    else if list_any (nat_lt (bits_of_type p.ptype)) widths then Some WidthTooLarge
-    else if nat_lt 0 (length widths) && list_all (λ width. width == bits_of_type p.ptype) widths then Some AllBlocksNative
-    else None
+    else list_refusal p widths
 
 -- the width of least cost for an array
 abbrev pub best_width_of : PrimitiveParts → ℕ

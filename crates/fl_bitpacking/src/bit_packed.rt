@@ -48,7 +48,7 @@ pub trait BitPacked: NativePType + BitCount {
         ensures blocks { work.new.blocks ≡ min (work.old.blocks + 1) u64.MAX }
         ensures words { work.new.words ≡ work.old.words };
 
-    /// Packs the low `width` bits of at most 1024 integers, behind which stands 0, into the
+    /// Packs the low `width` bits of at most 1024 integers, padded with 0, into the
     /// `128 * width` bytes of a block.
     fn pack_block(width: usize, items: &[Self], block: &mut [u8])
         requires width { width ≤ bits_of_type Self.PTYPE }
@@ -106,7 +106,7 @@ fn unfor_patterns<T: PhysicalPType>(
     }
 }
 
-/// Writes the patterns of at most 1024 integers, and behind them 0.
+/// Writes the patterns of at most 1024 integers, padded with 0.
 pub(crate) fn write_padded_patterns<T: PhysicalPType>(
     items: &[T],
     patterns: &mut [T::Physical; FL_CHUNK_SIZE],
@@ -121,7 +121,7 @@ pub(crate) fn write_padded_patterns<T: PhysicalPType>(
     }
 }
 
-/// Packs the patterns of at most 1024 integers, behind which stands 0.
+/// Packs the patterns of at most 1024 integers, padded with 0.
 fn pack_patterns<T: PhysicalPType>(width: usize, items: &[T], block: &mut [u8])
     requires width { width ≤ T.Physical.T }
     requires few { length items.now ≤ 1024 }

@@ -1,7 +1,8 @@
 //! Packing columns into bytes.
 
 pub mod encoding;
-pub mod width_refusals;
+mod patched_packing;
+mod width_refusals;
 pub mod word_packing;
 
 ghost use Rattle.std.specs.Prelude.{◌≡◌, ◌+◌, ◌-◌, ◌*◌, ◌<◌, ◌≤◌, ◌^◌, ℕ, ℤ, IfErr, IfOk, OnOk, drop, length, map, slice_index, sum, take};
@@ -22,7 +23,7 @@ use fl_patches::Widths;
 use fl_types::{FastLanesError, NativePType, match_each_integer_ptype};
 use std::alloc::{AllocError, Global};
 
-/// Packs at most 1024 integers, behind which stands 0, into the bytes of the block that starts there.
+/// Packs at most 1024 integers, padded with 0, into the bytes of the block that starts there.
 fn pack_at<T: BitPacked>(width: usize, items: &[T], start: usize, bytes: &mut [u8])
     requires width { width ≤ bits_of_type T.PTYPE }
     requires few { length items.now ≤ 1024 }
@@ -34,8 +35,8 @@ fn pack_at<T: BitPacked>(width: usize, items: &[T], start: usize, bytes: &mut [u
     T::pack_block(width, items, &mut bytes[start..start + size]);
 }
 
-/// Adds the packed block of at most 1024 integers, behind which stands 0.
-fn push_block<T: BitPacked>(
+/// Adds the packed block of at most 1024 integers, padded with 0.
+pub(crate) fn push_block<T: BitPacked>(
     width: usize,
     items: &[T],
     bytes: &mut Vec<u8>,

@@ -78,7 +78,7 @@ pub fn unpack_single_primitive<T: PhysicalPType>(packed: &[u8], width: usize, i:
     unpack_block_item(width, block, i % FL_CHUNK_SIZE, &mut work)
 }
 
-/// Adds the items of block `j`, whose bytes start at `start`, and gives where those of the next block
+/// Appends the items of block `j`, whose bytes start at `start`, and returns where those of the next block
 /// start. The list grows by these items alone, so that they are filled with 0 and decoded while they
 /// lie in the first-level cache.
 fn push_block<T: BitPacked>(
@@ -164,8 +164,8 @@ pub(crate) fn unpack_values<T: BitPacked>(
     }
 }
 
-/// These items, with the patches' values, plus the references of their blocks, in their places, if there are
-/// patches. Item 0 stands at `first` in its block.
+/// These items, with the patches' values, plus the references of their blocks, at their indices, if there are
+/// patches. Item 0 is at `first` in its block.
 pub(crate) fn with_patches<T: NativePType + WrappingAdd>(
     mut items: Vec<T>,
     patches: Option<&Patches>,
@@ -183,7 +183,7 @@ pub(crate) fn with_patches<T: NativePType + WrappingAdd>(
     items
 }
 
-/// These items, with the patches' values in their places, if there are patches.
+/// These items, with the patches' values at their indices, if there are patches.
 pub(crate) fn with_values<T: NativePType + WrappingAdd>(
     items: Vec<T>,
     patches: Option<&Patches>,

@@ -74,7 +74,7 @@ pub(crate) fn prove_count_fits(work: &Work)
 pub(crate) struct PackedBlocks<'a> {
     /// The widths of the blocks.
     pub(crate) widths: Widths<'a>,
-    /// Their bytes, one block behind the other.
+    /// Their bytes, one block after another.
     pub(crate) packed: &'a [u8],
     /// The position of the first item in the first block, below 1024.
     pub(crate) offset: usize,
@@ -107,7 +107,7 @@ impl PackedBlocks<'_> {
         (from, from + (self.len - from).min(FL_CHUNK_SIZE - low))
     }
 
-    /// Writes the items of block `j`, whose bytes start at `start`, and gives where those of the next
+    /// Writes the items of block `j`, whose bytes start at `start`, and returns where those of the next
     /// block start.
     pub(crate) fn decode_block<T: NativePType, D: BlockDecoder<T>>(
         self,
@@ -134,7 +134,7 @@ impl PackedBlocks<'_> {
         start + block.len()
     }
 
-    /// Writes all items, each block unpacked once.
+    /// Writes all items, unpacking each block once.
     pub(crate) fn decode_into<T: NativePType, D: BlockDecoder<T>>(
         self,
         decoder: &D,

@@ -88,7 +88,7 @@ fn write_multiples(step: u64, count: usize, numbers: &mut Vec<u64>)
 }
 
 /// The boundaries of this many blocks of one width, as an array of the smallest type that holds the last of
-/// them. They are asked for by one allocation.
+/// them. One allocation makes room for them.
 pub(crate) fn global_boundary_array(
     alloc: Global,
     width: u8,

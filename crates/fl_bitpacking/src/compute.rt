@@ -1,4 +1,4 @@
-//! Operations and questions on packed columns that need not unpack them first.
+//! Operations and queries on packed columns that need not unpack them first.
 
 pub mod cast;
 pub mod compare;

@@ -1,5 +1,7 @@
 //! The parts of a bit-packed array, without the widths of its blocks: decoding, single items and slices.
 
+mod typed_items;
+
 ghost use Rattle.std.specs.Prelude.{◌≡◌, ◌+◌, ◌-◌, ◌*◌, ◌/◌, ◌%◌, ◌<◌, ◌≤◌, ℕ, IfOk, IfSome, IsTrue, None, Ok, OnOk, length, min, option_and_then, option_map};
 ghost use Rattle.std.specs.Option.{option_copied};
 ghost use Rattle.fl_types.specs.declared.dtype.DType.TheVariants.{Primitive};
@@ -10,7 +12,7 @@ ghost use Rattle.fl_types.specs.Validities.{nullability_of};
 ghost use Rattle.fl_types.specs.Values.{scalar_parts, integer_of, ptype_of_value};
 ghost use Rattle.fl_column.specs.Columns.{Column, column_of_constant, column_of_primitive, numbers_of};
 ghost use Rattle.fl_column.specs.Operations.{slice_of};
-ghost use Rattle.fl_column.specs.Questions.{scalar_in};
+ghost use Rattle.fl_column.specs.Queries.{scalar_in};
 ghost use Rattle.fl_patches.specs.PatchMaps.{patched_in, slice_patches};
 ghost use Rattle.fl_column.specs.Numbers.{numbers};
 ghost use Rattle.fl_bitpacking.specs.Blocks.{are_blocks, block_item, boundary_array, boundary_blocks, global_blocks};
@@ -26,6 +28,7 @@ use crate::bitpack_decompress::unfor::{References, unfor_blocked, unfor_global};
 use crate::bitpack_decompress::{PackedColumn, unpack_block_item, unpack_blocked, unpack_global};
 use crate::boundaries::global_boundary_array;
 use crate::laws::parts_are_consistent;
+use crate::packed_data::typed_items::value_in_block;
 use bytes::Bytes;
 use fastlanes::{FL_CHUNK_SIZE, Work};
 use fl_column::{ConstantArray, PhysicalPType, PrimitiveArray, chunk_count};
@@ -101,7 +104,7 @@ fn stored_in(ptype: PType, width: usize, block: &[u8], index: usize, work: &mut 
     match_each_integer_ptype!(ptype, stored_typed(width, block, index, work))
 }
 
-/// A copy of patches, where there are some.
+/// A copy of patches, if there are any.
 fn clone_patches(
     patches: &Option<Patches>,
     alloc: Global,
@@ -114,7 +117,7 @@ fn clone_patches(
     }
 }
 
-/// The patches of the items from `start` to below `end`, where there are some.
+/// The patches of the items from `start` to below `end`, if there are any.
 fn slice_patches(
     patches: &Option<Patches>,
     alloc: Global,
@@ -320,17 +323,6 @@ impl PackedData {
         unfor_blocked(alloc, &self.column(), boundaries, references, work)
     }
 
-    /// The patch of item `i`, if there is one.
-    fn patch(&self, i: usize) -> Option<PValue>
-        ensures value { option_map integer_of result ≡ patched_in self.now.patches i }
-        ensures typed { IfSome result (λ v. ptype_of_value v ≡ self.now.ptype) }
-    {
-        match &self.patches {
-            Some(patches) => patches.get_patched(i),
-            None => None,
-        }
-    }
-
     /// Item `i` as it is stored in its block.
     fn stored_in_block(&self, start: usize, width: usize, i: usize, work: &mut Work) -> PValue
         requires range { i < self.now.len }
@@ -348,6 +340,7 @@ impl PackedData {
     }
 
     /// Item `i`, whose block starts at byte `start` and has a width.
+    #[inline(always)]
     pub fn item_in_block(&self, start: usize, width: usize, i: usize, work: &mut Work) -> Scalar
         requires range { i < self.now.len }
         requires width { width ≤ bits_of_type self.now.ptype }
@@ -359,10 +352,7 @@ impl PackedData {
         if !self.validity.is_valid(i, self.len) {
             return Scalar::null(self.dtype());
         }
-        let value = match self.patch(i) {
-            Some(value) => value,
-            None => self.stored_in_block(start, width, i, work),
-        };
+        let value = value_in_block(self, start, width, i, work);
         Scalar::primitive(value, self.validity.nullability())
     }
 
@@ -376,6 +366,7 @@ impl PackedData {
     }
 
     /// Item `i`, if all blocks have one width.
+    #[inline(always)]
     pub fn item_global(&self, width: usize, i: usize, work: &mut Work) -> Scalar
         requires global { global_refusal self.now width ≡ None }
         requires range { i < self.now.len }

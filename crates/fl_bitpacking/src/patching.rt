@@ -22,7 +22,7 @@ pub(crate) fn write_at<T: NativePType>(items: &mut [T], at: usize, item: T)
     items[at] = item;
 }
 
-/// The place that an index names.
+/// The position that an index names.
 pub(crate) fn place_of<I: NativePType>(indices: &[I], k: usize, offset: usize) -> usize
     requires range { k < length indices.now }
     requires above { offset ≤ slice_index (numbers_by I.value indices.now) k }
@@ -31,7 +31,7 @@ pub(crate) fn place_of<I: NativePType>(indices: &[I], k: usize, offset: usize) -
     number_at(indices, k) - offset
 }
 
-/// Puts values, plus the references of their blocks, in the places of their indices.
+/// Writes values, plus the references of their blocks, at their indices.
 pub(crate) fn write_values<T: NativePType + WrappingAdd, I: NativePType>(
     indices: &[I],
     values: &[T],
@@ -69,7 +69,7 @@ fn write_typed<T: NativePType + WrappingAdd, I: NativePType>(
     write_values(indices, values, offset, references, first, items);
 }
 
-/// Puts values, plus the references of their blocks, in the places of their indices.
+/// Writes values, plus the references of their blocks, at their indices.
 fn write_in<T: NativePType + WrappingAdd>(
     indices: &PrimitiveArray,
     values: &[T],
@@ -88,7 +88,7 @@ fn write_in<T: NativePType + WrappingAdd>(
     )
 }
 
-/// Puts the patches' values, plus the references of their blocks, in their places. Item 0 stands at `first` in
+/// Writes the patches' values, plus the references of their blocks, at their indices. Item 0 is at `first` in
 /// its block.
 pub(crate) fn write_patches<T: NativePType + WrappingAdd>(
     patches: &Patches,

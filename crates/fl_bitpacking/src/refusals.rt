@@ -30,7 +30,7 @@ pub fn positions_refusal(offset: usize, len: usize) -> Option<FastLanesError>
     None
 }
 
-/// Whether patches, where there are some, have values of a type.
+/// Whether patches, if there are any, have values of a type.
 fn have_type(patches: Option<&Patches>, ptype: PType) -> bool
     ensures { result ≡ option_all (λ p. same_ptype p.values.ptype ptype) (option_copied patches.entry) }
 {
@@ -40,7 +40,7 @@ fn have_type(patches: Option<&Patches>, ptype: PType) -> bool
     }
 }
 
-/// Whether patches, where there are some, are those of this many items.
+/// Whether patches, if there are any, are those of this many items.
 fn have_len(patches: Option<&Patches>, len: usize) -> bool
     ensures { result ≡ option_all (λ p. p.array_len == len) (option_copied patches.entry) }
 {

@@ -1,10 +1,10 @@
 -- Blocks of differences.
 use Rattle.std.proofs.Common.{◌≡◌, ℕ, ℤ, pos, zero, suc, ◌+◌, ◌-◌, ◌*◌, ◌/◌, ◌%◌, ◌^◌, ◌<◌, ◌≤◌, refl, ap, sym, ◌∙◌, arith, add-one, mul_comm, length-take}
-use Rattle.std.proofs.Common.{List, [], ◌∷◌, ◌++◌, length, map, IsTrue, ◌-ℤ◌, take}
+use Rattle.std.proofs.Common.{List, [], ◌∷◌, ◌++◌, get_or, length, map, IsTrue, ◌-ℤ◌, take}
 use Rattle.std.proofs.Math.Nat.{mod-eq_of_lt, add-mod_right}
 use Rattle.std.specs.Prelude.{if◌then◌else◌, ◌==◌, false}
 use Rattle.std.proofs.lemmas.Bool.{ne_eqb}
-use Rattle.std.proofs.lemmas.List.{get_or-map, length-map}
+use Rattle.std.proofs.lemmas.List.{get_or-append_right, get_or-map, length-map}
 use Rattle.std.proofs.lemmas.List.FromFn.{fill_by_all}
 use Rattle.fastlanes.proofs.Patterns.{pattern_at_take}
 use Rattle.std.proofs.lemmas.Nat.{div-mul-add, mod-mul-add}
@@ -15,7 +15,9 @@ use Rattle.fastlanes.specs.Layout.{pattern_at, place, segment, row_of, lane_of, 
 use Rattle.fastlanes.specs.Delta.{Transposed, item_before, item_delta}
 use Rattle.fastlanes.proofs.Bijection.{position_placed, segment_read}
 use Rattle.fl_codec.specs.Deltas.{base_of, bases_to, delta_of, deltas_to, encoded_delta}
-use Rattle.fl_codec.specs.Chunks.{chunks_of}
+use Rattle.fl_codec.specs.Chunks.{chunk, chunks_of}
+use Rattle.fl_codec.specs.ForwardFill.{Carry, fill_forward}
+use Rattle.fl_codec.proofs.Tables.{between-table, get_or-table, length-table}
 use Rattle.fl_codec.specs.Parts.{compress_deltas, items_of_primitive, non_nullable}
 use Rattle.fl_column.specs.Columns.{PrimitiveParts}
 use Rattle.fl_codec.proofs.Congruence.{read_as-difference, read_as-pattern_of, read_as-zero}
@@ -135,3 +137,23 @@ few_lanes _ _ bits_8 = omega arith
 few_lanes _ _ bits_16 = omega arith
 few_lanes _ _ bits_32 = omega arith
 few_lanes _ _ bits_64 = omega arith
+
+-- the bases alone
+pub bases_made : (p : PrimitiveParts) (ptype : PType) (k : ℕ) (bases : List ℤ) (x : PrimitiveParts) → p.ptype ≡ ptype → k ≡ chunks_of (length (items_of_primitive p)) → bases ≡ bases_to ptype (items_of_primitive p) k → x ≡ non_nullable ptype bases → (compress_deltas p).0 ≡ x
+bases_made p ptype k bases x same all bases_are x_is = rw (x_is, bases_are, all, same) refl
+
+-- what is made behind the deltas of the chunks before is a chunk of the deltas
+pub deltas_in_chunk : (p : PrimitiveParts) (ptype : PType) (k : ℕ) (made : List ℤ) → p.ptype ≡ ptype → k < chunks_of (length (items_of_primitive p)) → length made ≡ 1024
+    → ((before : List ℤ) → before ≡ deltas_to ptype (items_of_primitive p) k → before ++ made ≡ deltas_to ptype (items_of_primitive p) (k + 1)) → made ≡ chunk k (compress_deltas p).1.slots
+deltas_in_chunk p ptype k made same within long step =
+    let items = items_of_primitive p in
+    let entry : ℕ → ℤ = λ i. delta_of ptype (fill_forward Carry items) (i / 1024) (i % 1024) in
+    let whole : 1024 * (k + 1) - 1024 * k ≡ 1024 = omega arith in
+    let joined : tabulate entry (1024 * k) ++ made ≡ tabulate entry (1024 * (k + 1)) = step (tabulate entry (1024 * k)) refl in
+    let here : made ≡ tabulate (λ i. entry (1024 * k + i)) 1024 = fill_by_all (λ i. entry (1024 * k + i)) made 1024 (pos 0) long
+    (λ q h.
+    let place : 1024 * k + q - 1024 * k ≡ q = omega arith in
+    ap (λ n. get_or made n (pos 0)) (sym place)
+    ∙ (sym (get_or-append_right (tabulate entry (1024 * k)) made (1024 * k) (1024 * k + q) (pos 0) (length-table entry (1024 * k)) (omega arith))
+    ∙ (ap (λ xs. get_or xs (1024 * k + q) (pos 0)) joined ∙ get_or-table entry (1024 * (k + 1)) (1024 * k + q) (pos 0) (omega arith)))) in
+    rw same (here ∙ (ap (tabulate (λ i. entry (1024 * k + i))) (sym whole) ∙ sym (between-table entry (1024 * chunks_of (length items)) (1024 * k) (1024 * (k + 1)) (pos 0) (omega arith) (omega arith))))

@@ -38,7 +38,7 @@ pub fill_forward-valid : (mode : FillMode) (items : List (Option ℤ)) (k q : �
 fill_forward-valid Carry items k q z h e = fill_forward-carry items k q h ∙ valid_from (carried_to items k) items k q z h e
 fill_forward-valid Reset items k q z h e = fill_forward-reset items k q h ∙ valid_from (pos 0) items k q z h e
 
-zero_fits : (ptype : PType) → fits ptype (pos 0) ≡ true
+pub zero_fits : (ptype : PType) → fits ptype (pos 0) ≡ true
 zero_fits U8 = refl
 zero_fits U16 = refl
 zero_fits U32 = refl

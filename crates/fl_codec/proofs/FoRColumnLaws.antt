@@ -14,7 +14,7 @@ use Rattle.fl_types.proofs.RefusalLaws.{Answers_view}
 use Rattle.fl_column.specs.Columns.{PrimitiveParts, column_of_primitive}
 use Rattle.fl_column.proofs.ItemLaws.{get_or-items_of, length-items_of}
 use Rattle.fl_codec.specs.FoRColumns.{chunked_for, chunked_sums, global_for, plus_reference}
-use Rattle.fl_codec.specs.Parts.{OneReference, FoRParts, Whole, under_validity_of}
+use Rattle.fl_codec.specs.Parts.{under_validity_of}
 use Rattle.fl_codec.proofs.ReferenceLaws.{get_or-table, length-table}
 
 masked-map : {A B : Type 0} (f : A → B) (bits : List Bool) (xs : List A) → masked bits (map f xs) ≡ map (option_map f) (masked bits xs)
@@ -49,7 +49,8 @@ plus_item : (ptype : PType) (reference slot : ℤ) (here : Bool) → cond here (
 plus_item ptype reference slot true = refl
 plus_item ptype reference slot false = refl
 
-items_of-sums : (ptype : PType) (references : List ℤ) (offset : ℕ) (v : Validity) (slots : List ℤ) → IsTrue (covers v (length slots))
+-- the items of the sums of chunks
+pub items_of-sums : (ptype : PType) (references : List ℤ) (offset : ℕ) (v : Validity) (slots : List ℤ) → IsTrue (covers v (length slots))
     → items_of v (chunked_sums ptype references offset slots) ≡ tabulate (λ i. plus_reference ptype (get_or references ((offset + i) / 1024) (pos 0)) (get_or (items_of v slots) i None)) (length (items_of v slots))
 items_of-sums ptype references offset v slots covered =
     let sums = chunked_sums ptype references offset slots in
@@ -71,10 +72,6 @@ pub chunked_column : (p : PrimitiveParts) (ptype : PType) (references : List ℤ
 chunked_column p ptype references offset slots result covered same is made =
     Answers_view column_of_primitive result (under_validity_of p ptype slots) (chunked_for references offset (column_of_primitive p))
     (rw (is, ← same, items_of-sums p.ptype references offset p.validity p.slots covered) refl) made
-
--- ---- a frame of chunks with one reference
-pub whole_ok : (x y : OneReference) (m : Result OneReference FastLanesError) (n : Result FoRParts FastLanesError) → m ≡ Ok x → m ≡ Ok y → n ≡ Ok (Whole x) → n ≡ Ok (Whole y)
-whole_ok x y m n e f h = let same : x ≡ y = cc in rw (← same) h
 
 -- ---- slots that a table gives
 -- the items of a table under a validity

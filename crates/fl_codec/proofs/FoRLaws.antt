@@ -18,10 +18,10 @@ int_le-trans x y z e f = grind (arith, ints)
 int_le-antisym : (x y : ℤ) → int_le x y ≡ true → int_le y x ≡ true → x ≡ y
 int_le-antisym x y e f = grind (arith, ints)
 
-below : (x y : ℤ) → int_lt y x ≡ true → int_le y x ≡ true
+pub below : (x y : ℤ) → int_lt y x ≡ true → int_le y x ≡ true
 below x y e = grind (arith, ints)
 
-not_below : (x y : ℤ) → int_lt y x ≡ false → int_le x y ≡ true
+pub not_below : (x y : ℤ) → int_lt y x ≡ false → int_le x y ≡ true
 not_below x y e = grind (arith, ints)
 
 -- ---- the least of a list

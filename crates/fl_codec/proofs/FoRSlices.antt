@@ -12,7 +12,7 @@ use Rattle.fl_types.specs.Values.{ScalarParts}
 use Rattle.fl_types.proofs.BitLists.{same_tables}
 use Rattle.fl_column.specs.Columns.{Column, PrimitiveParts, column_of_primitive, integers_in, ptype_of_column}
 use Rattle.fl_column.specs.Operations.{slice_of}
-use Rattle.fl_column.specs.Questions.{scalar_in}
+use Rattle.fl_column.specs.Queries.{scalar_in}
 use Rattle.fl_column.proofs.ItemLaws.{length-between}
 use Rattle.fl_codec.proofs.Tables.{get_or-between, map-between}
 use Rattle.fl_codec.specs.FoRColumns.{chunked_for, global_for, plus_reference}

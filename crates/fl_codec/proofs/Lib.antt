@@ -18,6 +18,12 @@ pub mod FoRSlices
 pub mod DeltaSlices
 pub mod RunTypes
 pub mod RunSlices
+pub mod SliceParts
 pub mod WithoutNulls
 pub mod OrderLaws
 pub mod WithNulls
+pub mod JoinedLeasts
+pub mod FullWords
+pub mod DeltaLeasts
+pub mod ChunkSlots
+pub mod RunIndices

@@ -1,10 +1,10 @@
 -- What well-formed runs say of each chunk, and the items that they make.
-use Rattle.std.proofs.Common.{◌≡◌, ℕ, ℤ, pos, zero, suc, ◌+◌, ◌-◌, ◌*◌, ◌/◌, ◌%◌, ◌<◌, ◌≤◌, Bool, true, false, cond, not, List, length, get_or, Option, Some, None, option_map, unwrap_or, unsigned_abs, IsTrue, subst, refl, ap, sym, ◌∙◌, arith, drop}
+use Rattle.std.proofs.Common.{◌≡◌, ℕ, ℤ, pos, zero, suc, ◌+◌, ◌-◌, ◌*◌, ◌/◌, ◌%◌, ◌<◌, ◌≤◌, Bool, true, false, cond, not, List, [], ◌++◌, length, map, take, get_or, inl, inr, Option, Some, None, option_map, unwrap_or, unsigned_abs, IsTrue, subst, refl, ap, sym, ◌∙◌, arith, drop}
 use Rattle.std.specs.List.{list_all, range_with_len}
-use Rattle.std.specs.Prelude.{nat_le, nat_lt, ◌==◌, ◌||◌, if◌then◌else◌}
-use Rattle.std.proofs.lemmas.Bool.{and_parts, eqb-true, le-ltb, leb-false, leb-true, lt-ltb, ltb-false, ltb-true, not-false}
-use Rattle.std.proofs.lemmas.List.{get_or-drop, get_or-map, get_or-take, length-map}
-use Rattle.std.proofs.lemmas.List.FromFn.{get_or-range_with_len, length-range_with_len}
+use Rattle.std.specs.Prelude.{IfSome, ◌⊎◌, nat_le, nat_lt, ◌==◌, ◌||◌, if◌then◌else◌}
+use Rattle.std.proofs.lemmas.Bool.{and_parts, cases_lt, eqb-true, le-ltb, leb-false, leb-true, lt-ltb, ltb-false, ltb-true, not-false}
+use Rattle.std.proofs.lemmas.List.{append-nil, take_all, get_or-drop, get_or-map, get_or-take, length-map}
+use Rattle.std.proofs.lemmas.List.FromFn.{fill_by_all, get_or-range_with_len, length-range_with_len}
 use Rattle.fl_types.specs.declared.dtype.PType.{PType}
 use Rattle.fl_types.specs.declared.dtype.PType.TheVariants.{U8, U16, U32, U64, I8, I16, I32, I64}
 use Rattle.fl_types.specs.declared.dtype.DType.TheVariants.{Primitive}
@@ -15,15 +15,15 @@ use Rattle.fl_types.specs.Integers.{is_unsigned}
 use Rattle.fl_types.specs.Types.{can_be_null, is_index_type}
 use Rattle.fl_types.specs.Bits.{tabulate}
 use Rattle.fl_types.specs.Validities.{covers, is_valid_at, items_of, nullability_of, validity_between}
-use Rattle.fl_types.proofs.BitLists.{same_tables}
 use Rattle.fl_column.specs.Columns.{Column, PrimitiveParts, column_of_primitive, integers_in, numbers_of}
 use Rattle.fl_column.proofs.ItemLaws.{covers-between, get_or-items_of, length-between, length-items_of, nullability_of-between}
-use Rattle.fl_codec.proofs.FoRColumnLaws.{items_of-table}
 use Rattle.fl_column.proofs.ListLaws.{all_at}
 use Rattle.fl_codec.specs.Chunks.{chunk, chunks_of}
 use Rattle.fl_codec.proofs.ForwardFillLaws.{get_or-chunk}
+use Rattle.fl_codec.proofs.SliceParts.{integer_before, integer_inside}
+use Rattle.fl_codec.proofs.WithoutNulls.{full_items}
 use Rattle.fl_codec.specs.Parts.{RunParts, items_of_primitive}
-use Rattle.fl_codec.specs.RunColumns.{IsChunk, IsRunChunk, are_run_indices, are_run_offsets, chunk_end, chunk_start, is_chunk_of_runs, is_run_index, is_run_index_type, run_column, run_count, run_integer, run_item, run_offsets_of, runs_refusal}
+use Rattle.fl_codec.specs.RunColumns.{HoldsRunItems, IsChunk, IsRunChunk, are_run_indices, are_run_offsets, chunk_end, chunk_start, is_chunk_of_runs, is_run_index, is_run_index_type, run_column, run_count, run_item, run_offsets_of, runs_refusal}
 
 -- ---- numbers that are read
 pub numbers_at : (c : Column) (i : ℕ) (x : Option ℤ) → i < length c.items → x ≡ get_or c.items i None → unsigned_abs (unwrap_or x (pos 0)) ≡ get_or (numbers_of c) i 0
@@ -42,6 +42,7 @@ index_more m n (Some z) le h = lt-ltb (unsigned_abs z) n (let below = ltb-true (
 -- ---- parts that nothing speaks against
 pub record AreRuns (parts : RunParts) (offset len : ℕ) : Type 0 where
   pub start : offset < 1024
+  pub index_type : IsTrue (is_run_index_type parts.indices.ptype)
   pub indices : IsTrue (is_unsigned parts.indices.ptype)
   pub offsets : IsTrue (is_unsigned parts.offsets.ptype)
   pub shown : offset + len ≤ length parts.indices.slots
@@ -143,6 +144,7 @@ sound parts offset len indices_covered offsets_covered e =
     let long : length indices ≡ total = length-items_of parts.indices.validity parts.indices.slots indices_covered in
     record {
       start = leb-false 1024 offset a.0;
+      index_type = not-false _ d.0;
       indices = index_type parts.indices.ptype (not-false _ d.0);
       offsets = offset_type parts.offsets.ptype parts.offsets.validity (not-false _ f.0);
       shown = ltb-false total (offset + len) h.0;
@@ -177,24 +179,69 @@ valid_shown valid.AllValid offset len i h = refl
 valid_shown valid.AllInvalid offset len i h = refl
 valid_shown (valid.Array bits) offset len i h = get_or-take (offset + len - offset) (drop offset bits) i false (omega arith) ∙ get_or-drop offset bits i false
 
-one_item : (g : ℤ → ℤ) (here : Bool) (slot : ℤ) (x : Option ℤ) → x ≡ cond here (Some slot) None → cond here (Some (g (unwrap_or x (pos 0)))) None ≡ option_map g x
-one_item g true slot x e = rw e refl
-one_item g false slot x e = rw e refl
+-- ---- integers that stand for run items, except at the places of nulls
+-- an item is the integer at its place, or a null
+one_item : (g : ℤ → ℤ) (here : Bool) (slot z : ℤ) (x : Option ℤ) → x ≡ cond here (Some slot) None → IfSome (option_map g x) (λ w. z ≡ w) → cond here (Some z) None ≡ option_map g x
+one_item g true slot z x e is = rw e (ap (λ w. Some w) (rw e at is))
+one_item g false slot z x e is = rw e refl
 
-pub decoded : (parts : RunParts) (offset len : ℕ) (ptype : PType) (slots : List ℤ) (v : Validity) (a : PrimitiveParts) → IsTrue (covers parts.indices.validity (length parts.indices.slots)) → offset + len ≤ length parts.indices.slots → parts.values.ptype ≡ ptype
-    → slots ≡ tabulate (λ i. run_integer parts.values.slots (items_of_primitive parts.indices) (run_offsets_of parts) (offset + i)) len → v ≡ validity_between offset (offset + len) parts.indices.validity → a ≡ record { ptype = ptype; slots = slots; validity = v }
-    → column_of_primitive a ≡ run_column parts offset len
-decoded parts offset len ptype slots v a covered room same is shown made =
+-- what is written for a run index stands for its item
+pub item_written : (values : List ℤ) (offsets : List ℕ) (here : Bool) (x : Option ℤ) (start count k p : ℕ) (slot z : ℤ) → x ≡ cond here (Some slot) None → start ≡ chunk_start offsets k → p / 1024 ≡ k → IsTrue (is_run_index count x)
+    → (unsigned_abs slot < count → z ≡ get_or values (start + unsigned_abs slot) (pos 0)) → IfSome (option_map (λ index. get_or values (chunk_start offsets (p / 1024) + unsigned_abs index) (pos 0)) x) (λ w. z ≡ w)
+item_written values offsets true x start count k p slot z e start_is place named written =
+    let below = ltb-true (unsigned_abs slot) count (rw e at named) in
+    rw e (written below ∙ (ap (λ m. get_or values (m + unsigned_abs slot) (pos 0)) start_is ∙ ap (λ m. get_or values (chunk_start offsets m + unsigned_abs slot) (pos 0)) (sym place)))
+item_written values offsets false x start count k p slot z e start_is place named written = rw e tt
+
+-- under no nulls each run index is below the number of run values
+pub index_named : (v : Validity) (slots : List ℤ) (count p : ℕ) → (v ≡ valid.NonNullable) ⊎ (v ≡ valid.AllValid) → p < length slots → IsTrue (is_run_index count (get_or (items_of v slots) p None)) → unsigned_abs (get_or slots p (pos 0)) < count
+index_named v slots count p full inside named =
+    let each : get_or (items_of v slots) p None ≡ Some (get_or slots p (pos 0)) = ap (λ xs. get_or xs p None) (full_items v slots full) ∙ get_or-map (λ z. Some z) slots p (pos 0) None inside in
+    ltb-true (unsigned_abs (get_or slots p (pos 0))) count (rw each at named)
+
+-- items before a part that is written, and those of the part
+pub items_joined : {X : Type 0} (value : X → ℤ) (values : List ℤ) (indices : List (Option ℤ)) (offsets : List ℕ) (offset from to place low : ℕ) (xs new rest : List X) → from ≤ length xs → length new ≡ to - from → offset + from ≡ place + low
+    → HoldsRunItems values indices offsets offset from (map value xs)
+    → ((i : ℕ) → i < length new → IfSome (run_item values indices offsets (place + (low + i))) (λ z. get_or (map value new) i (pos 0) ≡ z))
+    → HoldsRunItems values indices offsets offset to (map value (take from xs ++ (new ++ rest)))
+items_joined value values indices offsets offset from to place low xs new rest room long here before inside i h = elim (cases_lt i from) [
+  | inl below ↦ subst (λ n. IfSome (run_item values indices offsets (offset + i)) (λ z. n ≡ z)) (sym (integer_before value xs new rest from i room below)) (before i below)
+  | inr above ↦
+      let at : place + (low + (i - from)) ≡ offset + i = omega arith in
+      subst (λ n. IfSome (run_item values indices offsets (offset + i)) (λ z. n ≡ z)) (sym (integer_inside value xs new rest from i room above (omega arith)))
+      (subst (λ p. IfSome (run_item values indices offsets p) (λ z. get_or (map value new) (i - from) (pos 0) ≡ z)) at (inside (i - from) (omega arith)))
+]
+
+items_decoded : (parts : RunParts) (offset len : ℕ) (slots : List ℤ) → IsTrue (covers parts.indices.validity (length parts.indices.slots)) → offset + len ≤ length parts.indices.slots → length slots ≡ len
+    → HoldsRunItems parts.values.slots (items_of_primitive parts.indices) (run_offsets_of parts) offset len slots
+    → items_of (validity_between offset (offset + len) parts.indices.validity) slots ≡ tabulate (λ i. run_item parts.values.slots (items_of_primitive parts.indices) (run_offsets_of parts) (offset + i)) len
+items_decoded parts offset len slots covered room long holds =
     let indices = parts.indices in
     let items = items_of_primitive indices in
     let between = validity_between offset (offset + len) indices.validity in
-    let integer : ℕ → ℤ = λ i. run_integer parts.values.slots items (run_offsets_of parts) (offset + i) in
-    let part = covers_shown indices offset len covered room in
-    let each = same_tables (λ i. if is_valid_at between i then Some (integer i) else None) (λ i. run_item parts.values.slots items (run_offsets_of parts) (offset + i)) len
+    let part : IsTrue (covers between (length slots)) = rw long (covers_shown indices offset len covered room) in
+    fill_by_all (λ i. run_item parts.values.slots items (run_offsets_of parts) (offset + i)) (items_of between slots) len None (length-items_of between slots part ∙ long)
     (λ i h.
+    let within : i < length slots = omega arith in
     let inside : offset + i < length indices.slots = omega arith in
     let item = get_or-items_of indices.validity indices.slots (offset + i) (pos 0) covered inside in
     let read : ℤ → ℤ = λ z. get_or parts.values.slots (chunk_start (run_offsets_of parts) ((offset + i) / 1024) + unsigned_abs z) (pos 0) in
-    ap (λ b. cond b (Some (integer i)) None) (valid_shown indices.validity offset len i h) ∙ one_item read (is_valid_at indices.validity (offset + i)) (get_or indices.slots (offset + i) (pos 0)) (get_or items (offset + i) None) item) in
-    let all : items_of between (tabulate integer len) ≡ tabulate (λ i. run_item parts.values.slots items (run_offsets_of parts) (offset + i)) len = items_of-table integer between len part ∙ each in
-    rw (made, is, shown, ← same, nullability_of-between indices.validity offset (offset + len), all) refl
+    get_or-items_of between slots i (pos 0) part within
+    ∙ (ap (λ b. cond b (Some (get_or slots i (pos 0))) None) (valid_shown indices.validity offset len i h)
+    ∙ one_item read (is_valid_at indices.validity (offset + i)) (get_or indices.slots (offset + i) (pos 0)) (get_or slots i (pos 0)) (get_or items (offset + i) None) item (holds i h)))
+
+pub decoded : (parts : RunParts) (offset len : ℕ) (ptype : PType) (slots : List ℤ) (v : Validity) (a : PrimitiveParts) → IsTrue (covers parts.indices.validity (length parts.indices.slots)) → offset + len ≤ length parts.indices.slots → parts.values.ptype ≡ ptype
+    → length slots ≡ len → HoldsRunItems parts.values.slots (items_of_primitive parts.indices) (run_offsets_of parts) offset len slots → v ≡ validity_between offset (offset + len) parts.indices.validity → a ≡ record { ptype = ptype; slots = slots; validity = v }
+    → column_of_primitive a ≡ run_column parts offset len
+decoded parts offset len ptype slots v a covered room same long holds shown made =
+    rw (made, shown, ← same, nullability_of-between parts.indices.validity offset (offset + len), items_decoded parts offset len slots covered room long holds) refl
+
+-- items, and more of them behind
+pub items_appended : {X : Type 0} (value : X → ℤ) (values : List ℤ) (indices : List (Option ℤ)) (offsets : List ℕ) (offset place low : ℕ) (old new : List X) → offset + length old ≡ place + low
+    → HoldsRunItems values indices offsets offset (length old) (map value old)
+    → ((i : ℕ) → i < length new → IfSome (run_item values indices offsets (place + (low + i))) (λ z. get_or (map value new) i (pos 0) ≡ z))
+    → HoldsRunItems values indices offsets offset (length old + length new) (map value (old ++ new))
+items_appended value values indices offsets offset place low old new here before inside i h =
+    let joined = items_joined value values indices offsets offset (length old) (length old + length new) place low old new [] (omega arith) (omega arith) here before inside i h in
+    let whole : take (length old) old ++ (new ++ []) ≡ old ++ new = ap (λ xs. xs ++ (new ++ [])) (take_all (length old) old (omega arith)) ∙ ap (λ xs. old ++ xs) (append-nil new) in
+    subst (λ xs. IfSome (run_item values indices offsets (offset + i)) (λ z. get_or (map value xs) i (pos 0) ≡ z)) whole joined

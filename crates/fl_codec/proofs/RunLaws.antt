@@ -6,7 +6,7 @@ use Rattle.std.specs.Ordering.{int_eq}
 use Rattle.std.proofs.lemmas.Bool.Decides.{Decides-int_eq, Decides-eqb, same_from_decides}
 use Rattle.std.proofs.Common.{pos, replicate, append_assoc, length-append, Ok, Result}
 use Rattle.fl_types.specs.declared.error.FastLanesError.{FastLanesError}
-use Rattle.std.proofs.lemmas.List.{append-nil, length-replicate, map-append, replicate_more}
+use Rattle.std.proofs.lemmas.List.{append-nil, get_or-append_right, length-replicate, map-append, replicate_more}
 use Rattle.std.proofs.lemmas.List.FromFn.{fill_by_all}
 use Rattle.std.proofs.lemmas.List.Concat.{flat_map-append}
 use Rattle.std.proofs.lemmas.List.Elements.{filter-append}
@@ -22,13 +22,14 @@ use Rattle.fl_column.specs.Columns.{PrimitiveParts}
 use Rattle.fl_types.specs.Bits.{tabulate}
 use Rattle.fl_types.specs.Integers.{fits, pattern_of, read_as}
 use Rattle.fl_codec.specs.ForwardFill.{Reset, fill_forward}
-use Rattle.fl_codec.specs.Chunks.{chunks_of}
+use Rattle.fl_codec.specs.Chunks.{chunk, chunks_of}
 use Rattle.fl_codec.specs.Parts.{encode_runs, items_of_primitive, non_nullable}
 use Rattle.fl_codec.specs.Runs.{chunk_values, differs_next, indices_to, offsets_to, run_index, run_validity, values_to}
 use Rattle.fl_codec.proofs.Congruence.{read_as-pattern_of}
 use Rattle.fl_codec.proofs.DeltaLaws.{values_table}
 use Rattle.fl_codec.proofs.ForwardFillLaws.{table_append}
 use Rattle.fl_codec.proofs.ReferenceLaws.{table_more}
+use Rattle.fl_codec.proofs.Tables.{between-table, get_or-table, length-table, map-between}
 
 -- ---- counts
 pub counted_zero : (test : ℕ → Bool) → counted test 0 ≡ 0
@@ -158,3 +159,20 @@ pub runs_made : (p : PrimitiveParts) (ptype : PType) (values indices offsets : P
     → offsets ≡ non_nullable U64 (map (λ i. pos i) os) → os ≡ offsets_to (items_of_primitive p) n
     → record { values = values; indices = indices; offsets = offsets } ≡ encode_runs p
 runs_made p ptype values indices offsets vs is os v n same chunks a b c d e f g = rw (a, b, c, d, e, f, g, chunks, ← same) refl
+
+-- what is made behind the indices of the chunks before is a chunk of the indices
+pub indices_in_chunk : (p : PrimitiveParts) (k : ℕ) (made : List ℕ) → k < chunks_of (length p.slots) → length made ≡ 1024 → indices_to (items_of_primitive p) k ++ made ≡ indices_to (items_of_primitive p) (k + 1)
+    → map (λ n. pos n) made ≡ chunk k (encode_runs p).indices.slots
+indices_in_chunk p k made within long joined =
+    let items = items_of_primitive p in
+    let entry : ℕ → ℕ = λ i. run_index (fill_forward Reset items) (i / 1024) (i % 1024) in
+    let n = 1024 * chunks_of (length p.slots) in
+    let whole : 1024 * (k + 1) - 1024 * k ≡ 1024 = omega arith in
+    let here : made ≡ tabulate (λ i. entry (1024 * k + i)) 1024 = fill_by_all (λ i. entry (1024 * k + i)) made 1024 0 long
+    (λ q h.
+    let place : 1024 * k + q - 1024 * k ≡ q = omega arith in
+    ap (λ n. get_or made n 0) (sym place)
+    ∙ (sym (get_or-append_right (tabulate entry (1024 * k)) made (1024 * k) (1024 * k + q) 0 (length-table entry (1024 * k)) (omega arith))
+    ∙ (ap (λ xs. get_or xs (1024 * k + q) 0) joined ∙ get_or-table entry (1024 * (k + 1)) (1024 * k + q) 0 (omega arith)))) in
+    ap (map (λ n. pos n)) (here ∙ (ap (tabulate (λ i. entry (1024 * k + i))) (sym whole) ∙ sym (between-table entry n (1024 * k) (1024 * (k + 1)) 0 (omega arith) (omega arith))))
+    ∙ map-between (λ n. pos n) (tabulate entry n) (1024 * k) (1024 * (k + 1))

@@ -73,7 +73,7 @@ fold_is best ys (z ∷ zs) h = subst (λ l. IsLeast (fold_least (min_valid best 
 abbrev least_of_list : List ℤ → Option ℤ
 least_of_list zs = find (λ z. list_all (int_le z) zs) zs
 
-least_is : (zs : List ℤ) → IsLeast (least_of_list zs) zs
+pub least_is : (zs : List ℤ) → IsLeast (least_of_list zs) zs
 least_is zs =
     let h : IsLeast (fold_least None zs) zs = fold_is None [] zs refl in
     subst (λ best. IsLeast best zs) (sym (find-least (fold_least None zs) zs h)) h
@@ -138,6 +138,11 @@ pub word_step : (turn : ℤ → ℤ) (slot : ℕ → Option ℤ) (seed least nex
     → Some next ≡ least_valid (Some seed ∷ tabulate slot (n + 1))
 word_step turn slot seed least next item true n here before lesser = lesser ∙ (pushed (Some least) (Some (turn item)) (Some seed ∷ tabulate slot n) before ∙ step_table slot seed n (Some (turn item)) here)
 word_step turn slot seed least next item false n here before lesser = lesser ∙ (seed_kept seed least (tabulate slot n) before ∙ (pushed (Some least) None (Some seed ∷ tabulate slot n) before ∙ step_table slot seed n None here))
+
+-- the same of equal items
+pub least_of_same : {X : Type 0} (value : X → ℤ) (turn : ℤ → ℤ) (word : ℕ) (seed least : ℤ) (xs ys : List X) → xs ≡ ys → Some least ≡ least_valid (Some seed ∷ tabulate (λ j. option_map turn (cond (bit_of_word word j) (Some (get_or (map value xs) j (pos 0))) None)) (length xs))
+    → Some least ≡ least_valid (Some seed ∷ tabulate (λ j. option_map turn (cond (bit_of_word word j) (Some (get_or (map value ys) j (pos 0))) None)) (length ys))
+least_of_same {X = X} value turn word seed least xs ys e found = subst (λ (zs : List X). Some least ≡ least_valid (Some seed ∷ tabulate (λ j. option_map turn (cond (bit_of_word word j) (Some (get_or (map value zs) j (pos 0))) None)) (length zs))) e found
 
 -- ---- the first valid item
 twice_place : (x least : ℤ) (zs : List ℤ) (i : ℕ) → i < length (x ∷ x ∷ zs) → get_or (x ∷ x ∷ zs) i least ≡ least → (k : ℕ) × ((k < length (x ∷ zs)) × (get_or (x ∷ zs) k least ≡ least))

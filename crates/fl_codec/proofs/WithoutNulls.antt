@@ -14,9 +14,9 @@ use Rattle.std.proofs.lemmas.List.FromFn.{fill_by_all}
 use Rattle.fl_types.proofs.BitLists.{same_tables}
 use Rattle.fl_codec.proofs.ForwardFillLaws.{table_append}
 use Rattle.fl_codec.specs.Chunks.{chunk}
-use Rattle.fl_codec.specs.FoRColumns.{chunked_slots, chunked_sums, least_valid, min_valid, minus_reference, valid_items}
+use Rattle.fl_codec.specs.FoRColumns.{chunked_sums, least_valid, min_valid, minus_reference, valid_items}
 use Rattle.fl_codec.proofs.FoRLaws.{IsLeast, find-least, least_between_more, valid_none}
-use Rattle.fl_codec.proofs.ReferenceLaws.{between_whole, get_or-table, length-table, length_of_values}
+use Rattle.fl_codec.proofs.ReferenceLaws.{between_whole, get_or-table, length-table}
 
 -- the items under no null
 abbrev pub all_valid : List ℤ → List (Option ℤ)
@@ -55,7 +55,7 @@ least_of_none value [] e = refl
 least_of_none value (x ∷ xs) e = absurd (omega arith)
 
 -- the least of a part
-all_turned : {X : Type 0} (value : X → ℤ) (f : ℤ → ℤ) (xs : List X) → all_valid (map (λ x. f (value x)) xs) ≡ map (option_map f) (all_valid (map value xs))
+pub all_turned : {X : Type 0} (value : X → ℤ) (f : ℤ → ℤ) (xs : List X) → all_valid (map (λ x. f (value x)) xs) ≡ map (option_map f) (all_valid (map value xs))
 all_turned value f [] = refl
 all_turned value f (x ∷ xs) = ap (λ ys. Some (f (value x)) ∷ ys) (all_turned value f xs)
 
@@ -124,6 +124,15 @@ part_written value item items new rest from to i room long done more h =
           ∙ (get_or_append_left (map value new) (map value rest) (pos 0) (i - from) inside ∙ (more (i - from) (omega arith) ∙ ap item place))
     ]
 
+-- an element behind a part that was written
+part_behind : {X : Type 0} (value : X → ℤ) (n i : ℕ) (xs : List X) → n ≤ i → get_or (map value xs) i (pos 0) ≡ get_or (map value (drop n xs)) (i - n) (pos 0)
+part_behind value n i xs h =
+    let place : n + (i - n) ≡ i = omega arith in
+    ap (λ k. get_or (map value xs) k (pos 0)) (sym place) ∙ (sym (get_or-drop n (map value xs) (i - n) (pos 0)) ∙ ap (λ ys. get_or ys (i - n) (pos 0)) (drop-map value n xs))
+
+pub part_left : {X : Type 0} (value : X → ℤ) (before after : List X) (n i : ℕ) → drop n after ≡ drop n before → n ≤ i → get_or (map value after) i (pos 0) ≡ get_or (map value before) i (pos 0)
+part_left value before after n i same h = part_behind value n i after h ∙ (ap (λ xs. get_or (map value xs) (i - n) (pos 0)) same ∙ sym (part_behind value n i before h))
+
 -- an element of a part that was mapped
 pub part_mapped : {X : Type 0} (value : X → ℤ) (f : ℤ → ℤ) (xs new : List X) (from to k : ℕ) → to ≤ length xs → k < to - from → map value new ≡ map f (map value (take (to - from) (drop from xs))) → get_or (map value new) k (pos 0) ≡ f (get_or (map value xs) (from + k) (pos 0))
 part_mapped value f xs new from to k room h made =
@@ -134,32 +143,6 @@ part_mapped value f xs new from to k room h made =
     ∙ (get_or-map f (map value (take (to - from) (drop from xs))) k (pos 0) (pos 0) (omega arith)
     ∙ ap f (ap (λ ys. get_or ys k (pos 0)) (sym (take-map value (to - from) (drop from xs)) ∙ ap (take (to - from)) (sym (drop-map value from xs)))
     ∙ (get_or-take (to - from) (drop from (map value xs)) k (pos 0) h ∙ get_or-drop from (map value xs) k (pos 0))))
-
--- the slots that were made, chunk by chunk, of items that are no nulls
-pub chunks_made : {X : Type 0} (value : X → ℤ) (ptype : PType) (references : List ℤ) (xs new : List X) → length new ≡ length xs
-    → ((j : ℕ) → j < length xs → get_or (map value new) j (pos 0) ≡ wrap ptype (get_or (map value xs) j (pos 0) -ℤ get_or references (j / 1024) (pos 0)))
-    → map value new ≡ chunked_slots ptype references (all_valid (map value xs))
-chunks_made value ptype references xs new long made =
-    let all = all_valid (map value xs) in
-    let slot : ℕ → ℤ = λ i. minus_reference ptype (get_or references (i / 1024) (pos 0)) (get_or all i None) in
-    let count : length all ≡ length xs = length-map (map value xs) (λ z. Some z) ∙ length-map xs value in
-    let left : length (map value new) ≡ length xs = length-map new value ∙ long in
-    let right : length (tabulate slot (length all)) ≡ length xs = length-table slot (length all) ∙ count in
-    same_lists (map value new) (tabulate slot (length all)) (left ∙ sym right)
-    (λ k d h.
-    let inside : k < length xs = omega arith in
-    let here : get_or all k None ≡ Some (get_or (map value xs) k (pos 0)) = get_or-map (λ z. Some z) (map value xs) k (pos 0) None (rw length-map inside) in
-    get_or_default (map value new) k d (pos 0) h ∙ (made k inside ∙ sym (get_or-table slot (length all) k d (omega arith) ∙ ap (minus_reference ptype (get_or references (k / 1024) (pos 0))) here)))
-
-pub full_chunks : {X : Type 0} (value : X → ℤ) (ptype : PType) (references : List ℤ) (v : Validity) (xs new : List X) → (v ≡ valid.NonNullable) ⊎ (v ≡ valid.AllValid) → map value new ≡ chunked_slots ptype references (all_valid (map value xs))
-    → map value new ≡ chunked_slots ptype references (items_of v (map value xs))
-full_chunks value ptype references v xs new full made = made ∙ ap (chunked_slots ptype references) (sym (full_items v (map value xs) full))
-
-pub chunks_long : {X : Type 0} (value : X → ℤ) (ptype : PType) (references : List ℤ) (xs new : List X) → map value new ≡ chunked_slots ptype references (all_valid (map value xs)) → length new ≡ length xs
-chunks_long value ptype references xs new made =
-    let all = all_valid (map value xs) in
-    length_of_values value new (chunked_slots ptype references all) made
-    ∙ (length-table (λ i. minus_reference ptype (get_or references (i / 1024) (pos 0)) (get_or all i None)) (length all) ∙ (length-map (map value xs) (λ z. Some z) ∙ length-map xs value))
 
 -- the sums that were made, chunk by chunk
 pub sums_made : {X : Type 0} (value : X → ℤ) (ptype : PType) (references : List ℤ) (offset : ℕ) (xs new : List X) → length new ≡ length xs
@@ -197,31 +180,6 @@ chunks_next value f xs part old new k part_is before added =
     let both : take (1024 * (k + 1)) xs ≡ take (1024 * k) xs ++ part = ap (λ (n : ℕ). take n xs) sum ∙ (take-add (1024 * k) 1024 xs ∙ ap (λ ys. take (1024 * k) xs ++ ys) (sym (part_is ∙ next))) in
     let values : map f (map value (take (1024 * (k + 1)) xs)) ≡ map f (map value (take (1024 * k) xs)) ++ map f (map value part) = ap (λ ys. map f (map value ys)) both ∙ (ap (map f) (map-append value (take (1024 * k) xs) part) ∙ map-append f (map value (take (1024 * k) xs)) (map value part)) in
     rw (values, ← before) added
-
--- an element of the slots that are added for a chunk
-pub chunk_added : {X : Type 0} (value : X → ℤ) (f : ℤ → ℤ) (xs part old new : List X) (k j : ℕ) → part ≡ chunk k xs → length old ≡ 1024 * k → 1024 * k ≤ j → j < 1024 * (k + 1) → j < length xs → map value new ≡ map value old ++ map f (map value part)
-    → get_or (map value new) j (pos 0) ≡ f (get_or (map value xs) j (pos 0))
-chunk_added value f xs part old new k j part_is long from to within added =
-    let place : 1024 * k + (j - 1024 * k) ≡ j = omega arith in
-    let rest = length-drop (1024 * k) xs in
-    let taken = length-take (1024 * (k + 1) - 1024 * k) (drop (1024 * k) xs) in
-    let size : j - 1024 * k < length part = omega (arith, ap length part_is) in
-    let old_too : length (map value old) ≡ 1024 * k = length-map old value ∙ long in
-    let values = length-map part value in
-    let read : get_or (map value part) (j - 1024 * k) (pos 0) ≡ get_or (map value xs) j (pos 0) =
-    ap (λ ys. get_or (map value ys) (j - 1024 * k) (pos 0)) part_is
-    ∙ (ap (λ ys. get_or ys (j - 1024 * k) (pos 0)) (sym (take-map value (1024 * (k + 1) - 1024 * k) (drop (1024 * k) xs)) ∙ ap (take (1024 * (k + 1) - 1024 * k)) (sym (drop-map value (1024 * k) xs)))
-    ∙ (get_or-take (1024 * (k + 1) - 1024 * k) (drop (1024 * k) (map value xs)) (j - 1024 * k) (pos 0) (omega arith) ∙ (get_or-drop (1024 * k) (map value xs) (j - 1024 * k) (pos 0) ∙ ap (λ i. get_or (map value xs) i (pos 0)) place))) in
-    ap (λ ys. get_or ys j (pos 0)) added
-    ∙ (get_or-append_right (map value old) (map f (map value part)) (1024 * k) j (pos 0) old_too from
-    ∙ (get_or-map f (map value part) (j - 1024 * k) (pos 0) (pos 0) (omega arith) ∙ ap f read))
-
--- one of the slots before them
-pub chunk_kept : {X : Type 0} (value : X → ℤ) (more : List ℤ) (old new : List X) (j : ℕ) → j < length old → map value new ≡ map value old ++ more → get_or (map value new) j (pos 0) ≡ get_or (map value old) j (pos 0)
-chunk_kept value more old new j within added = ap (λ ys. get_or ys j (pos 0)) added ∙ get_or_append_left (map value old) more (pos 0) j (rw length-map within)
-
-pub added_long : {X : Type 0} (value : X → ℤ) (f : ℤ → ℤ) (part old new : List X) → map value new ≡ map value old ++ map f (map value part) → length new ≡ length old + length part
-added_long value f part old new added = omega (arith, length-map new value, length-map old value, length-map part value, length-map (map value part) f, ap length added, length-append (map value old) (map f (map value part)))
 
 -- slots that a table gives, and those that are added behind them
 pub tables_join : (slot added : ℕ → ℤ) (start end n : ℕ) (old new : List ℤ) → start ≤ end → n ≡ end - start → ((i : ℕ) → start ≤ i → i < end → slot i ≡ added (i - start)) → old ≡ tabulate slot start → new ≡ old ++ tabulate added n → new ≡ tabulate slot end

@@ -1,5 +1,5 @@
 -- Columns that run values, run indices and run offsets make, and when they make one.
-use Rattle.std.specs.Prelude.{◌+◌, ◌-◌, ◌*◌, ◌/◌, ◌%◌, ◌<◌, ◌≤◌, ◌==◌, ◌&&◌, ◌||◌, ℕ, ℤ, pos, Bool, not, List, length, IsTrue, Option, Some, None, option_map, unwrap_or, unsigned_abs, slice_index, slice_index_or, nat_le, nat_lt, if◌then◌else◌}
+use Rattle.std.specs.Prelude.{◌≡◌, ◌+◌, ◌-◌, ◌*◌, ◌/◌, ◌%◌, ◌<◌, ◌≤◌, ◌==◌, ◌&&◌, ◌||◌, ℕ, ℤ, pos, Bool, not, List, length, IfSome, IsTrue, Option, Some, None, option_map, unwrap_or, unsigned_abs, slice_index, slice_index_or, nat_le, nat_lt, if◌then◌else◌}
 use Rattle.std.specs.List.{list_all, range_with_len}
 use Rattle.fl_types.specs.declared.dtype.PType.{PType}
 use Rattle.fl_types.specs.declared.dtype.PType.TheVariants.{U8, U16}
@@ -36,6 +36,10 @@ run_column parts offset len = record {
   dtype = Primitive parts.values.ptype (nullability_of parts.indices.validity);
   items = tabulate (λ i. run_item parts.values.slots (items_of_primitive parts.indices) (run_offsets_of parts) (offset + i)) len;
 }
+
+-- the first n integers are the items that runs show from an offset on, except at the places of nulls
+abbrev pub HoldsRunItems : List ℤ → List (Option ℤ) → List ℕ → ℕ → ℕ → List ℤ → Type 0
+HoldsRunItems values indices offsets offset n integers = (i : ℕ) → i < n → IfSome (run_item values indices offsets (offset + i)) (λ z. slice_index_or integers i (pos 0) ≡ z)
 
 -- ---- what runs must be
 -- where the run values of chunk k, among this many, end: at the next chunk's start, or at the end of all

@@ -15,7 +15,7 @@ use fl_column::PhysicalPType;
 use fl_types::laws::integer_is_in_range;
 use fl_types::{BitList, NativePType, Validity};
 
-/// Writes the patterns of chunk `k`, which has 1024 items none of which is null, and gives its last item.
+/// Writes the patterns of chunk `k`, which has 1024 items none of which is null, and returns its last item.
 fn fill_whole_chunk<T: PhysicalPType>(
     items: &[T],
     k: usize,
@@ -38,7 +38,7 @@ fn fill_whole_chunk<T: PhysicalPType>(
     last
 }
 
-/// Writes the patterns of chunk `k`, whose items may be null or end in it, and gives its last item.
+/// Writes the patterns of chunk `k`, whose items may be null or end in it, and returns its last item.
 fn fill_any_chunk<T: PhysicalPType>(
     items: &[T],
     validity: &Validity,
@@ -140,7 +140,7 @@ fn fill_chunk_by_words<T: PhysicalPType>(
     last
 }
 
-/// Writes the patterns of chunk `k` of a column to `block`, and gives its last item. A null, and
+/// Writes the patterns of chunk `k` of a column to `block`, and returns its last item. A null, and
 /// each position past the end of a short chunk, repeats the item before it, the first of them
 /// `before`.
 pub fn fill_chunk<T: PhysicalPType>(

@@ -1,11 +1,14 @@
-//! Frames of reference: columns that are kept less a reference, the least item of the whole or of
+//! Frames of reference: columns stored as differences from a reference, the minimum of the column or of
 //! each chunk of 1024.
 
+mod by_guess;
+pub mod delta_leasts;
+pub mod in_place;
 pub mod single_items;
 mod with_nulls;
 mod without_nulls;
 
-ghost use Rattle.std.specs.Prelude.{◌≡◌, ◌<◌, ◌≤◌, ◌+◌, ◌*◌, ◌%◌, ◌+ℤ◌, ◌^◌, ◌&&◌, ℤ, pos, List, IsTrue, IfSome, IfOk, Ok, Some, None, length, map, option_map, unwrap_or, slice_index_or, is_none};
+ghost use Rattle.std.specs.Prelude.{◌≡◌, ◌<◌, ◌≤◌, ◌+◌, ◌*◌, ◌%◌, ◌+ℤ◌, ◌^◌, ◌&&◌, ℕ, ℤ, min, OnOk, pos, List, IsTrue, IfSome, IfOk, Ok, Some, None, length, map, option_map, unwrap_or, slice_index_or, is_none};
 ghost use Rattle.std.specs.List.{list_all};
 ghost use Rattle.fl_types.specs.Bits.{between, tabulate};
 ghost use Rattle.fl_types.specs.Integers.{fits, wrap};
@@ -16,14 +19,15 @@ ghost use Rattle.fl_column.specs.Columns.{column_of_primitive};
 ghost use Rattle.fl_codec.specs.Chunks.{chunk, chunks_of};
 ghost use Rattle.fl_codec.specs.ForwardFill.{first_some};
 ghost use Rattle.fl_codec.specs.FoRColumns.{chunk_leasts, chunk_references, chunked_for, chunked_slots, chunked_sums, common_reference, global_for, least_by, least_valid, minus_reference, origin_of, reading, reference_of_chunk, turned};
-ghost use Rattle.fl_codec.specs.Parts.{Nulls, encode_chunked, encode_chunked_by, encode_global, encode_global_by, for_parts, global_parts, items_of_primitive, less_chunk_leasts, subtract_reference, less_references, null_constant, reference_scalar};
+ghost use Rattle.fl_codec.specs.Parts.{Nulls, encode_chunked, encode_chunked_by, encode_global, encode_global_by, for_parts, global_parts, items_of_primitive, less_chunk_leasts, subtract_reference, null_constant, reference_scalar};
 
 use crate::chunks::{chunk_count, chunk_end};
+use crate::for_::by_guess::guess_least;
 use crate::for_::without_nulls::{chunked_sums, least_of, sums};
 use crate::plain::{non_nullable, under_validity_of};
 use fastlanes::FL_CHUNK_SIZE;
 use fl_column::laws::stored_integers_are_in_range;
-use fl_column::{ConstantArray, PrimitiveArray};
+use fl_column::{ConstantArray, PrimitiveArray, chunk_of};
 use fl_types::{
     FastLanesError, NativePType, Nullability, PType, PValue, Scalar, Validity, is_equal,
     match_each_integer_ptype,
@@ -31,16 +35,16 @@ use fl_types::{
 use num_traits::{WrappingAdd, WrappingSub};
 use std::alloc::{AllocError, Global};
 
-/// A column less one reference.
+/// A column minus one reference.
 #[derive(Drop)]
 pub struct GlobalFoR {
     /// The differences, 0 under a null; the column's validity.
     pub child: PrimitiveArray,
-    /// The reference, whose type isn't nullable.
+    /// The reference, of a non-nullable type.
     pub reference: Scalar,
 }
 
-/// A column less its references.
+/// A column minus its references.
 #[derive(Drop)]
 pub enum EncodedFoR {
     /// All chunks have one reference.
@@ -48,11 +52,11 @@ pub enum EncodedFoR {
     /// The differences, 0 under a null, and the reference of each chunk of 1024, none of which may
     /// be null.
     Chunked(PrimitiveArray, PrimitiveArray),
-    /// Nothing but nulls, and the reference 0.
+    /// All items are null; the reference is 0.
     Nulls(ConstantArray, Scalar),
 }
 
-/// In which order the least item is looked for, which is the reference.
+/// The order by which the minimum, the reference, is chosen.
 #[derive(Clone, Copy, Debug, PartialEq, Eq)]
 pub enum ItemOrder {
     /// That of the integers.
@@ -80,7 +84,7 @@ fn sign_bit(ptype: PType) -> PValue
 }
 
 /// What is subtracted from integers so that their order becomes the natural one.
-fn origin_of<T: NativePType>(order: ItemOrder) -> T
+pub(crate) fn origin_of<T: NativePType>(order: ItemOrder) -> T
     ensures { T.value result ≡ origin_of order T.PTYPE }
 {
     match order {
@@ -89,8 +93,8 @@ fn origin_of<T: NativePType>(order: ItemOrder) -> T
     }
 }
 
-/// An item less an origin, modulo 2 to the type's bits. A null stays a null.
-fn turned<T: NativePType + WrappingSub>(item: Option<T>, origin: T) -> Option<T>
+/// An item minus an origin, modulo 2 to the type's bits. Nulls stay null.
+pub(crate) fn turned<T: NativePType + WrappingSub>(item: Option<T>, origin: T) -> Option<T>
     ensures { option_map T.value result ≡ option_map (turned T.PTYPE (T.value origin)) (option_map T.value item) }
 {
     match item {
@@ -99,7 +103,7 @@ fn turned<T: NativePType + WrappingSub>(item: Option<T>, origin: T) -> Option<T>
     }
 }
 
-/// The least valid item from `start` to below `end`, each less an origin.
+/// The minimum of the valid items from `start` to below `end`, each minus an origin.
 fn least_turned_between<T: NativePType + WrappingSub>(
     items: &[T],
     validity: &Validity,
@@ -119,7 +123,7 @@ fn least_turned_between<T: NativePType + WrappingSub>(
     }
 }
 
-/// The least valid item from `start` to below `end`.
+/// The minimum of the valid items from `start` to below `end`.
 fn least_between<T: NativePType + WrappingSub>(
     items: &[T],
     validity: &Validity,
@@ -139,7 +143,7 @@ fn least_between<T: NativePType + WrappingSub>(
     turned(least, origin)
 }
 
-/// The least valid item of chunk `k`.
+/// The minimum of the valid items of chunk `k`.
 fn least_in_chunk<T: NativePType + WrappingSub>(
     items: &[T],
     validity: &Validity,
@@ -155,7 +159,7 @@ fn least_in_chunk<T: NativePType + WrappingSub>(
     least_between(items, validity, FL_CHUNK_SIZE * k, end, order)
 }
 
-/// The least valid item of the first chunk that has one.
+/// The minimum of the valid items of the first chunk that has one.
 fn first_least<T: NativePType + WrappingSub>(
     items: &[T],
     validity: &Validity,
@@ -195,7 +199,7 @@ fn chunk_references<T: NativePType + WrappingSub>(
     Ok(references)
 }
 
-/// The least valid item of a column by an order, if it has one: the reference of `encode_by`.
+/// The minimum of the valid items of a column by an order, if it has one: the reference of `encode_by`.
 pub fn least_item<T: NativePType + WrappingSub>(
     array: &PrimitiveArray,
     order: ItemOrder,
@@ -208,7 +212,7 @@ pub fn least_item<T: NativePType + WrappingSub>(
     least_between(items, array.validity(), 0, items.len(), order)
 }
 
-/// The reference of each chunk of a column by an order: the least valid item of the chunk. A chunk of nulls repeats
+/// The reference of each chunk of a column by an order: the minimum of the chunk's valid items. A chunk of nulls repeats
 /// the reference before it, and the leading ones take that of the first chunk that has an item.
 pub fn references_of<T: NativePType + WrappingSub>(
     alloc: Global,
@@ -238,7 +242,7 @@ pub fn common_reference<T: NativePType>(references: &[T]) -> Option<T>
     Some(first)
 }
 
-/// The slots of the items less a reference.
+/// The slots of the items minus a reference.
 fn differences<T: NativePType + WrappingSub>(
     alloc: Global,
     items: &[T],
@@ -257,27 +261,80 @@ fn differences<T: NativePType + WrappingSub>(
     }
 }
 
-/// The slots of the items, each less the reference of its chunk.
-fn chunked_differences<T: NativePType + WrappingSub>(
-    alloc: Global,
+/// Appends the slots of chunk `k`, each minus a reference, to those of the chunks before it.
+fn push_chunk<T: NativePType + WrappingSub>(
     items: &[T],
     validity: &Validity,
-    references: &[T],
-) -> Result<Vec<T>, AllocError>
+    k: usize,
+    reference: T,
+    slots: &mut Vec<T>,
+) -> Result<(), AllocError>
     requires covers { IsTrue (covers validity.now (length items.now)) }
-    requires references { length references.now ≡ chunks_of (length items.now) }
-    ensures long { IfOk result (λ v. length v.items ≡ length items.now) }
-    ensures slots { IfOk result (λ v. map T.value v.items ≡ chunked_slots T.PTYPE (map T.value references.now) (items_of validity.now (map T.value items.now))) }
+    requires chunk { k < chunks_of (length items.now) }
+    requires start { length slots.old.items ≡ 1024 * k }
+    ensures { OnOk result ((slot : ℕ → ℤ) → ((i : ℕ) → 1024 * k ≤ i → i < min (1024 * (k + 1)) (length items.now) → slot i ≡ minus_reference T.PTYPE (T.value reference) (slice_index_or (items_of validity.now (map T.value items.now)) i None)) → map T.value slots.old.items ≡ tabulate slot (1024 * k) → map T.value slots.new.items ≡ tabulate slot (min (1024 * (k + 1)) (length items.now))) }
 {
     match validity {
         Validity::NonNullable | Validity::AllValid => {
-            without_nulls::chunked_differences(alloc, items, references)
+            without_nulls::push_differences(chunk_of(items, k), reference, slots)
         }
-        _ => with_nulls::chunked_differences(alloc, items, validity, references),
+        _ => {
+            let end = chunk_end(k, items.len());
+            with_nulls::push_differences(items, validity, end, reference, slots)
+        }
     }
 }
 
-/// The array less one reference.
+/// The reference of each chunk, and the slots of the items, each minus the reference of its chunk. The slots of a chunk
+/// are made while its items are in the cache.
+fn less_leasts<T: NativePType + WrappingSub>(
+    alloc: Global,
+    items: &[T],
+    validity: &Validity,
+    order: ItemOrder,
+) -> Result<(Vec<T>, Vec<T>), AllocError>
+    requires covers { IsTrue (covers validity.now (length items.now)) }
+    requires fit { IsTrue (list_all (fits T.PTYPE) (map T.value items.now)) }
+    ensures references { IfOk result (λ r. map T.value r.0.items ≡ chunk_references (reading order T.PTYPE) (items_of validity.now (map T.value items.now))) }
+    ensures slots { IfOk result (λ r. map T.value r.1.items ≡ chunked_slots T.PTYPE (chunk_references (reading order T.PTYPE) (items_of validity.now (map T.value items.now))) (items_of validity.now (map T.value items.now))) }
+{
+    let chunks = chunk_count(items.len());
+    let mut references = Vec::with_capacity(alloc, chunks)?;
+    let mut slots = Vec::with_capacity(alloc, items.len())?;
+    let mut reference = first_least(items, validity, order).unwrap_or(T::zero());
+    for k in 0..chunks {
+        reference = least_in_chunk(items, validity, k, order).unwrap_or(reference);
+        references.push(reference)?;
+        push_chunk(items, validity, k, reference, &mut slots)?;
+    }
+    Ok((references, slots))
+}
+
+/// A column minus one reference, by its differences.
+fn over_reference<T: NativePType>(child: PrimitiveArray, reference: T) -> GlobalFoR
+    ensures { global_parts result ≡ record { child = child; reference = reference_scalar T.PTYPE (T.value reference) } }
+{
+    let reference = Scalar::primitive(reference.into_pvalue(), Nullability::NonNullable);
+    GlobalFoR { child, reference }
+}
+
+/// The array minus one reference, by its differences.
+fn over_differences<T: NativePType>(
+    alloc: Global,
+    array: &PrimitiveArray,
+    slots: Vec<T>,
+    reference: T,
+) -> Result<GlobalFoR, FastLanesError>
+    requires typed { array.now.ptype ≡ T.PTYPE }
+    requires slots { map T.value slots.items ≡ map (minus_reference T.PTYPE (T.value reference)) (items_of_primitive array.now) }
+    ensures { Answers global_parts result (Ok (subtract_reference array.now (T.value reference))) }
+{
+    let _validity = array.validity();
+    let child = under_validity_of(alloc, array, slots)?;
+    Ok(over_reference(child, reference))
+}
+
+/// The array minus one reference.
 fn subtract_reference<T: NativePType + WrappingSub>(
     alloc: Global,
     array: &PrimitiveArray,
@@ -287,28 +344,11 @@ fn subtract_reference<T: NativePType + WrappingSub>(
     ensures { Answers global_parts result (Ok (subtract_reference array.now (T.value reference))) }
 {
     let slots = differences(alloc, array.as_slice::<T>(), array.validity(), reference)?;
-    let child = under_validity_of(alloc, array, slots)?;
-    let reference = Scalar::primitive(reference.into_pvalue(), Nullability::NonNullable);
-    Ok(GlobalFoR { child, reference })
+    over_differences(alloc, array, slots, reference)
 }
 
-/// The array less the references of its chunks.
-fn less_references<T: NativePType + WrappingSub>(
-    alloc: Global,
-    array: &PrimitiveArray,
-    references: Vec<T>,
-) -> Result<EncodedFoR, FastLanesError>
-    requires same { array.now.ptype ≡ T.PTYPE }
-    requires references { length references.items ≡ chunks_of (length array.now.slots) }
-    ensures { Answers for_parts result (Ok (less_references array.now (map T.value references.items))) }
-{
-    let items = array.as_slice::<T>();
-    let slots = chunked_differences(alloc, items, array.validity(), &references)?;
-    let child = under_validity_of(alloc, array, slots)?;
-    Ok(EncodedFoR::Chunked(child, non_nullable(references)))
-}
-
-fn encode_typed<T: NativePType + WrappingSub>(
+/// The array minus its minimum by an order, in two passes.
+fn encode_by_least<T: NativePType + WrappingSub>(
     alloc: Global,
     array: &PrimitiveArray,
     order: ItemOrder,
@@ -322,7 +362,40 @@ fn encode_typed<T: NativePType + WrappingSub>(
     }
 }
 
-/// The column less its least valid item by an order.
+/// The array minus its minimum by an order, in one pass if that is what is guessed.
+fn encode_by_guess<T: NativePType + WrappingSub>(
+    alloc: Global,
+    array: &PrimitiveArray,
+    order: ItemOrder,
+    guess: T,
+) -> Result<GlobalFoR, FastLanesError>
+    requires { array.now.ptype ≡ T.PTYPE }
+    ensures { Answers global_parts result (encode_global_by order array.now) }
+{
+    stored_integers_are_in_range(array);
+    let items = array.as_slice::<T>();
+    match by_guess::differences(alloc, items, array.validity(), order, guess)? {
+        Some(slots) => over_differences(alloc, array, slots, guess),
+        None => encode_by_least::<T>(alloc, array, order),
+    }
+}
+
+fn encode_typed<T: NativePType + WrappingSub>(
+    alloc: Global,
+    array: &PrimitiveArray,
+    order: ItemOrder,
+) -> Result<GlobalFoR, FastLanesError>
+    requires { array.now.ptype ≡ T.PTYPE }
+    ensures { Answers global_parts result (encode_global_by order array.now) }
+{
+    stored_integers_are_in_range(array);
+    match guess_least(array.as_slice::<T>(), array.validity(), order) {
+        Some(guess) => encode_by_guess(alloc, array, order, guess),
+        None => encode_by_least::<T>(alloc, array, order),
+    }
+}
+
+/// The column minus its minimum by an order.
 ///
 /// # Errors
 /// `NoMinimum` where the column has no valid item.
@@ -336,7 +409,7 @@ pub fn encode_by(
     match_each_integer_ptype!(array.ptype(), encode_typed(alloc, array, order))
 }
 
-/// The column less its least valid item.
+/// The column minus its minimum.
 ///
 /// # Errors
 /// `NoMinimum` where the column has no valid item.
@@ -377,10 +450,12 @@ fn encode_chunks<T: NativePType + WrappingSub>(
     ensures { Answers for_parts result (Ok (less_chunk_leasts order array.now)) }
 {
     stored_integers_are_in_range(array);
-    let references = chunk_references(alloc, array.as_slice::<T>(), array.validity(), order)?;
+    let items = array.as_slice::<T>();
+    let (references, slots) = less_leasts(alloc, items, array.validity(), order)?;
+    let child = under_validity_of(alloc, array, slots)?;
     match common_reference(&references) {
-        Some(reference) => Ok(EncodedFoR::Global(subtract_reference(alloc, array, reference)?)),
-        None => less_references(alloc, array, references),
+        Some(reference) => Ok(EncodedFoR::Global(over_reference(child, reference))),
+        None => Ok(EncodedFoR::Chunked(child, non_nullable(references))),
     }
 }
 
@@ -400,7 +475,7 @@ fn encode_chunked_typed<T: NativePType + WrappingSub>(
     }
 }
 
-/// The column less the least valid item of each chunk of 1024, by an order. A chunk of nulls repeats
+/// The column minus the minimum of each chunk of 1024, by an order. A chunk of nulls repeats
 /// the reference before it, and the leading ones take that of the first chunk that has an item.
 ///
 /// Where all chunks have one reference, as in a column of one chunk, it is global; it is 0 in an
@@ -416,7 +491,7 @@ pub fn encode_chunked_by(
     match_each_integer_ptype!(array.ptype(), encode_chunked_typed(alloc, array, order))
 }
 
-/// The column less the least valid item of each chunk of 1024, as `encode_chunked_by` makes it in the
+/// The column minus the minimum of each chunk of 1024, as `encode_chunked_by` makes it in the
 /// natural order.
 pub fn encode_chunked(alloc: Global, array: &PrimitiveArray) -> Result<EncodedFoR, FastLanesError>
     ensures { Answers for_parts result (Ok (encode_chunked array.now)) }
@@ -439,7 +514,7 @@ fn decode_typed<T: NativePType + WrappingAdd>(
 }
 
 /// The column of a global FoR: each item of the child plus the reference, modulo 2 to the type's
-/// bits. A null stays a null.
+/// bits. Nulls stay null.
 ///
 /// The reference has the child's type.
 pub fn decode(
@@ -473,7 +548,7 @@ fn decode_chunked_typed<T: NativePType + WrappingAdd>(
 }
 
 /// The column of a chunked FoR: item `i` of the child plus the reference of chunk
-/// `(offset + i) / 1024`, modulo 2 to the type's bits. A null stays a null.
+/// `(offset + i) / 1024`, modulo 2 to the type's bits. Nulls stay null.
 ///
 /// The references have the child's type, and there is one for each chunk. `offset` is the position
 /// of the first item in its chunk.

@@ -1,4 +1,4 @@
-//! What holds of every column: its encoded parts give it back.
+//! Each column is what its encoded parts decode to.
 
 ghost use Rattle.std.specs.Prelude.{◌≡◌, length, None, Ok};
 ghost use Rattle.fl_column.specs.Columns.{column_of_primitive};
@@ -11,7 +11,7 @@ use crate::for_::ItemOrder;
 use fl_column::PrimitiveArray;
 use fl_column::laws::stored_integers_are_in_range;
 
-/// A column less its least item is the column again with that item added.
+/// A column minus its minimum is the column again with that item added.
 pub fn global_for_and_back(array: &PrimitiveArray)
     ensures { (parts : OneReference) → encode_global array.now ≡ Ok parts → column_of_one_reference parts ≡ column_of_primitive array.now }
 {
@@ -27,7 +27,7 @@ pub fn global_for_by_and_back(array: &PrimitiveArray, order: ItemOrder)
     let (_order, _validity) = (order, array.validity());
 }
 
-/// A column less the least items of its chunks is the column again with those items added.
+/// A column minus the minimum of its chunks is the column again with those items added.
 pub fn chunked_for_and_back(array: &PrimitiveArray)
     ensures { column_of_for (encode_chunked array.now) ≡ column_of_primitive array.now }
 {
@@ -51,7 +51,7 @@ pub fn deltas_and_back(array: &PrimitiveArray)
     let _validity = array.validity();
 }
 
-/// The runs of a column are well-formed, and give it back.
+/// The runs of a column are well-formed, and decode to it.
 #[tactic(auto, using(crate::proofs::RunRoundTrips::runs_back, crate::proofs::RunRoundTrips::runs_well))]
 pub fn runs_and_back(array: &PrimitiveArray)
     ensures sound { runs_refusal (encode_runs array.now) 0 (length array.now.slots) ≡ None }

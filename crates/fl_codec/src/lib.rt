@@ -2,6 +2,7 @@
 //! encoding (`rle`).
 #![tactic(auto)]
 
+mod block_items;
 mod chunks;
 pub mod delta;
 pub mod fill_forward;

@@ -1,4 +1,4 @@
-//! Plain arrays that encoders make.
+//! Plain arrays made by encoders.
 
 ghost use Rattle.std.specs.Prelude.{◌≡◌, IsTrue, Ok, length, map};
 ghost use Rattle.fl_types.specs.Refusals.{Answers};
@@ -9,7 +9,7 @@ use fl_column::PrimitiveArray;
 use fl_types::{FastLanesError, NativePType, Validity};
 use std::alloc::Global;
 
-/// These slots under the validity of an array of as many.
+/// These stored integers under the validity of an array of as many.
 pub(crate) fn under_validity_of<T: NativePType>(
     alloc: Global,
     array: &PrimitiveArray,
@@ -21,14 +21,14 @@ pub(crate) fn under_validity_of<T: NativePType>(
     under_validity(alloc, array.validity(), slots)
 }
 
-/// These slots, none of which may be null.
+/// These stored integers, as a non-nullable array.
 pub(crate) fn non_nullable<T: NativePType>(slots: Vec<T>) -> PrimitiveArray
     ensures { result ≡ non_nullable T.PTYPE (map T.value slots.items) }
 {
     PrimitiveArray::new(slots, Validity::NonNullable).unwrap()
 }
 
-/// These slots under a validity that has a bit for each.
+/// These stored integers under a validity that has a bit for each.
 pub(crate) fn under_validity<T: NativePType>(
     alloc: Global,
     validity: &Validity,
@@ -41,7 +41,7 @@ pub(crate) fn under_validity<T: NativePType>(
     Ok(with_validity(slots, validity))
 }
 
-/// These slots under a validity of their own, which has a bit for each.
+/// These stored integers under a validity of their own, which has a bit for each.
 pub(crate) fn with_validity<T: NativePType>(slots: Vec<T>, validity: Validity) -> PrimitiveArray
     requires { IsTrue (covers validity (length slots.items)) }
     ensures { result ≡ record { ptype = T.PTYPE; slots = map T.value slots.items; validity = validity } }

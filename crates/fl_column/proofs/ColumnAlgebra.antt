@@ -7,7 +7,7 @@ use Rattle.fl_types.specs.Bits.{between}
 use Rattle.fl_column.specs.Columns.{Column, option_all}
 use Rattle.fl_types.specs.Integers.{fits}
 use Rattle.fl_column.specs.Operations.{cast_column, is_in_range, item_named, moved, slice_of, take_of}
-use Rattle.fl_column.specs.Questions.{scalar_in}
+use Rattle.fl_column.specs.Queries.{scalar_in}
 use Rattle.fl_column.proofs.ListLaws.{and_first, and_second}
 use Rattle.fl_types.specs.Types.{can_be_null, either_nullable, is_integer, nullability_in, with_nullability}
 use Rattle.fl_types.specs.declared.dtype.DType.{DType}

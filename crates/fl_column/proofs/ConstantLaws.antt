@@ -26,8 +26,8 @@ use Rattle.fl_column.proofs.SelectionLaws.{range_within, ok_positions, taken_bel
 use Rattle.fl_types.proofs.MaskLaws.{length-mask_bits}
 use Rattle.std.proofs.lemmas.Bool.Decides.{Decides-int_eq, Decides-ltb, nat_tests}
 use Rattle.std.proofs.lemmas.Int.{ints}
-use Rattle.fl_column.specs.Questions.{are_constant, are_sorted, are_strictly_sorted, is_below, same_item}
-use Rattle.fl_column.proofs.QuestionLaws.{constant_from_first}
+use Rattle.fl_column.specs.Queries.{are_constant, are_sorted, are_strictly_sorted, is_below, same_item}
+use Rattle.fl_column.proofs.QueryLaws.{constant_from_first}
 
 same_as_itself : (x : Option ℤ) → same_item x x ≡ true
 same_as_itself None = refl

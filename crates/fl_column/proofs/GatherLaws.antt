@@ -17,11 +17,11 @@ use Rattle.fl_types.specs.declared.error.FastLanesError.TheVariants.{IndexOutOfB
 use Rattle.fl_types.specs.declared.validity.Validity.{Validity}
 use Rattle.fl_column.specs.Columns.{PrimitiveParts, column_of_primitive}
 use Rattle.fl_column.specs.Operations.{is_in_range, kept, range_fits}
-use Rattle.fl_column.specs.Questions.{each_next}
+use Rattle.fl_column.specs.Queries.{each_next}
 use Rattle.fl_column.specs.Selections.{is_below_length, are_below_length, item_at_position, items_at, positions_in}
 use Rattle.fl_column.proofs.ItemLaws.{length-items_of, map_read}
 use Rattle.fl_column.proofs.ListLaws.{all_at, all_fails, all_first, all_kept, all_more, between_more, kept_no, kept_yes}
-use Rattle.fl_column.proofs.QuestionLaws.{next_fails, next_holds}
+use Rattle.fl_column.proofs.QueryLaws.{next_fails, next_holds}
 use Rattle.fl_column.proofs.SelectionLaws.{all_positions, range_within, stands}
 use Rattle.std.proofs.lemmas.Option.{get_or_from_slice_get}
 

@@ -14,7 +14,7 @@ pub mod NamedBitLaws
 pub mod NamedLaws
 pub mod NumberLaws
 pub mod PatternLaws
-pub mod QuestionLaws
+pub mod QueryLaws
 pub mod RangeLaws
 pub mod SelectionLaws
 pub mod SimplestLaws

@@ -13,5 +13,5 @@ pub mod Chunks
 pub mod Columns
 pub mod Numbers
 pub mod Operations
-pub mod Questions
+pub mod Queries
 pub mod Selections

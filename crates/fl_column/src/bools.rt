@@ -7,7 +7,7 @@ ghost use Rattle.fl_types.specs.Validities.{covers};
 ghost use Rattle.fl_types.specs.Values.{scalar_parts};
 ghost use Rattle.fl_column.specs.Columns.{column_of_bools, new_bools, slice_bools, bools};
 ghost use Rattle.fl_column.specs.Operations.{slice_of};
-ghost use Rattle.fl_column.specs.Questions.{scalar_in};
+ghost use Rattle.fl_column.specs.Queries.{scalar_in};
 ghost use Rattle.fl_types.specs.Refusals.{Answers};
 
 use fl_types::{BitList, DType, FastLanesError, Scalar, Validity};
@@ -92,6 +92,14 @@ impl BoolArray {
         ensures { result.now ≡ self.now.bits }
     {
         &self.bits
+    }
+
+    /// The booleans as the caller's own, also those under a null.
+    pub fn into_bits(self) -> BitList
+        ensures { result ≡ self.bits }
+    {
+        let BoolArray { bits, validity: _ } = self;
+        bits
     }
 
     /// The item at an index, or `None` for a null.

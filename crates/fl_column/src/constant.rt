@@ -8,7 +8,7 @@ ghost use Rattle.fl_types.specs.Values.{scalar_parts, integer_of, ptype_of_value
 ghost use Rattle.fl_types.specs.declared.dtype.Nullability.TheVariants.{Nullable};
 ghost use Rattle.fl_column.specs.Columns.{column_of_constant, column_of_primitive, new_constant, validity_of_constant};
 ghost use Rattle.fl_column.specs.Operations.{slice_of};
-ghost use Rattle.fl_column.specs.Questions.{scalar_in};
+ghost use Rattle.fl_column.specs.Queries.{scalar_in};
 ghost use Rattle.fl_types.specs.Refusals.{Answers};
 
 use crate::constant::compute::{constant_of, zero_of};

@@ -4,7 +4,7 @@ ghost use Rattle.std.specs.Prelude.{◌≡◌, ◌+◌, ◌-◌, ◌<◌, ◌≤
 ghost use Rattle.std.specs.List.{list_all};
 ghost use Rattle.fl_column.specs.Columns.{Column, column_of_primitive, is_column};
 ghost use Rattle.fl_column.specs.Operations.{cast_column, is_in_range, item_named, moved, slice_of, take_of};
-ghost use Rattle.fl_column.specs.Questions.{scalar_in, holds, scalar_of_column};
+ghost use Rattle.fl_column.specs.Queries.{scalar_in, holds, scalar_of_column};
 ghost use Rattle.fl_types.specs.Integers.{fits};
 ghost use Rattle.fl_types.specs.declared.error.FastLanesError.TheVariants.{IndexOutOfBounds};
 ghost use Rattle.fl_types.specs.declared.query.CompareOperator.TheVariants.{Eq, NotEq};

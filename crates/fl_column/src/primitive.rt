@@ -7,7 +7,7 @@ ghost use Rattle.fl_types.specs.Values.{scalar_parts, integer_of, ptype_of_value
 ghost use Rattle.fl_column.specs.Columns.{column_of_primitive, new_primitive, non_nullable, primitive_of_options, slice_primitive, without_nulls};
 ghost use Rattle.fl_types.specs.Validities.{covers, nullability_of};
 ghost use Rattle.fl_column.specs.Operations.{slice_of};
-ghost use Rattle.fl_column.specs.Questions.{scalar_in};
+ghost use Rattle.fl_column.specs.Queries.{scalar_in};
 ghost use Rattle.fl_types.specs.Refusals.{Answers};
 
 use fl_types::{

@@ -27,7 +27,8 @@ use Rattle.fl_patches.proofs.Rising.{count-cons}
 use Rattle.fl_patches.proofs.Selected.{answered, same_maps}
 use Rattle.fl_patches.proofs.Sparse.{found_at, numbers_of_places, places_below, places_even, places_rise}
 use Rattle.fl_patches.specs.Exceptions.{exceptions_of, one_width}
-use Rattle.fl_patches.specs.PatchParts.{AreChunked, AreGathered, chunk_offsets_of, counts_before, exception_at, exception_patches, global_patches, patches_with}
+use Rattle.fl_patches.proofs.Gathers.{all_gathered}
+use Rattle.fl_patches.specs.PatchParts.{AreChunked, AreGathered, HasBlocks, chunk_offsets_of, counts_before, exception_at, exception_patches, global_patches, patches_with}
 use Rattle.fl_patches.proofs.Blocks.{get_or-exceptions, length-exceptions}
 
 -- ---- how many places stand before a chunk
@@ -138,7 +139,7 @@ exceptions_are index_type width_at p unsigned covered =
     same_maps (exception_patches index_type width_at p) (length p.slots) (λ j. get_or all j None) (exception_at width_at p) (λ i h. get_or-exceptions p.ptype width_at items i (omega (arith, length-exceptions p.ptype width_at items))) (subst of_len count are)
 
 -- the type of global indices
-one_more_type : (n : ℕ) → n < 2 ^ 64 → smallest_type (min (n + 1) (2 ^ 64 - 1)) ≡ smallest_type (n + 1)
+pub one_more_type : (n : ℕ) → n < 2 ^ 64 → smallest_type (min (n + 1) (2 ^ 64 - 1)) ≡ smallest_type (n + 1)
 one_more_type n room = elim (cases_lt (n + 1) (2 ^ 64)) [
   | inl fits ↦ (let same : min (n + 1) (2 ^ 64 - 1) ≡ n + 1 = omega arith in ap smallest_type same)
   | inr last ↦ (let most : n ≡ 2 ^ 64 - 1 = omega arith in rw most refl)
@@ -160,12 +161,10 @@ below_more (place ∷ places) len holds h below =
     and_from _ _ (le-leb place holds (omega arith)) (below_more places len holds h both.1)
 
 -- ---- what was found of an array
-pub found_of : {X : Type 0} (t : PType) (value : X → ℤ) (v w : Validity) (xs : List X) (slots : List ℤ) (width_at : ℕ → ℕ) (places : List ℕ) (values : List ℤ) (offsets : List ℕ) → map value xs ≡ slots → w ≡ v → IsTrue (covers v (length slots))
-    → AreGathered places values (exceptions_of t width_at (items_of w (map value xs))) → offsets ≡ counts_before (exceptions_of t width_at (items_of w (map value xs))) (chunk_count (length xs)) → AreChunked places values offsets (length slots)
-found_of t value v w xs slots width_at places values offsets same valid covered so counted =
-    let len : length xs ≡ length slots = sym (length-map xs value) ∙ ap length same in
-    let count : length (items_of w (map value xs)) ≡ length slots = (rw (same, valid) (length-items_of v slots covered)) in
-    found_chunked t width_at (items_of w (map value xs)) places values offsets (length xs) (length slots) so counted len count
+pub all_chunked : (t : PType) (v : Validity) (slots : List ℤ) (width_at : ℕ → ℕ) (places : List ℕ) (values : List ℤ) (offsets : List ℕ) → IsTrue (covers v (length slots))
+    → HasBlocks places values offsets (exceptions_of t width_at (items_of v slots)) (chunk_count (length slots)) → AreChunked places values offsets (length slots)
+all_chunked t v slots width_at places values offsets covered so =
+    found_chunked t width_at (items_of v slots) places values offsets (length slots) (length slots) (all_gathered t v slots width_at places values offsets covered so) so.counted refl (length-items_of v slots covered)
 
 -- they are the patches of the array
 pub found_patches : (p : PrimitiveParts) (t : PType) (w : Validity) (zs : List ℤ) (index_type : PType) (width_at : ℕ → ℕ) (places : List ℕ) (values : List ℤ) (r : Result (Option PatchesParts) FastLanesError) → p.ptype ≡ t → w ≡ p.validity → zs ≡ p.slots

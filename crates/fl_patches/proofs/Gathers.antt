@@ -109,7 +109,7 @@ gathered_nulls t w zs start end places values before so =
     get_or-map (exception t w) (between start end items) i None None within ∙ (ap (exception t w) item ∙ exception_gone t w zs (start + i))) so
 
 -- an item of a part, seen through its value
-read_part : {X : Type 0} (value : X → ℤ) (xs : List X) (start n i : ℕ) → i < n → get_or (map value (take n (drop start xs))) i (pos 0) ≡ get_or (map value xs) (start + i) (pos 0)
+pub read_part : {X : Type 0} (value : X → ℤ) (xs : List X) (start n i : ℕ) → i < n → get_or (map value (take n (drop start xs))) i (pos 0) ≡ get_or (map value xs) (start + i) (pos 0)
 read_part value xs start n i h =
     rw (← take-map, ← drop-map) (get_or-take n (drop start (map value xs)) i (pos 0) h ∙ get_or-drop start (map value xs) i (pos 0))
 
@@ -209,9 +209,9 @@ place_in_block widths block w i is low high = let same : i / 1024 ≡ block = om
 pub named_slice : {X : Type 0} (value : X → ℤ) (widths : Widths) (xs : List X) (slots : List ℤ) → map value xs ≡ slots → NamesAll widths (chunk_count (length slots)) → NamesAll widths (chunk_count (length xs))
 named_slice value widths xs slots same all = let len : length slots ≡ length xs = sym (ap length same) ∙ length-map xs value in subst (λ n. NamesAll widths (chunk_count n)) len all
 
--- all exceptions are found
-pub all_found : {X : Type 0} (t : PType) (value : X → ℤ) (v : Validity) (xs : List X) (width_at : ℕ → ℕ) (block : ℕ) (places : List ℕ) (values : List ℤ) (offsets : List ℕ) → IsTrue (covers v (length xs)) → length xs ≤ 1024 * block
-    → HasBlocks places values offsets (exceptions_of t width_at (items_of v (map value xs))) block → AreGathered places values (exceptions_of t width_at (items_of v (map value xs)))
-all_found t value v xs width_at block places values offsets covered room so =
-    let all : List (Option ℤ) = exceptions_of t width_at (items_of v (map value xs)) in
-    gathered_as places values _ all (take_all (1024 * block) all (omega (arith, length-exceptions t width_at (items_of v (map value xs)), covered_values value v xs covered))) so.gathered
+-- the exceptions of all blocks of an array
+pub all_gathered : (t : PType) (v : Validity) (slots : List ℤ) (width_at : ℕ → ℕ) (places : List ℕ) (values : List ℤ) (offsets : List ℕ) → IsTrue (covers v (length slots))
+    → HasBlocks places values offsets (exceptions_of t width_at (items_of v slots)) (chunk_count (length slots)) → AreGathered places values (exceptions_of t width_at (items_of v slots))
+all_gathered t v slots width_at places values offsets covered so =
+    let all : List (Option ℤ) = exceptions_of t width_at (items_of v slots) in
+    gathered_as places values _ all (take_all (1024 * chunk_count (length slots)) all (omega (arith, length-exceptions t width_at (items_of v slots), length-items_of v slots covered))) so.gathered

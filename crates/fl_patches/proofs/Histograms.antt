@@ -31,7 +31,7 @@ entry_few t items entries b e = elim (cases_lt b (bits_of_type t + 1)) [
 ]
 
 -- a histogram by its entries
-histogram_by : (t : PType) (items : List (Option ℤ)) (entries : List ℕ) → length entries ≡ bits_of_type t + 1 → ((b : ℕ) → b < bits_of_type t + 1 → get_or entries b 0 ≡ count_with_bits t items b) → entries ≡ histogram_of t items
+pub histogram_by : (t : PType) (items : List (Option ℤ)) (entries : List ℕ) → length entries ≡ bits_of_type t + 1 → ((b : ℕ) → b < bits_of_type t + 1 → get_or entries b 0 ≡ count_with_bits t items b) → entries ≡ histogram_of t items
 histogram_by t items entries long each = fill_by_all (count_with_bits t items) entries (bits_of_type t + 1) 0 long each
 
 pub count_with_bits_none : (t : PType) (b : ℕ) → count_with_bits t [] b ≡ 0
@@ -46,7 +46,7 @@ pub count_cons : (t : PType) (item : Option ℤ) (items : List (Option ℤ)) (b 
 unfolding count_with_bits
 count_cons t item items b = sum_by-cons (λ (x : Option ℤ). cond (bits_of_item t x == b) 1 0) item items
 
-count_append : (t : PType) (xs ys : List (Option ℤ)) (b : ℕ) → count_with_bits t (xs ++ ys) b ≡ count_with_bits t xs b + count_with_bits t ys b
+pub count_append : (t : PType) (xs ys : List (Option ℤ)) (b : ℕ) → count_with_bits t (xs ++ ys) b ≡ count_with_bits t xs b + count_with_bits t ys b
 unfolding count_with_bits
 count_append t xs ys b = sum_by-append (λ (x : Option ℤ). cond (bits_of_item t x == b) 1 0) xs ys
 

@@ -15,7 +15,13 @@ use Rattle.fl_column.specs.Chunks.{chunk_count}
 use Rattle.fl_patches.specs.PatchMaps.{values_in}
 use Rattle.fl_patches.proofs.Sparse.{values-append}
 use Rattle.std.specs.List.{list_any}
-use Rattle.std.proofs.Common.{false, Ok}
+use Rattle.std.proofs.Common.{Err, IfOk, Ok, cond}
+use Rattle.std.specs.Prelude.{Result}
+use Rattle.std.proofs.lemmas.Bool.{cases_Bool}
+use Rattle.fl_types.specs.Refusals.{Answers}
+use Rattle.fl_types.specs.declared.error.FastLanesError.{FastLanesError}
+use Rattle.fl_types.specs.declared.error.FastLanesError.TheVariants.{NegativeValue}
+use Rattle.fl_patches.proofs.Parts.{ok_same}
 use Rattle.fl_column.specs.Columns.{PrimitiveParts}
 use Rattle.fl_patches.specs.Costs.{ChosenWidths, CostLeast, choose_widths, chosen_widths, best_width, best_widths, block_histogram, cost_of, cost_of_widths, count_above, first_widths}
 use Rattle.fl_patches.specs.Exceptions.{exception, exception_count, exceptions_of, histogram_of, is_negative, width_of_block}
@@ -156,10 +162,6 @@ pub widths_fit : (t : PType) (items : List (Option ℤ)) (n : ℕ) → list_all 
 unfolding first_widths
 widths_fit t items n = widths_in_range t (λ j. best_width t (block_histogram t items j)) 0 n (λ j. block_fits t items j)
 
--- those of the answer
-pub chosen_fit : (p : PrimitiveParts) (t : PType) (items : List (Option ℤ)) (made : ChosenWidths) → p.ptype ≡ t → made ≡ chosen_widths t items → IsTrue (list_all (λ width. nat_le width (bits_of_type p.ptype)) made.widths)
-chosen_fit p t items made typed so = rw (typed, so) (widths_fit t items (chunk_count (length items)))
-
 pub best_least : (t : PType) (entries : List ℕ) (other : ℕ) → other < length entries → cost_of t entries (best_width t entries) ≤ cost_of t entries other
 best_least t entries other h =
     let found = least_exists (cost_of t entries) (length entries - 1) in
@@ -185,10 +187,6 @@ widths_cost_least t items others as_many within =
     let fits : get_or others j 0 ≤ bits_of_type t = leb-true _ _ (all_at (λ width. nat_le width (bits_of_type t)) others j 0 within (omega arith)) in
     rw width (best_least t (block_histogram t items j) (get_or others j 0) (omega (arith, length-block_histogram t items j))))
 
--- the same of equal lists
-pub cost_least_of : (t p : PType) (items : List (Option ℤ)) (other : List (Option ℤ)) (widths : List ℕ) → p ≡ t → other ≡ items → widths ≡ best_widths t items → CostLeast p other widths
-cost_least_of t p items other widths typed same so = rw (typed, same, so) (widths_cost_least t items)
-
 -- ---- the answer
 pub chosen_after : (t : PType) (items : List (Option ℤ)) (block : ℕ) (widths : List ℕ) (total : ℕ) → block ≡ chunk_count (length items) → widths ≡ first_widths t items block → total ≡ exceptions_to t items block
     → record { widths = widths; exceptions = total } ≡ chosen_widths t items
@@ -197,13 +195,29 @@ chosen_after t items block widths total last best counted =
     let sum : total ≡ exception_count t (width_of_block (best_widths t items)) items = counted ∙ exceptions_all t items block (omega arith) in
     rw (all, sum) refl
 
-pub chosen_all : (p : PrimitiveParts) (t : PType) (w : Validity) (zs : List ℤ) (made : ChosenWidths) → p.ptype ≡ t → w ≡ p.validity → zs ≡ p.slots → false ≡ list_any is_negative (items_of w zs) → made ≡ chosen_widths t (items_of w zs)
-    → choose_widths p ≡ Ok made
-chosen_all p t w zs made typed valid same none so =
-    let of_p : items_of w zs ≡ items_of p.validity p.slots = rw (valid, same) refl in
-    rw (← of_p, typed, ← none, so) refl
+-- the widths, or that a negative item has none
+abbrev widths_or_refusal : PType → List (Option ℤ) → Result ChosenWidths FastLanesError
+widths_or_refusal t items = cond (list_any is_negative items) (Err NegativeValue) (Ok (chosen_widths t items))
 
--- the widths of the answer cost least
-pub chosen_least : (p : PrimitiveParts) (t : PType) (w : Validity) (zs : List ℤ) (made : ChosenWidths) → p.ptype ≡ t → w ≡ p.validity → zs ≡ p.slots → made ≡ chosen_widths t (items_of w zs)
-    → CostLeast p.ptype (items_of p.validity p.slots) made.widths
-chosen_least p t w zs made typed valid same so = cost_least_of t p.ptype (items_of w zs) (items_of p.validity p.slots) made.widths typed (rw (valid, same) refl) (ap (λ m. m.widths) so)
+-- what is chosen, where no item is negative
+chosen_are : (p : PrimitiveParts) (made : ChosenWidths) → choose_widths p ≡ Ok made → made ≡ chosen_widths p.ptype (items_of p.validity p.slots)
+chosen_are p made e = elim (cases_Bool (list_any is_negative (items_of p.validity p.slots))) [
+  | inl negative ↦ absurd (let refused : choose_widths p ≡ Err NegativeValue = rw negative refl in cc)
+  | inr others ↦ (let all : choose_widths p ≡ Ok (chosen_widths p.ptype (items_of p.validity p.slots)) = rw others refl in ok_same _ _ (sym all ∙ e))
+]
+
+-- the model's answer, by the items of a slice
+answer_of : (p : PrimitiveParts) (t : PType) (w : Validity) (zs : List ℤ) → p.ptype ≡ t → w ≡ p.validity → zs ≡ p.slots → choose_widths p ≡ widths_or_refusal t (items_of w zs)
+answer_of p t w zs typed valid same = rw (typed, valid, same) refl
+
+-- the widths of an answer are of the type
+pub chosen_fit : {X : Type 0} (view : X → ChosenWidths) (r : Result X FastLanesError) (p : PrimitiveParts) (t : PType) (w : Validity) (zs : List ℤ) → p.ptype ≡ t → w ≡ p.validity → zs ≡ p.slots → Answers view r (widths_or_refusal t (items_of w zs))
+    → IfOk r (λ x. IsTrue (list_all (λ width. nat_le width (bits_of_type p.ptype)) (view x).widths))
+chosen_fit view (Ok x) p t w zs typed valid same e = rw (chosen_are p (view x) (answer_of p t w zs typed valid same ∙ e)) (widths_fit p.ptype (items_of p.validity p.slots) (chunk_count (length (items_of p.validity p.slots))))
+chosen_fit view (Err e) p t w zs typed valid same h = tt
+
+-- they cost least
+pub chosen_least : {X : Type 0} (view : X → ChosenWidths) (r : Result X FastLanesError) (p : PrimitiveParts) (t : PType) (w : Validity) (zs : List ℤ) → p.ptype ≡ t → w ≡ p.validity → zs ≡ p.slots → Answers view r (widths_or_refusal t (items_of w zs))
+    → IfOk r (λ x. CostLeast p.ptype (items_of p.validity p.slots) (view x).widths)
+chosen_least view (Ok x) p t w zs typed valid same e = rw (chosen_are p (view x) (answer_of p t w zs typed valid same ∙ e)) (widths_cost_least p.ptype (items_of p.validity p.slots))
+chosen_least view (Err e) p t w zs typed valid same h = tt

@@ -1,7 +1,9 @@
 pub mod AllFound
 pub mod BitCounts
+pub mod BlockSigns
 pub mod Blocks
 pub mod Chunks
+pub mod Comparisons
 pub mod Counted
 pub mod ExceptionPatches
 pub mod Firsts
@@ -11,6 +13,7 @@ pub mod Kept
 pub mod LeastCosts
 pub mod LeastTotals
 pub mod Marked
+mod Narrowed
 pub mod Negatives
 pub mod Parts
 pub mod Picked
@@ -20,3 +23,4 @@ pub mod Selected
 pub mod Signs
 pub mod Slices
 pub mod Sparse
+pub mod Zeroed

@@ -10,7 +10,7 @@ use Rattle.fl_types.specs.declared.dtype.DType.TheVariants.{Primitive}
 use Rattle.fl_column.specs.Columns.{PrimitiveParts, column_of_primitive, slice_primitive}
 use Rattle.fl_column.proofs.ItemLaws.{items_of-between, length-between, nullability_of-between}
 use Rattle.fl_column.proofs.ListLaws.{all_from}
-use Rattle.fl_column.proofs.QuestionLaws.{next_holds}
+use Rattle.fl_column.proofs.QueryLaws.{next_holds}
 use Rattle.fl_column.specs.Numbers.{numbers}
 use Rattle.fl_patches.specs.PatchMaps.{PatchesParts, is_index_within, is_rising, patched, patches_before, rank_of}
 use Rattle.fl_patches.proofs.Parts.{AreSound}

@@ -14,7 +14,7 @@ use Rattle.fl_column.specs.Chunks.{chunk_count}
 use Rattle.fl_column.specs.Columns.{PrimitiveParts, column_of_primitive, option_all, slice_primitive}
 use Rattle.fl_column.specs.Numbers.{index_array, numbers}
 use Rattle.fl_column.specs.Operations.{kept}
-use Rattle.fl_column.specs.Questions.{each_next}
+use Rattle.fl_column.specs.Queries.{each_next}
 use Rattle.fl_column.specs.Selections.{positions_in}
 
 -- the parts of patches: the value at a position is the one beside the index that is offset + position

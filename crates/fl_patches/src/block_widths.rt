@@ -1,10 +1,13 @@
 //! A width for each block of 1024 items.
 
-ghost use Rattle.std.specs.Prelude.{◌≡◌, ◌+◌, ◌*◌, ◌<◌, IfOk, IsTrue, None, length, map, nat_le, slice_index_or};
+ghost use Rattle.std.specs.Prelude.{◌≡◌, ◌+◌, ◌*◌, ◌<◌, ◌&&◌, pos, int_lt, Err, IfOk, IsTrue, None, Ok, length, map, nat_le, nat_lt, not, slice_index, slice_index_or, if◌then◌else◌};
 ghost use Rattle.std.specs.List.{list_all, list_any};
-ghost use Rattle.fl_types.specs.Integers.{bits_of_type};
+ghost use Rattle.fl_types.specs.Bits.{between};
+ghost use Rattle.fl_types.specs.declared.error.FastLanesError.TheVariants.{NegativeValue};
+ghost use Rattle.fl_types.specs.Integers.{bits_of_type, fits, is_unsigned};
 ghost use Rattle.fl_types.specs.Refusals.{Answers};
 ghost use Rattle.fl_types.specs.Validities.{covers, items_of};
+ghost use Rattle.fl_column.specs.Columns.{option_all};
 ghost use Rattle.fl_patches.specs.Costs.{CostLeast, best_width, block_histogram, choose_widths, chosen_widths, count_above};
 ghost use Rattle.fl_patches.specs.Exceptions.{is_negative};
 
@@ -12,9 +15,10 @@ use crate::best_width::{count_exceptions, least_cost};
 use crate::histogram::{clear, count_items};
 use crate::patterns::type_bits;
 use fastlanes::FL_CHUNK_SIZE;
+use fl_column::laws::stored_integers_are_in_range;
 use fl_column::{PhysicalPType, PrimitiveArray, chunk_bounds, chunk_count};
 use fl_types::{FastLanesError, NativePType, Validity, is_less, match_each_integer_ptype};
-use std::alloc::{AllocError, Global};
+use std::alloc::Global;
 
 /// Whether an item is negative and not null.
 fn is_negative_at<T: NativePType>(items: &[T], validity: &Validity, i: usize) -> bool
@@ -25,12 +29,28 @@ fn is_negative_at<T: NativePType>(items: &[T], validity: &Validity, i: usize) ->
     is_less(items[i], T::zero()) && validity.is_valid(i, items.len())
 }
 
-/// Whether one of these items is negative and not null.
-pub fn has_negative<T: NativePType>(items: &[T], validity: &Validity) -> bool
-    requires { IsTrue (covers validity.now (length items.now)) }
-    ensures { result ≡ list_any is_negative (items_of validity.now (map T.value items.now)) }
+/// Whether a value is negative. Several are looked at at once.
+fn has_negative_value<T: NativePType>(items: &[T]) -> bool
+    ensures { result ≡ list_any (λ z. int_lt z (pos 0)) (map T.value items.now) }
 {
+    let mut found = false;
     for i in 0..items.len() {
+        found |= is_less(items[i], T::zero());
+    }
+    found
+}
+
+/// Whether an item of a block is negative and not null. The items are looked at one by one only where one may be.
+pub fn has_negative_in_block<T: NativePType>(items: &[T], validity: &Validity, block: usize) -> bool
+    requires covers { IsTrue (covers validity.now (length items.now)) }
+    requires begun { 1024 * block < length items.now }
+    ensures { result ≡ list_any is_negative (between (1024 * block) (1024 * (block + 1)) (items_of validity.now (map T.value items.now))) }
+{
+    let (start, end) = chunk_bounds(block, items.len());
+    if !has_negative_value(&items[start..end]) {
+        return false;
+    }
+    for i in start..end {
         if is_negative_at(items, validity, i) {
             return true;
         }
@@ -38,7 +58,20 @@ pub fn has_negative<T: NativePType>(items: &[T], validity: &Validity) -> bool
     false
 }
 
-/// Counts the items of a block by their bits, and those behind the last item as nulls.
+/// Whether one of these items is negative and not null.
+pub fn has_negative<T: NativePType>(items: &[T], validity: &Validity) -> bool
+    requires { IsTrue (covers validity.now (length items.now)) }
+    ensures { result ≡ list_any is_negative (items_of validity.now (map T.value items.now)) }
+{
+    for block in 0..chunk_count(items.len()) {
+        if has_negative_in_block(items, validity, block) {
+            return true;
+        }
+    }
+    false
+}
+
+/// Counts the items of a block by their bits, and those after the last item as nulls.
 fn count_block<T: PhysicalPType>(
     items: &[T],
     validity: &Validity,
@@ -56,7 +89,15 @@ fn count_block<T: PhysicalPType>(
     entries[0] += FL_CHUNK_SIZE - (end - start);
 }
 
-/// The best width of a block, and how many exceptions it leaves. The entries are for its histogram.
+/// Whether a histogram of a type counts items of all its bits where the type is signed: those are the negative ones.
+fn counts_signs<T: NativePType>(entries: &[usize]) -> bool
+    requires { length entries.now ≡ bits_of_type T.PTYPE + 1 }
+    ensures { result ≡ (not (is_unsigned T.PTYPE) && nat_lt 0 (slice_index entries.now (bits_of_type T.PTYPE))) }
+{
+    !T::PTYPE.is_unsigned() && entries[T::PTYPE.bit_width()] > 0
+}
+
+/// The best width of a block, and how many exceptions it leaves. The entries become its histogram.
 fn choose_width<T: PhysicalPType>(
     items: &[T],
     validity: &Validity,
@@ -66,6 +107,7 @@ fn choose_width<T: PhysicalPType>(
     requires covers { IsTrue (covers validity.now (length items.now)) }
     requires begun { 1024 * block < length items.now }
     requires room { length entries.old ≡ bits_of_type T.PTYPE + 1 }
+    ensures histogram { entries.new ≡ block_histogram T.PTYPE (items_of validity.now (map T.value items.now)) block }
     ensures width { result.0 ≡ best_width T.PTYPE (block_histogram T.PTYPE (items_of validity.now (map T.value items.now)) block) }
     ensures exceptions { result.1 ≡ count_above result.0 (block_histogram T.PTYPE (items_of validity.now (map T.value items.now)) block) }
 {
@@ -75,14 +117,19 @@ fn choose_width<T: PhysicalPType>(
     (width, exceptions)
 }
 
-/// The best width of each block, and how many exceptions they leave.
+/// The best width of each block, and how many exceptions they leave. Negative items are found by the histograms, in
+/// which they have all bits of a signed type.
+///
+/// # Errors
+/// `NegativeValue` if an item is negative and not null.
 fn widths_of<T: PhysicalPType>(
     alloc: Global,
     items: &[T],
     validity: &Validity,
-) -> Result<(Vec<u8>, usize), AllocError>
-    requires { IsTrue (covers validity.now (length items.now)) }
-    ensures { IfOk result (λ r. record { widths = r.0.items; exceptions = r.1 } ≡ chosen_widths T.PTYPE (items_of validity.now (map T.value items.now))) }
+) -> Result<(Vec<u8>, usize), FastLanesError>
+    requires covers { IsTrue (covers validity.now (length items.now)) }
+    requires fit { IsTrue (list_all (option_all (fits T.PTYPE)) (items_of validity.now (map T.value items.now))) }
+    ensures { Answers (λ r. record { widths = r.0.items; exceptions = r.1 }) result (if list_any is_negative (items_of validity.now (map T.value items.now)) then Err NegativeValue else Ok (chosen_widths T.PTYPE (items_of validity.now (map T.value items.now)))) }
 {
     // No type here has more than 64 bits.
     let mut entries = [0; 65];
@@ -92,6 +139,9 @@ fn widths_of<T: PhysicalPType>(
     let mut total = 0;
     for block in 0..blocks {
         let (width, exceptions) = choose_width(items, validity, block, entries);
+        if counts_signs::<T>(entries) {
+            return Err(FastLanesError::NegativeValue);
+        }
         widths.push(width)?;
         total += exceptions;
     }
@@ -107,13 +157,8 @@ fn choose_widths<T: PhysicalPType>(
     ensures fit { IfOk result (λ r. IsTrue (list_all (λ width. nat_le width (bits_of_type array.now.ptype)) r.0.items)) }
     ensures least { IfOk result (λ r. CostLeast array.now.ptype (items_of array.now.validity array.now.slots) r.0.items) }
 {
-    let items = array.as_slice::<T>();
-    let validity = array.validity();
-    if has_negative(items, validity) {
-        return Err(FastLanesError::NegativeValue);
-    }
-    let chosen = widths_of(alloc, items, validity)?;
-    Ok(chosen)
+    stored_integers_are_in_range(array);
+    widths_of(alloc, array.as_slice::<T>(), array.validity())
 }
 
 /// The best width of each block of 1024 items, and how many items of the array have more bits than

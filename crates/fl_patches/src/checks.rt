@@ -114,7 +114,7 @@ fn are_chunk_offsets(indices: &PrimitiveArray, offsets: &PrimitiveArray) -> bool
     match_each_integer_ptype!(offsets.ptype(), are_chunk_offsets_typed(indices, offsets))
 }
 
-/// Whether chunk offsets, where there are some, count the indices from 0.
+/// Whether chunk offsets, if there are any, count the indices from 0.
 fn chunk_offsets_fit(
     indices: &PrimitiveArray,
     offset: usize,

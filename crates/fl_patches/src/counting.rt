@@ -84,7 +84,7 @@ fn count_at<S: CountedItems>(items: &S, _start: usize, i: usize, entries: &mut [
     entries[bits] += 1;
 }
 
-/// Counts four runs of as many items, the first from `start` on and each other behind the one before. All
+/// Counts four runs of as many items, the first from `start` on and each other after the one before. All
 /// entries are 0 before.
 fn count_runs<S: CountedItems>(
     items: &S,

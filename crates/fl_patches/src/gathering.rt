@@ -8,7 +8,7 @@ ghost use Rattle.fl_types.specs.Validities.{covers, full_validity, items_of, nul
 ghost use Rattle.fl_column.specs.Chunks.{chunk_count};
 ghost use Rattle.fl_patches.specs.PatchMaps.{ArePatches, places_from};
 ghost use Rattle.fl_patches.specs.Exceptions.{bit_count, exception, exceptions_of, one_width, width_of_block};
-ghost use Rattle.fl_patches.specs.PatchParts.{AreChunked, AreGathered, HasBlocks, blocked_patches, counts_before, exception_at, exception_patches, global_patches, patches_with};
+ghost use Rattle.fl_patches.specs.PatchParts.{AreChunked, AreGathered, HasBlocks, blocked_patches, exception_at, exception_patches, global_patches, patches_with};
 ghost use Rattle.fl_patches.specs.Widths.{NamesAll, width_at};
 
 use crate::Patches;
@@ -22,19 +22,21 @@ use std::alloc::{AllocError, Global};
 /// How many items are marked in a word.
 const GROUP: usize = 64;
 
-/// Exceptions that are found one by one: their places, rising, and beside each its value.
+/// Exceptions that are found one by one.
 #[derive(Drop)]
-struct PatchesBuilder<T> {
-    places: Vec<u64>,
-    values: Vec<T>,
+pub struct Exceptions<T> {
+    /// Their places, rising.
+    pub places: Vec<u64>,
+    /// Beside each place the value of its item.
+    pub values: Vec<T>,
 }
 
-impl<T: PhysicalPType> PatchesBuilder<T> {
+impl<T: PhysicalPType> Exceptions<T> {
     /// None yet, with room for this many.
-    fn with_capacity(alloc: Global, count: usize) -> Result<PatchesBuilder<T>, AllocError>
+    fn with_capacity(alloc: Global, count: usize) -> Result<Exceptions<T>, AllocError>
         ensures { IfOk result (λ f. AreGathered f.places.items (map T.value f.values.items) []) }
     {
-        Ok(PatchesBuilder {
+        Ok(Exceptions {
             places: Vec::with_capacity(alloc, count)?,
             values: Vec::with_capacity(alloc, count)?,
         })
@@ -49,7 +51,7 @@ impl<T: PhysicalPType> PatchesBuilder<T> {
         Ok(())
     }
 
-    /// Adds the items at the set bits of a word, of which bit `j` is that of item `start + j`.
+    /// Appends the items at the set bits of a word, of which bit `j` is that of item `start + j`.
     fn push_marked(&mut self, items: &[T], marks: u64, start: usize) -> Result<(), AllocError>
         requires { (j : ℕ) → bit_of_word marks j ≡ true → start + j < length items.now }
         ensures { OnOk result ((before part : List (Option ℤ)) → length before ≡ start → length part ≤ 64 → ((j : ℕ) → bit_of_word marks j ≡ true → j < length part) → ((j : ℕ) → j < length part → slice_index_or part j None ≡ (if bit_of_word marks j then Some (slice_index_or (map T.value items.now) (start + j) (pos 0)) else None)) → AreGathered self.old.places.items (map T.value self.old.values.items) before → AreGathered self.new.places.items (map T.value self.new.values.items) (before ++ part)) }
@@ -115,12 +117,35 @@ impl<T: PhysicalPType> PatchesBuilder<T> {
         }
         Ok(())
     }
+}
 
-    /// Adds the exceptions at a width among the items of a block, and to the offsets how many stand
-    /// before the block.
-    fn push_block(
+/// The exceptions of the first blocks of a column.
+#[derive(Drop)]
+pub struct BlockExceptions<T> {
+    /// The exceptions of all these blocks.
+    pub found: Exceptions<T>,
+    /// For each block how many exceptions stand before it.
+    pub offsets: Vec<u64>,
+}
+
+impl<T: PhysicalPType> BlockExceptions<T> {
+    /// Those of no block, with room for so many exceptions of so many blocks.
+    pub fn with_capacity(
+        alloc: Global,
+        count: usize,
+        blocks: usize,
+    ) -> Result<BlockExceptions<T>, AllocError>
+        ensures { IfOk result (λ f. (items : List (Option ℤ)) → HasBlocks f.found.places.items (map T.value f.found.values.items) f.offsets.items items 0) }
+    {
+        Ok(BlockExceptions {
+            found: Exceptions::with_capacity(alloc, count)?,
+            offsets: Vec::with_capacity(alloc, blocks)?,
+        })
+    }
+
+    /// Adds those at a width among the items of the next block.
+    pub fn push_block(
         &mut self,
-        offsets: &mut Vec<u64>,
         items: &[T],
         validity: &Validity,
         width: usize,
@@ -128,11 +153,29 @@ impl<T: PhysicalPType> PatchesBuilder<T> {
     ) -> Result<(), AllocError>
         requires covers { IsTrue (covers validity.now (length items.now)) }
         requires begun { 1024 * block < length items.now }
-        ensures { OnOk result ((width_at : ℕ → ℕ) → ((i : ℕ) → 1024 * block ≤ i → i < 1024 * (block + 1) → width_at i ≡ width) → HasBlocks self.old.places.items (map T.value self.old.values.items) offsets.old.items (exceptions_of T.PTYPE width_at (items_of validity.now (map T.value items.now))) block → HasBlocks self.new.places.items (map T.value self.new.values.items) offsets.new.items (exceptions_of T.PTYPE width_at (items_of validity.now (map T.value items.now))) (block + 1)) }
+        ensures { OnOk result ((width_at : ℕ → ℕ) → ((i : ℕ) → 1024 * block ≤ i → i < 1024 * (block + 1) → width_at i ≡ width) → HasBlocks self.old.found.places.items (map T.value self.old.found.values.items) self.old.offsets.items (exceptions_of T.PTYPE width_at (items_of validity.now (map T.value items.now))) block → HasBlocks self.new.found.places.items (map T.value self.new.found.values.items) self.new.offsets.items (exceptions_of T.PTYPE width_at (items_of validity.now (map T.value items.now))) (block + 1)) }
     {
-        offsets.push(self.places.len() as u64)?;
+        self.offsets.push(self.found.places.len() as u64)?;
         let (start, end) = chunk_bounds(block, items.len());
-        self.push_part(items, validity, width, start, end)
+        self.found.push_part(items, validity, width, start, end)
+    }
+
+    /// The patches of these exceptions, which are those of all blocks of an array, or `None` where there is none. The
+    /// indices are of the smallest type that holds a number, which is at least the array's length.
+    pub fn into_patches(
+        self,
+        alloc: Global,
+        array: &PrimitiveArray,
+        holds: usize,
+    ) -> Result<Option<Patches>, FastLanesError>
+        requires same { array.now.ptype ≡ T.PTYPE }
+        requires chunked { AreChunked self.found.places.items (map T.value self.found.values.items) self.offsets.items (length array.now.slots) }
+        requires holds { length array.now.slots ≤ holds }
+        ensures parts { (width : ℕ → ℕ) → HasBlocks self.found.places.items (map T.value self.found.values.items) self.offsets.items (exceptions_of T.PTYPE width (items_of array.now.validity array.now.slots)) (chunk_count (length array.now.slots)) → Answers (λ o. o) result (Ok (exception_patches (smallest_type holds) width array.now)) }
+        ensures map { (width : ℕ → ℕ) → HasBlocks self.found.places.items (map T.value self.found.values.items) self.offsets.items (exceptions_of T.PTYPE width (items_of array.now.validity array.now.slots)) (chunk_count (length array.now.slots)) → IfOk result (λ o. ArePatches o (length array.now.slots) (exception_at width array.now)) }
+    {
+        let _validity = array.validity();
+        patches_of(alloc, array, self, holds)
     }
 }
 
@@ -144,7 +187,7 @@ fn greater<W: FastLanes>(x: W, y: W) -> W
     if x.at_most(y) { y } else { x }
 }
 
-/// The greatest pattern of the items, 0 of none.
+/// The largest pattern of the items, 0 of none.
 fn greatest_of<T: PhysicalPType>(items: &[T]) -> u64
     ensures { (i : ℕ) → i < length items.now → pattern_of T.PTYPE (slice_index_or (map T.value items.now) i (pos 0)) ≤ result }
 {
@@ -155,7 +198,7 @@ fn greatest_of<T: PhysicalPType>(items: &[T]) -> u64
     greatest.to_u64()
 }
 
-/// The greatest pattern that has no more bits than a width.
+/// The largest pattern that has no more bits than a width.
 fn most_of(width: usize) -> u64
     ensures { (p : ℕ) → p < 2 ^ 64 → nat_lt result p ≡ nat_lt width (bit_count p) }
 {
@@ -198,43 +241,41 @@ fn marks_of<T: PhysicalPType>(items: &[T], width: usize) -> u64
     marks
 }
 
-/// The exceptions at the widths of the blocks, and how many of them stand before each block.
+/// The exceptions at the widths of the blocks.
 fn find<T: PhysicalPType>(
     alloc: Global,
     items: &[T],
     validity: &Validity,
     widths: Widths,
     hint: usize,
-) -> Result<(PatchesBuilder<T>, Vec<u64>), AllocError>
+) -> Result<BlockExceptions<T>, AllocError>
     requires covers { IsTrue (covers validity.now (length items.now)) }
     requires names { NamesAll widths (chunk_count (length items.now)) }
-    ensures found { IfOk result (λ r. AreGathered r.0.places.items (map T.value r.0.values.items) (exceptions_of T.PTYPE (width_at widths.entry) (items_of validity.now (map T.value items.now)))) }
-    ensures offsets { IfOk result (λ r. r.1.items ≡ counts_before (exceptions_of T.PTYPE (width_at widths.entry) (items_of validity.now (map T.value items.now))) (chunk_count (length items.now))) }
+    ensures { IfOk result (λ f. HasBlocks f.found.places.items (map T.value f.found.values.items) f.offsets.items (exceptions_of T.PTYPE (width_at widths.entry) (items_of validity.now (map T.value items.now))) (chunk_count (length items.now))) }
 {
     let blocks = chunk_count(items.len());
-    let mut found = PatchesBuilder::with_capacity(alloc, hint.min(items.len()))?;
-    let mut offsets = Vec::with_capacity(alloc, blocks)?;
+    let mut found = BlockExceptions::with_capacity(alloc, hint.min(items.len()), blocks)?;
     for block in 0..blocks {
-        found.push_block(&mut offsets, items, validity, widths.of_block(block), block)?;
+        found.push_block(items, validity, widths.of_block(block), block)?;
     }
-    Ok((found, offsets))
+    Ok(found)
 }
 
-/// The patches of an array's exceptions, which were found with how many stand before each block, or
-/// `None` where there is none. The indices are of the smallest type that holds a number.
+/// The patches of an array's exceptions, or `None` where there is none. The indices are of the smallest type that holds
+/// a number.
 fn patches_of<T: PhysicalPType>(
     alloc: Global,
     array: &PrimitiveArray,
-    found: PatchesBuilder<T>,
-    offsets: Vec<u64>,
+    exceptions: BlockExceptions<T>,
     holds: usize,
 ) -> Result<Option<Patches>, FastLanesError>
     requires same { array.now.ptype ≡ T.PTYPE }
-    requires chunked { AreChunked found.places.items (map T.value found.values.items) offsets.items (length array.now.slots) }
+    requires chunked { AreChunked exceptions.found.places.items (map T.value exceptions.found.values.items) exceptions.offsets.items (length array.now.slots) }
     requires holds { length array.now.slots ≤ holds }
-    ensures { Answers (λ o. o) result (Ok (patches_with (smallest_type holds) (length array.now.slots) array.now.ptype (nullability_of array.now.validity) found.places.items (map T.value found.values.items))) }
+    ensures { Answers (λ o. o) result (Ok (patches_with (smallest_type holds) (length array.now.slots) array.now.ptype (nullability_of array.now.validity) exceptions.found.places.items (map T.value exceptions.found.values.items))) }
 {
-    let PatchesBuilder { places, values } = found;
+    let BlockExceptions { found, offsets } = exceptions;
+    let Exceptions { places, values } = found;
     if places.len() == 0 {
         return Ok(None);
     }
@@ -260,8 +301,8 @@ fn gather_typed<T: PhysicalPType>(
     ensures map { IfOk result (λ o. ArePatches o (length array.now.slots) (exception_at (width_at widths.entry) array.now)) }
 {
     let items = array.as_slice::<T>();
-    let (found, offsets) = find(alloc, items, array.validity(), widths, hint)?;
-    patches_of(alloc, array, found, offsets, holds)
+    let found = find(alloc, items, array.validity(), widths, hint)?;
+    found.into_patches(alloc, array, holds)
 }
 
 /// The same at the type of the array's items.

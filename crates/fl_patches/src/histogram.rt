@@ -1,18 +1,19 @@
 //! Histograms of the bits of items.
 
-ghost use Rattle.std.specs.Prelude.{◌≡◌, ◌+◌, ◌≤◌, [], ℕ, IfOk, IsTrue, Ok, length, map};
+ghost use Rattle.std.specs.Prelude.{◌≡◌, ◌+◌, ◌%◌, ◌≤◌, [], ℕ, IfOk, IsTrue, Ok, Some, length, map};
 ghost use Rattle.std.specs.List.{list_any};
 ghost use Rattle.fl_types.specs.Bits.{between};
 ghost use Rattle.fl_types.specs.Integers.{bits_of_type};
 ghost use Rattle.fl_types.specs.Refusals.{Answers};
-ghost use Rattle.fl_types.specs.Validities.{covers, items_of};
+ghost use Rattle.fl_types.specs.Validities.{covers, items_of, masked};
 ghost use Rattle.fl_patches.specs.Exceptions.{histogram_of, is_negative};
 
 use crate::counting::{MaskedItems, PresentItems, count_all};
 use crate::patterns::type_bits;
+use crate::{comparing, masking};
 use fl_column::laws::stored_integers_are_in_range;
 use fl_column::{PhysicalPType, PrimitiveArray};
-use fl_types::{FastLanesError, Validity, match_each_integer_ptype};
+use fl_types::{BitList, FastLanesError, Validity, match_each_integer_ptype};
 use std::alloc::{AllocError, Global};
 
 /// Makes every entry 0.
@@ -34,6 +35,43 @@ fn no_entries<T: PhysicalPType>(alloc: Global) -> Result<Vec<usize>, AllocError>
     vec![in alloc; 0usize; type_bits::<T>() + 1]
 }
 
+/// Counts the items from `start` to below `end` by their bits, where none is null. All entries are 0 before.
+fn count_present<T: PhysicalPType>(items: &[T], start: usize, end: usize, entries: &mut [usize])
+    requires order { start ≤ end }
+    requires range { end ≤ length items.now }
+    requires empty { entries.old ≡ histogram_of T.PTYPE [] }
+    ensures { entries.new ≡ histogram_of T.PTYPE (between start end (map (λ z. Some z) (map T.value items.now))) }
+{
+    if type_bits::<T>() == 8 {
+        comparing::count_all(items, start, end, entries);
+    } else {
+        count_all(&PresentItems { items }, start, end, entries);
+    }
+}
+
+/// Counts the items from `start` to below `end` by their bits, of which those are null whose bit isn't set. All entries
+/// are 0 before.
+fn count_masked<T: PhysicalPType>(
+    items: &[T],
+    bits: &BitList,
+    start: usize,
+    end: usize,
+    entries: &mut [usize],
+)
+    requires even { length bits.now ≡ length items.now }
+    requires aligned { start % 64 ≡ 0 }
+    requires order { start ≤ end }
+    requires range { end ≤ length items.now }
+    requires empty { entries.old ≡ histogram_of T.PTYPE [] }
+    ensures { entries.new ≡ histogram_of T.PTYPE (between start end (masked bits.now (map T.value items.now))) }
+{
+    if type_bits::<T>() == 8 {
+        masking::count_all(items, bits, start, end, entries);
+    } else {
+        count_all(&MaskedItems { items, bits }, start, end, entries);
+    }
+}
+
 /// Counts the items from `start` to below `end` by their bits. All entries are 0 before.
 pub(crate) fn count_items<T: PhysicalPType>(
     items: &[T],
@@ -43,17 +81,16 @@ pub(crate) fn count_items<T: PhysicalPType>(
     entries: &mut [usize],
 )
     requires covers { IsTrue (covers validity.now (length items.now)) }
+    requires aligned { start % 64 ≡ 0 }
     requires order { start ≤ end }
     requires range { end ≤ length items.now }
     requires empty { entries.old ≡ histogram_of T.PTYPE [] }
     ensures { entries.new ≡ histogram_of T.PTYPE (between start end (items_of validity.now (map T.value items.now))) }
 {
     match validity {
-        Validity::NonNullable | Validity::AllValid => {
-            count_all(&PresentItems { items }, start, end, entries)
-        }
+        Validity::NonNullable | Validity::AllValid => count_present(items, start, end, entries),
         Validity::AllInvalid => entries[0] += end - start,
-        Validity::Array(bits) => count_all(&MaskedItems { items, bits }, start, end, entries),
+        Validity::Array(bits) => count_masked(items, bits, start, end, entries),
     }
 }
 

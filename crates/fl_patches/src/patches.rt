@@ -1,19 +1,19 @@
 //! Patches: a finite map from positions of an array to values.
 
-ghost use Rattle.std.specs.Prelude.{◌≡◌, ◌≤◌, ◌<◌, ◌-◌, ◌+◌, ◌/◌, false, pos, is_none, IfOk, IfSome, Ok, Some, None, length, option_map, option_and_then, map, slice_index_or};
+ghost use Rattle.std.specs.Prelude.{◌≡◌, ◌≤◌, ◌<◌, ◌-◌, ◌+◌, ◌/◌, ◌^◌, false, pos, is_none, IfOk, IfSome, Ok, Some, None, length, option_map, option_and_then, map, slice_index_or};
 ghost use Rattle.std.specs.List.{list_any};
 ghost use Rattle.std.specs.Option.{option_copied};
 ghost use Rattle.fl_types.specs.Masks.{mask_len};
 ghost use Rattle.fl_types.specs.Refusals.{Answers};
 ghost use Rattle.fl_types.specs.Values.{integer_of, ptype_of_value};
 ghost use Rattle.fl_column.specs.Columns.{column_of_primitive, slice_primitive};
-ghost use Rattle.fl_column.specs.Numbers.{numbers};
+ghost use Rattle.fl_column.specs.Numbers.{numbers, numbers_by};
 ghost use Rattle.fl_patches.specs.PatchMaps.{ArePatches, IsChunkRange, chunk_places, new_patches, patched, refusal_of, slice_patches};
 
 use crate::checks::first_refusal;
 use crate::indices::{count_in, rank_in};
-use fl_column::PrimitiveArray;
-use fl_types::{DType, FastLanesError, PValue};
+use fl_column::{PrimitiveArray, number_at};
+use fl_types::{DType, FastLanesError, NativePType, PValue, match_each_integer_ptype};
 use std::alloc::Global;
 use std::marker::Model;
 use std::ops::Range;
@@ -66,15 +66,47 @@ fn value_in(values: &PrimitiveArray, i: usize) -> Option<PValue>
     values.get(i)
 }
 
-/// The chunk offset of a chunk, which for a chunk behind the last one is the number of patches.
-fn chunk_offset_at(chunk_offsets: &PrimitiveArray, chunk: usize, num_patches: usize) -> usize
-    ensures { result ≡ slice_index_or (numbers chunk_offsets.now) chunk num_patches }
+/// The chunk offset of a chunk, which for a chunk after the last one is the number of patches.
+fn chunk_offset_at<C: NativePType>(chunk_offsets: &[C], chunk: usize, num_patches: usize) -> usize
+    ensures { result ≡ slice_index_or (numbers_by C.value chunk_offsets.now) chunk num_patches }
 {
     if chunk < chunk_offsets.len() {
-        chunk_offsets.number_at(chunk)
+        number_at(chunk_offsets, chunk)
     } else {
         num_patches
     }
+}
+
+fn offsets_typed<C: NativePType>(
+    chunk_offsets: &PrimitiveArray,
+    chunk: usize,
+    num_patches: usize,
+) -> (usize, usize)
+    requires same { chunk_offsets.now.ptype ≡ C.PTYPE }
+    requires few { chunk + 1 < 2 ^ 64 }
+    ensures start { result.0 ≡ slice_index_or (numbers chunk_offsets.now) chunk num_patches }
+    ensures end { result.1 ≡ slice_index_or (numbers chunk_offsets.now) (chunk + 1) num_patches }
+{
+    let chunk_offsets = chunk_offsets.as_slice::<C>();
+    let start = chunk_offset_at(chunk_offsets, chunk, num_patches);
+    let end = chunk_offset_at(chunk_offsets, chunk + 1, num_patches);
+    (start, end)
+}
+
+/// The chunk offsets of a chunk and of the next one.
+fn offsets_of_chunk(
+    chunk_offsets: &PrimitiveArray,
+    chunk: usize,
+    num_patches: usize,
+) -> (usize, usize)
+    requires { chunk + 1 < 2 ^ 64 }
+    ensures start { result.0 ≡ slice_index_or (numbers chunk_offsets.now) chunk num_patches }
+    ensures end { result.1 ≡ slice_index_or (numbers chunk_offsets.now) (chunk + 1) num_patches }
+{
+    match_each_integer_ptype!(
+        chunk_offsets.ptype(),
+        offsets_typed(chunk_offsets, chunk, num_patches)
+    )
 }
 
 /// The items from `start` to below `end`.
@@ -198,12 +230,7 @@ impl Patches {
     {
         let num_patches = self.indices.len();
         match &self.chunk_offsets {
-            Some(chunk_offsets) => {
-                let chunk = i / 1024;
-                let start = chunk_offset_at(chunk_offsets, chunk, num_patches);
-                let end = chunk_offset_at(chunk_offsets, chunk + 1, num_patches);
-                (start, end)
-            }
+            Some(chunk_offsets) => offsets_of_chunk(chunk_offsets, i / 1024, num_patches),
             None => (0, num_patches),
         }
     }

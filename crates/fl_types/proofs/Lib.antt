@@ -1,6 +1,7 @@
 pub mod AddedBits
 pub mod BitLists
 pub mod BitTests
+pub mod ClearedBits
 pub mod KeptLaws
 pub mod Maps
 pub mod MaskLaws

@@ -1,6 +1,6 @@
 //! Lists of booleans.
 
-ghost use Rattle.std.specs.Prelude.{◌≡◌, ◌≢◌, ◌<◌, ◌≤◌, ◌+◌, ◌^◌, ◌*◌, ◌/◌, ◌%◌, ℕ, Bool, [], ◌∷◌, ◌++◌, length, slice_get, slice_index, slice_index_or, slice_set, false, Some, IfOk, IfErr, OnOk, OnErr, Ok, count_ones};
+ghost use Rattle.std.specs.Prelude.{◌≡◌, ◌≢◌, ◌&&◌, not, ◌<◌, ◌≤◌, ◌+◌, ◌^◌, ◌*◌, ◌/◌, ◌%◌, ℕ, Bool, [], ◌∷◌, ◌++◌, length, slice_get, slice_index, slice_index_or, slice_set, false, Some, IfOk, IfErr, OnOk, OnErr, Ok, count_ones};
 ghost use Rattle.std.specs.Bool.{beq};
 ghost use Rattle.std.specs.Cmp.{bool_eq_equiv, partial_equiv_from_equiv};
 ghost use Rattle.std.specs.Cmp.Lexicographic.{lists_equiv, lists_per, pointwise};
@@ -88,6 +88,17 @@ impl BitList {
         ensures { (j : ℕ) → j < 64 → bit_of_word result j ≡ slice_index_or self.now (64 * k + j) false }
     {
         low_bits(self.words[k], self.len - 64 * k)
+    }
+
+    /// The `count` booleans from `start` on as a word, the first in its lowest bit. No other bit is set.
+    pub fn word_from(&self, start: usize, count: usize) -> u64
+        requires some { 0 < count }
+        requires few { count ≤ 64 }
+        requires within { start + count ≤ length self.now }
+        ensures bits { (j : ℕ) → j < count → bit_of_word result j ≡ slice_index_or self.now (start + j) false }
+        ensures clear { (j : ℕ) → count ≤ j → bit_of_word result j ≡ false }
+    {
+        low_bits(word_from(self.words.as_slice(), start), count)
     }
 
     /// The answers of `bit` at 0 to `len - 1`. Each word is made of 64 answers at once.
@@ -376,6 +387,15 @@ fn without_bit(word: u64, at: usize) -> u64
     word & !(1 << at)
 }
 
+/// The word without bit `at` if `on` says so, which no branch asks.
+fn without_bit_if(word: u64, at: usize, on: bool) -> u64
+    requires { at < 64 }
+    ensures here { bit_of_word result at ≡ (bit_of_word word at && not on) }
+    ensures others { (j : ℕ) → j < 64 → j ≢ at → bit_of_word result j ≡ bit_of_word word j }
+{
+    word & !(u64::from(on) << at)
+}
+
 /// How many bits of a word below bit `at` are set.
 fn ones_below(word: u64, at: usize) -> usize
     requires { at < 64 }
@@ -386,12 +406,18 @@ fn ones_below(word: u64, at: usize) -> usize
 }
 
 /// The bits of a word at the set bits of a mask, in order, the first in the lowest bit. They are all set, and then those
-/// that are not set in the word are cleared one by one, since most bits of a validity are set.
+/// that are not set in the word are cleared one by one, since most bits of a validity are set: two without a branch, which
+/// often are all.
 fn gathered(word: u64, mask: u64) -> u64
     ensures { tabulate (bit_of_word result) (count_ones mask) ≡ kept (bits_of_word mask) (bits_of_word word) }
 {
     let mut gathered = u64::MAX;
     let mut rest = mask & !word;
+    for _step in 0..2 {
+        let at = ones_below(mask, rest.trailing_zeros().min(63) as usize);
+        gathered = without_bit_if(gathered, at, rest != 0);
+        rest &= rest.saturating_sub(1);
+    }
     while rest != 0 {
         gathered = without_bit(gathered, ones_below(mask, rest.trailing_zeros() as usize));
         rest &= rest - 1;

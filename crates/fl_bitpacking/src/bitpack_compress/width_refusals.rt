@@ -1,10 +1,11 @@
 //! The errors of packing an array at a width, or at widths of its blocks.
 
-ghost use Rattle.std.specs.Prelude.{◌≡◌, ◌==◌, nat_lt};
+ghost use Rattle.std.specs.Prelude.{◌≡◌, ◌==◌, nat_lt, if◌then◌else◌};
 ghost use Rattle.std.specs.List.{list_all, list_any};
+ghost use Rattle.fl_types.specs.declared.error.FastLanesError.TheVariants.{NegativeValue};
 ghost use Rattle.fl_types.specs.Validities.{items_of};
 ghost use Rattle.fl_patches.specs.Exceptions.{is_negative};
-ghost use Rattle.fl_bitpacking.specs.Encoders.{width_refusal, widths_refusal};
+ghost use Rattle.fl_bitpacking.specs.Encoders.{list_refusal};
 
 use fl_column::{PrimitiveArray, chunk_count};
 use fl_patches::block_widths;
@@ -18,7 +19,7 @@ fn has_negative_in<T: NativePType>(array: &PrimitiveArray) -> bool
     block_widths::has_negative(array.as_slice::<T>(), validity)
 }
 
-/// Whether an item of an array is negative that is no null.
+/// Whether an item of an array that is not null is negative.
 fn has_negative(array: &PrimitiveArray) -> bool
     ensures { result ≡ list_any is_negative (items_of array.now.validity array.now.slots) }
 {
@@ -49,30 +50,26 @@ fn are_native(widths: &[u8], bits: usize) -> bool
     true
 }
 
-/// The error of packing an array at a width, if there is one: the first of `NegativeValue` if a valid item is
-/// negative, and `WidthTooLarge` if the width is not below the type's bits.
-pub fn width_refusal(array: &PrimitiveArray, width: u8) -> Option<FastLanesError>
-    ensures { result ≡ width_refusal array.now width }
+/// An error of packing an array, which comes after `NegativeValue` for a valid item that is negative.
+pub(crate) fn refusal_unless_negative(
+    array: &PrimitiveArray,
+    refusal: FastLanesError,
+) -> FastLanesError
+    ensures { result ≡ (if list_any is_negative (items_of array.now.validity array.now.slots) then NegativeValue else refusal) }
 {
     if has_negative(array) {
-        return Some(FastLanesError::NegativeValue);
+        FastLanesError::NegativeValue
+    } else {
+        refusal
     }
-    if usize::from(width) >= array.ptype().bit_width() {
-        return Some(FastLanesError::WidthTooLarge);
-    }
-    None
 }
 
-/// The error of packing an array's blocks at these widths, if there is one: the first of `NegativeValue` if
-/// a valid item is negative, `BlockCount` if there is not one width for each block,
-/// `WidthTooLarge` if a width is above the type's bits, and `AllBlocksNative` if there are blocks,
+/// Why these widths are not those of an array's blocks, if they are not: the first of `BlockCount` if there is not one
+/// width for each block, `WidthTooLarge` if a width is above the type's bits, and `AllBlocksNative` if there are blocks,
 /// and all of their widths are the type's bits.
-pub fn widths_refusal(array: &PrimitiveArray, widths: &[u8]) -> Option<FastLanesError>
-    ensures { result ≡ widths_refusal array.now widths.now }
+pub(crate) fn list_refusal(array: &PrimitiveArray, widths: &[u8]) -> Option<FastLanesError>
+    ensures { result ≡ list_refusal array.now widths.now }
 {
-    if has_negative(array) {
-        return Some(FastLanesError::NegativeValue);
-    }
     if widths.len() != chunk_count(array.len()) {
         return Some(FastLanesError::BlockCount);
     }

@@ -15,7 +15,7 @@ use fl_column::{PhysicalPType, chunk_count, chunk_of};
 use fl_types::FastLanesError;
 use std::alloc::{AllocError, Global};
 
-/// Packs at most 1024 integers, behind which stands 0, and adds the block's words. A block is lent for
+/// Packs at most 1024 integers, padded with 0, and adds the block's words. A block is lent for
 /// the integers' patterns, and one for the words.
 fn push_block<T: PhysicalPType>(
     width: usize,

@@ -25,7 +25,7 @@ use fl_patches::{Patches, Widths};
 use fl_types::NativePType;
 use num_traits::WrappingAdd;
 
-/// Writes the values of patches, plus the references of their blocks, in their places, if there are patches.
+/// Writes the values of patches, plus the references of their blocks, at their indices, if there are patches.
 /// Item 0 is at position `first` of its block.
 fn write_patches_if_some<T: NativePType + WrappingAdd>(
     patches: Option<&Patches>,

@@ -1,4 +1,4 @@
-//! Packed columns of the same integers, where nulls may stand or not.
+//! Packed columns of the same integers, as a nullable or non-nullable column.
 
 ghost use Rattle.std.specs.Prelude.{◌≡◌, IsTrue, Ok, length, option_map};
 ghost use Rattle.std.specs.Option.{option_copied};
@@ -14,7 +14,7 @@ use fl_patches::Patches;
 use fl_types::{FastLanesError, Nullability, Validity, match_each_integer_ptype};
 use std::alloc::Global;
 
-/// The validity of the same items where nulls may stand or not.
+/// The validity of the same items as a nullable or non-nullable column.
 pub fn cast_validity(
     validity: &Validity,
     alloc: Global,
@@ -44,7 +44,7 @@ fn cast_typed<T: NativePType>(
     Ok(PrimitiveArray::new_unchecked(items, validity))
 }
 
-/// The same stored integers where nulls may stand or not.
+/// The same stored integers as a nullable or non-nullable column.
 fn cast_primitive(
     values: &PrimitiveArray,
     alloc: Global,
@@ -55,7 +55,7 @@ fn cast_primitive(
     match_each_integer_ptype!(values.ptype(), cast_typed(values, alloc, nullability))
 }
 
-/// A copy of chunk offsets, where there are some.
+/// A copy of chunk offsets, if there are any.
 fn clone_chunk_offsets(
     patches: &Patches,
     alloc: Global,
@@ -68,7 +68,7 @@ fn clone_chunk_offsets(
     }
 }
 
-/// Patches of the same values, of a column in which nulls may stand or not.
+/// Patches of the same values, of a nullable or non-nullable column.
 fn cast_some_patches(
     patches: &Patches,
     alloc: Global,
@@ -110,10 +110,10 @@ impl PackedData {
         }
     }
 
-    /// The same packed bytes, shared, where nulls may stand or not.
+    /// The same packed bytes, shared, as a nullable or non-nullable column.
     ///
     /// # Errors
-    /// None but `OutOfMemory`.
+    /// Only `OutOfMemory`.
     pub fn cast_in_place(
         &self,
         alloc: Global,

@@ -14,7 +14,7 @@ ghost use Rattle.fl_types.specs.Refusals.{Answers};
 ghost use Rattle.fl_column.specs.Chunks.{chunk_count};
 ghost use Rattle.fl_column.specs.Columns.{column_of_bools};
 ghost use Rattle.fl_column.specs.Numbers.{numbers, numbers_by};
-ghost use Rattle.fl_column.specs.Questions.{tested};
+ghost use Rattle.fl_column.specs.Queries.{tested};
 ghost use Rattle.fl_patches.specs.PatchMaps.{patched, patched_in};
 ghost use Rattle.fl_bitpacking.specs.Blocks.{are_blocks, block_item, blocks_of, boundary_blocks, global_blocks, item_of_blocks};
 ghost use Rattle.fl_bitpacking.specs.Columns.{block_count, column_of_packed};
@@ -63,7 +63,7 @@ impl PackedTest {
         }
     }
 
-    /// Whether a width decides the test: all items of a block of this width that are no patches have one answer. The type's own
+    /// Whether a width decides the test: all items of a block of this width that are not patches have one answer. The type's own
     /// width decides nothing.
     fn is_decided(self, width: usize) -> bool
         requires test { IsPackedTest self }
@@ -77,7 +77,7 @@ impl PackedTest {
         self.patterns.has_one_answer(count - 1)
     }
 
-    /// Whether an item passes that is stored as 0.
+    /// Whether an item stored as 0 passes.
     fn is_passed_by_zero(self) -> bool
         requires { IsPackedTest self }
         ensures { result ≡ passes self.range (pos 0) }
@@ -96,7 +96,7 @@ impl PackedTest {
     }
 }
 
-/// Whether a word less `low`, modulo 2 to its bits, is at most `span`.
+/// Whether a word minus `low`, modulo 2 to its bits, is at most `span`.
 #[inline(always)]
 #[tactic(auto, unfolding(crate::specs::RangeTests::in_range))]
 fn is_in_range<W: FastLanes>(word: W, low: W, span: W) -> bool
@@ -105,7 +105,7 @@ fn is_in_range<W: FastLanes>(word: W, low: W, span: W) -> bool
     word.wrapping_difference(low).at_most(span)
 }
 
-/// Sets bit `i` where the pattern of item `i` of a packed block less `low`, modulo 2 to its bits, is at most `span`, and no
+/// Sets bit `i` where the pattern of item `i` of a packed block minus `low`, modulo 2 to its bits, is at most `span`, and no
 /// other bit.
 fn compare_block<W: FastLanes>(
     width: usize,
@@ -134,14 +134,14 @@ fn compare_block<W: FastLanes>(
     transpose_bits::<W>(&lanes, bits);
 }
 
-/// The word of which each bit is turned round.
+/// The word of which each bit is inverted.
 fn flipped(word: u64) -> u64
     ensures { (j : ℕ) → j < 64 → is_bit_set result j ≡ not (is_bit_set word j) }
 {
     !word
 }
 
-/// Turns each bit round.
+/// Inverts each bit.
 fn negate(bits: &mut [u64; 16])
     ensures bits { (i : ℕ) → i < 1024 → has_bit bits.new i ≡ not (has_bit bits.old i) }
     ensures whole { length bits.new ≡ 16 }
@@ -151,7 +151,7 @@ fn negate(bits: &mut [u64; 16])
     }
 }
 
-/// The word whose bits all are `on`.
+/// The word whose bits are all `on`.
 fn uniform_word(on: bool) -> u64
     ensures { (j : ℕ) → j < 64 → is_bit_set result j ≡ on }
 {
@@ -220,7 +220,7 @@ fn test_block<W: FastLanes>(
 }
 
 impl PackedBlocks<'_> {
-    /// Adds the answers of the tests for the items of block `j`, whose bytes start at `start`, and gives where those of the
+    /// Appends the answers of the tests for the items of block `j`, whose bytes start at `start`, and returns where those of the
     /// next block start.
     fn push_answers<W: FastLanes>(
         self,
@@ -278,7 +278,7 @@ fn test_blocks<W: FastLanes>(
     Ok(words)
 }
 
-/// The same by words of the type's bits.
+/// The same, by words of the type's bits.
 fn test_words(
     alloc: Global,
     blocks: PackedBlocks,
@@ -335,7 +335,7 @@ fn passes_at<T: PhysicalPType>(test: PackedTest, values: &[T], k: usize) -> bool
     test.is_passed_by(value)
 }
 
-/// Puts the answers for values in the places of their indices. Item 0 is at position `first` of the blocks.
+/// Writes the answers for values at their indices. Item 0 is at position `first` of the blocks.
 fn write_answers<T: PhysicalPType, I: NativePType>(
     tests: BlockTests,
     indices: &[I],
@@ -379,7 +379,7 @@ fn write_typed<T: PhysicalPType, I: NativePType>(
     write_answers(tests, indices, values, offset, first, bits);
 }
 
-/// Puts the answers for values in the places of their indices. Item 0 is at position `first` of the blocks.
+/// Writes the answers for values at their indices. Item 0 is at position `first` of the blocks.
 fn write_in<T: PhysicalPType>(
     tests: BlockTests,
     indices: &PrimitiveArray,
@@ -422,7 +422,7 @@ fn test_patches_typed<T: PhysicalPType>(
     write_in(tests, indices, values, offset, first, bits);
 }
 
-/// Puts the answers for the patches' values in their places. Item 0 is at position `first` of the blocks.
+/// Writes the answers for the patches' values at their indices. Item 0 is at position `first` of the blocks.
 fn test_patches(tests: BlockTests, patches: &Patches, first: usize, bits: &mut BitList)
     requires tests { AreBlockTests (chunk_count (first + length bits.old)) tests }
     requires typed { patches.now.values.ptype ≡ tests.test.ptype }
@@ -437,7 +437,7 @@ fn test_patches(tests: BlockTests, patches: &Patches, first: usize, bits: &mut B
     )
 }
 
-/// These answers, with those for the patches in their places, if there are patches. Item 0 is at position `first` of the blocks.
+/// These answers, with those for the patches at their indices, if there are patches. Item 0 is at position `first` of the blocks.
 fn with_patches(
     tests: BlockTests,
     mut bits: BitList,
@@ -457,7 +457,7 @@ fn with_patches(
 }
 
 /// The answers of a test for the items of these parts, whose blocks have these widths, or for the sums of the items and the
-/// references of their blocks; a null stays a null.
+/// references of their blocks; nulls stay null.
 pub(crate) fn test_column(
     alloc: Global,
     column: &PackedColumn,
@@ -514,7 +514,7 @@ pub(crate) fn test_global(
 
 /// The same of parts whose block `j` lies between the boundaries `j` and `j + 1`, in bytes counted from the first boundary.
 ///
-/// There is one boundary more than there are blocks, and each two neighbours are those of a block in the bytes, of at most the
+/// There is one boundary more than there are blocks, and each two neighbouring ones enclose a block in the bytes, of at most the
 /// type's bits.
 pub(crate) fn test_blocked(
     alloc: Global,

@@ -24,7 +24,7 @@ use crate::bit_packed::BitPacked;
 use crate::bitpack_decompress::block_decoding::PlusReferences;
 use crate::bitpack_decompress::{PackedColumn, unpack_block_item};
 use crate::blocks::{PackedBlocks, block_at};
-use crate::compute::filter::kept_items::{count_between, push_kept, word_at};
+use crate::compute::filter::kept_items::{count_between, push_kept};
 use crate::compute::filter::patched_part::{patch_part, patches_before_first, patches_to};
 use crate::compute::take::runs::{block_start, unpack_threshold};
 use crate::packed_data::PackedData;
@@ -107,7 +107,7 @@ impl<'a> Filtering<'a> {
         for k in 0..items.len().div_ceil(64) {
             let at = 64 * k;
             let count = (items.len() - at).min(64);
-            let word = word_at(self.bits, from + at, count);
+            let word = self.bits.word_from(from + at, count);
             let first = (self.column.offset + from + at) % FL_CHUNK_SIZE;
             read_set(width, block, first, word, &mut items[at..at + count], work);
         }
@@ -144,7 +144,7 @@ impl<'a> Filtering<'a> {
         }
     }
 
-    /// Adds the items of block `j` that are kept, of which there are `count`. The first item of the block is the one at
+    /// Appends the items of block `j` that are kept, of which there are `count`. The first item of the block is the one at
     /// `from`; there are `before` patches before it, and `after` before the end of the block.
     fn push_part<T: BitPacked + PhysicalPType + WrappingAdd>(
         self,
@@ -178,7 +178,7 @@ impl<'a> Filtering<'a> {
         Ok(())
     }
 
-    /// Adds the items of block `j` that are kept, and returns how many patches are before the next block.
+    /// Appends the items of block `j` that are kept, and returns how many patches are before the next block.
     fn push_block<T: BitPacked + PhysicalPType + WrappingAdd>(
         self,
         j: usize,
@@ -212,7 +212,7 @@ impl<'a> Filtering<'a> {
         Ok(after)
     }
 
-    /// What stands at the items that are kept, also under a null.
+    /// What is stored at the items that are kept, also under a null.
     fn kept_slots<T: BitPacked + PhysicalPType + WrappingAdd>(
         self,
         alloc: Global,

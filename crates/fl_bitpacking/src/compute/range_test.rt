@@ -3,7 +3,7 @@
 ghost use Rattle.std.specs.Prelude.{◌≡◌, ◌&&◌, ◌||◌, ◌-◌, ◌%◌, ◌^◌, ◌<◌, ◌≤◌, ◌⊎◌, ◌+◌, ◌≤ℤ◌, ◌<ℤ◌, ◌+ℤ◌, ◌-ℤ◌, ℕ, ℤ, IfNone, IfSome, pos, negsuc, int_le, nat_eq, nat_le, if◌then◌else◌};
 ghost use Rattle.fl_types.specs.Integers.{bits_of_type, pattern_of, wrap};
 ghost use Rattle.fl_types.specs.Values.{integer_of, ptype_of_value};
-ghost use Rattle.fl_column.specs.Questions.{holds, is_before, is_between};
+ghost use Rattle.fl_column.specs.Queries.{holds, is_before, is_between};
 ghost use Rattle.fl_bitpacking.specs.RangeTests.{IsTestOf, TestsPatterns, TestsRange, answer_of, is_from, is_up_to, passes};
 ghost use Rattle.fl_bitpacking.specs.LeastIntegers.{least_of};
 
@@ -14,31 +14,31 @@ use fl_types::{
 };
 use num_traits::WrappingAdd;
 
-/// Whether an integer lies in a range, which may be open at an end; or, negated, whether it does not. Where there is a
+/// Whether an integer lies in a range, which may be unbounded on either side; or, negated, whether it does not. Where there is a
 /// reference, the sum of the integer and the reference is looked at, modulo 2 to the reference's bits.
 #[derive(Clone, Copy)]
 pub struct RangeTest {
-    /// The least integer of the range, where there is one.
+    /// The smallest integer of the range, if there is one.
     pub lower: Option<i128>,
-    /// The greatest integer of the range, where there is one.
+    /// The largest integer of the range, if there is one.
     pub upper: Option<i128>,
-    /// Whether the integers out of the range pass in place of those in it.
+    /// Whether the integers out of the range pass instead of those in it.
     pub negated: bool,
     /// What is added to each integer, where there is a reference.
     pub reference: Option<PValue>,
 }
 
-/// The test of a type's integers by their patterns: whether the pattern less `low`, modulo 2 to the type's bits, is at most
+/// The test of a type's integers by their patterns: whether the pattern minus `low`, modulo 2 to the type's bits, is at most
 /// `span`; or, negated, whether it is above.
 #[derive(Clone, Copy)]
 pub(crate) struct PatternTest {
-    /// The pattern of the least integer of the range.
+    /// The pattern of the smallest integer of the range.
     pub(crate) low: u64,
     /// How far the greatest one is above it.
     pub(crate) span: u64,
-    /// Whether the patterns out of the range pass in place of those in it.
+    /// Whether the patterns out of the range pass instead of those in it.
     pub(crate) negated: bool,
-    /// The greatest pattern of the type.
+    /// The largest pattern of the type.
     pub(crate) greatest: u64,
 }
 
@@ -60,7 +60,7 @@ fn integer(value: PValue) -> i128
     }
 }
 
-/// The least integer of a type.
+/// The smallest integer of a type.
 fn least_integer(ptype: PType) -> i128
     ensures { result ≡ least_of ptype }
 {
@@ -73,7 +73,7 @@ fn least_integer(ptype: PType) -> i128
     }
 }
 
-/// The greatest integer of a type.
+/// The largest integer of a type.
 fn greatest_integer(ptype: PType) -> i128
     ensures { result ≡ least_of ptype +ℤ pos (2 ^ bits_of_type ptype - 1) }
 {
@@ -89,7 +89,7 @@ fn greatest_integer(ptype: PType) -> i128
     }
 }
 
-/// The greatest pattern of a type.
+/// The largest pattern of a type.
 fn greatest_pattern(ptype: PType) -> u64
     ensures { result ≡ 2 ^ bits_of_type ptype - 1 }
 {
@@ -101,7 +101,7 @@ fn greatest_pattern(ptype: PType) -> u64
     }
 }
 
-/// The least integer above a bound, or from it on.
+/// The smallest integer above a bound, or from it on.
 fn lower_end(bound: PValue, strict: StrictComparison) -> i128
     ensures { (z : ℤ) → int_le result z ≡ is_before strict (integer_of bound) z }
 {
@@ -111,7 +111,7 @@ fn lower_end(bound: PValue, strict: StrictComparison) -> i128
     }
 }
 
-/// The greatest integer below a bound, or up to it.
+/// The largest integer below a bound, or up to it.
 fn upper_end(bound: PValue, strict: StrictComparison) -> i128
     ensures { (z : ℤ) → int_le z result ≡ is_before strict z (integer_of bound) }
 {
@@ -121,7 +121,7 @@ fn upper_end(bound: PValue, strict: StrictComparison) -> i128
     }
 }
 
-/// The least integer of a range from `least` on.
+/// The smallest integer of a range from `least` on.
 fn least_within(lower: Option<i128>, least: i128) -> i128
     ensures inside { (z : ℤ) → least ≤ℤ z → is_from lower z ≡ int_le result z }
     ensures low { least ≤ℤ result }
@@ -132,7 +132,7 @@ fn least_within(lower: Option<i128>, least: i128) -> i128
     }
 }
 
-/// The greatest integer of a range up to `greatest`.
+/// The largest integer of a range up to `greatest`.
 fn greatest_within(upper: Option<i128>, greatest: i128) -> i128
     ensures inside { (z : ℤ) → z ≤ℤ greatest → is_up_to upper z ≡ int_le z result }
     ensures high { result ≤ℤ greatest }
@@ -178,7 +178,7 @@ pub(crate) fn pattern(value: PValue) -> u64
     match_each_integer_ptype!(value.ptype(), pattern_typed(value))
 }
 
-/// How far a pattern is above another one, modulo 2 to a type's bits, of which `greatest` is the greatest pattern.
+/// How far a pattern is above another one, modulo 2 to a type's bits, of which `greatest` is the largest pattern.
 fn distance_above(pattern: u64, low: u64, greatest: u64) -> u64
     requires pattern { pattern ≤ greatest }
     requires low { low ≤ greatest }
@@ -192,7 +192,7 @@ fn distance_above(pattern: u64, low: u64, greatest: u64) -> u64
 }
 
 impl RangeTest {
-    /// The test of the integers from `lower` to `upper`, as far as there are such bounds, or of all others.
+    /// The test of the integers from `lower` to `upper`, as far as they are given, or of all others.
     #[tactic(auto, unfolding(crate::specs::RangeTests::passes))]
     fn new(lower: Option<i128>, upper: Option<i128>, negated: bool) -> RangeTest
         ensures test { (z : ℤ) → passes result z ≡ answer_of negated (is_from lower z && is_up_to upper z) }
@@ -318,7 +318,7 @@ impl PatternTest {
     }
 
     /// Whether either all patterns up to `last` pass, or none does: they are `last + 1` neighbours, of which 0 is so far above
-    /// `low`, and the range may begin anew behind the greatest pattern.
+    /// `low`, and the range may wrap around after the largest pattern.
     pub(crate) fn has_one_answer(self, last: u64) -> bool
         requires { self.low ≤ self.greatest }
         ensures { let first = (self.greatest + 1 - self.low) % (self.greatest + 1) in result ≡ (if nat_le first self.span then nat_eq self.span self.greatest || nat_le last (self.span - first) else nat_le last (self.greatest - first)) }
@@ -368,7 +368,7 @@ fn distance(lower: i128, upper: i128) -> Option<u64>
     Some((upper - lower) as u64)
 }
 
-/// The pattern of an integer of a type, by the type's greatest pattern.
+/// The pattern of an integer of a type, by the type's largest pattern.
 fn pattern_of_integer(z: i128, greatest: u64) -> u64
     requires low { negsuc greatest ≤ℤ z }
     requires high { z ≤ℤ pos greatest }

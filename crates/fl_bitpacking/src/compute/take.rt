@@ -79,7 +79,7 @@ impl<'a> Taking<'a> {
         }
     }
 
-    /// What stands at the positions, where the blocks are unpacked or read run by run.
+    /// What is stored at the positions, where the blocks are unpacked or read run by run.
     fn slots_by_runs<T: BitPacked + PhysicalPType>(
         self,
         alloc: Global,
@@ -98,7 +98,7 @@ impl<'a> Taking<'a> {
         Ok(with_patches_at(items, self.column.patches, self.positions))
     }
 
-    /// What stands at the positions, where all blocks are unpacked first.
+    /// What is stored at the positions, where all blocks are unpacked first.
     fn slots_of_all<T: BitPacked + WrappingAdd>(
         self,
         alloc: Global,
@@ -115,7 +115,7 @@ impl<'a> Taking<'a> {
         gather(alloc, &items, self.positions)
     }
 
-    /// What stands at the positions.
+    /// What is stored at the positions.
     fn taken_slots<T: BitPacked + PhysicalPType + WrappingAdd>(
         self,
         alloc: Global,
@@ -138,7 +138,7 @@ impl<'a> Taking<'a> {
         }
     }
 
-    /// The item at the k-th position, of which `slots` has what stands there, also under a null.
+    /// The item at the k-th position, of which `slots` has the stored integer, also under a null.
     fn item<T: NativePType>(self, slots: &[T], k: usize) -> Option<T>
         requires fit { Fit (parts_of self.column) }
         requires below { AreBelow self.column.len self.positions.now }
@@ -250,7 +250,7 @@ impl<'a> Taking<'a> {
         Ok(taken.finish(Nullability::Nullable))
     }
 
-    /// Whether nulls may stand in what indices take.
+    /// Whether the result of a take by these indices may have nulls.
     fn nullability_over(self, indices: &PrimitiveArray) -> Nullability
         ensures { result ≡ either_nullable (nullability_of self.entry.column.validity.now) (nullability_of indices.now.validity) }
     {
@@ -348,7 +348,7 @@ fn take_named(
 }
 
 /// The items that indices name of a column whose blocks all have one width, null where an index is null. The
-/// integer under a null index is never looked at. A take of more than an eighth of the items unpacks all
+/// integer under a null index is not read. A take of more than an eighth of the items unpacks all
 /// blocks; any other unpacks those of which it takes many items in a row.
 ///
 /// The width is at most the type's bits, and the blocks lie in the bytes.
@@ -375,7 +375,7 @@ pub fn take_global(
 /// at. A block is unpacked for more than sixteen indices in a row at least; for each of the others at most two
 /// words are read.
 ///
-/// There is one boundary more than there are blocks, and each two neighbours are those of a block in
+/// There is one boundary more than there are blocks, and each two neighbouring ones enclose a block in
 /// the bytes, of at most the type's bits.
 ///
 /// # Errors
@@ -406,7 +406,7 @@ pub fn take_blocked(
 
 impl PackedData {
     /// The items that indices name, null where an index is null, where all blocks have one width. The integer
-    /// under a null index is never looked at.
+    /// under a null index is not read.
     ///
     /// # Errors
     /// `IndexOutOfBounds` where an index is negative or not below the length.
@@ -425,7 +425,7 @@ impl PackedData {
     }
 
     /// The items that indices name, null where an index is null, where the blocks lie between the boundaries. The
-    /// integer under a null index is never looked at.
+    /// integer under a null index is not read.
     ///
     /// # Errors
     /// `IndexOutOfBounds` where an index is negative or not below the length.
@@ -446,7 +446,7 @@ impl PackedData {
     }
 
     /// The items that indices name, null where an index is null, where the blocks lie between boundaries that are all
-    /// equal: no block has a byte. The integer under a null index is never looked at.
+    /// equal: no block has a byte. The integer under a null index is not read.
     ///
     /// # Errors
     /// `IndexOutOfBounds` where an index is negative or not below the length.

@@ -20,7 +20,7 @@ pub(crate) fn lends_first(offset: usize, len: usize) -> bool
     offset != 0 || chunk_count(offset + len) == 1
 }
 
-/// Whether the last block lends its items by itself: it is cut behind, and not the only one.
+/// Whether the last block lends its items by itself: it is cut at its end, and not the only one.
 pub(crate) fn lends_last(offset: usize, len: usize) -> bool
     requires { offset + len < 2 ^ 64 }
     ensures { result ≡ lends_last offset len }

@@ -1,4 +1,4 @@
-//! Single items of columns that are kept less a reference.
+//! Single items of columns stored as differences from a reference.
 
 ghost use Rattle.std.specs.Prelude.{◌≡◌, ◌+ℤ◌, Some};
 ghost use Rattle.fl_types.specs.Integers.{wrap};
@@ -29,7 +29,7 @@ fn sum(value: PValue, reference: PValue) -> PValue
     match_each_integer_ptype!(reference.ptype(), sum_typed(value, reference))
 }
 
-/// An item plus a reference of its type, modulo 2 to the type's bits. A null stays a null.
+/// An item plus a reference of its type, modulo 2 to the type's bits. Nulls stay null.
 pub fn plus_reference(item: Scalar, reference: PValue) -> Scalar
     requires { integer_type (scalar_parts item).dtype ≡ Some (ptype_of_value reference) }
     ensures { scalar_parts result ≡ record { dtype = (scalar_parts item).dtype; value = plus_reference (ptype_of_value reference) (integer_of reference) (scalar_parts item).value } }

@@ -5,17 +5,20 @@
 ghost use Rattle.std.specs.Prelude.{◌≡◌, ◌<◌, ◌≤◌, ◌+◌, ◌*◌, ◌/◌, ◌%◌, ◌^◌, ◌∷◌, ℕ, ℤ, pos, min, Some, None, IsTrue, IfOk, OnOk, length, map, option_map, slice_index_or, if◌then◌else◌};
 ghost use Rattle.fl_types.specs.Bits.{between, bit_of_word, tabulate};
 ghost use Rattle.fl_types.specs.Validities.{covers, is_valid_at, items_of};
-ghost use Rattle.fl_codec.specs.Chunks.{chunks_of};
-ghost use Rattle.fl_codec.specs.FoRColumns.{chunked_slots, least_valid, minus_reference, turned};
+ghost use Rattle.fl_codec.specs.FoRColumns.{least_valid, min_valid, minus_reference, turned};
 
 use crate::chunks::{chunk_count, chunk_end};
-use crate::for_::without_nulls::{less, minus};
+use crate::for_::without_nulls;
+use crate::for_::without_nulls::{least_of, less, minus};
 use fl_types::{NativePType, Validity};
 use num_traits::WrappingSub;
 use std::alloc::{AllocError, Global};
 
 /// How many items a word of validity covers.
 const WORD: usize = 64;
+
+/// The word of items none of which is null.
+const ALL_VALID: u64 = u64::MAX;
 
 /// The validity of the items from `64 * k` on, the first one in the lowest bit.
 fn validity_word(validity: &Validity, k: usize, _len: usize) -> u64
@@ -24,7 +27,7 @@ fn validity_word(validity: &Validity, k: usize, _len: usize) -> u64
     ensures { (j : ℕ) → j < 64 → 64 * k + j < _len → bit_of_word result j ≡ is_valid_at validity.now (64 * k + j) }
 {
     match validity {
-        Validity::NonNullable | Validity::AllValid => u64::MAX,
+        Validity::NonNullable | Validity::AllValid => ALL_VALID,
         Validity::AllInvalid => 0,
         Validity::Array(bits) => bits.word(k),
     }
@@ -61,9 +64,9 @@ fn valid_or<T: NativePType>(item: T, is_valid: bool, other: T) -> T
     if is_valid { item } else { other }
 }
 
-/// The least of an integer and of the valid ones among at most 64 items, each less an origin. Those are valid whose
+/// The minimum of an integer and of the valid ones among at most 64 items, each minus an origin. The valid ones are those whose
 /// bits are set.
-fn least_with_word<T: NativePType + WrappingSub>(items: &[T], word: u64, origin: T, seed: T) -> T
+fn least_of_items<T: NativePType + WrappingSub>(items: &[T], word: u64, origin: T, seed: T) -> T
     requires { length items.now ≤ 64 }
     ensures { Some (T.value result) ≡ least_valid (Some (T.value seed) ∷ tabulate (λ j. option_map (turned T.PTYPE (T.value origin)) (if bit_of_word word j then Some (slice_index_or (map T.value items.now) j (pos 0)) else None)) (length items.now)) }
 {
@@ -75,7 +78,32 @@ fn least_with_word<T: NativePType + WrappingSub>(items: &[T], word: u64, origin:
     least
 }
 
-/// The first valid one among at most 64 items, less an origin.
+/// The minimum of an integer and of these, each minus an origin.
+fn least_of_valid<T: NativePType + WrappingSub>(items: &[T], origin: T, seed: T) -> T
+    ensures { Some (T.value result) ≡ min_valid (Some (T.value seed)) (least_valid (map (λ z. Some z) (map (λ x. turned T.PTYPE (T.value origin) (T.value x)) items.now))) }
+{
+    match least_of(items, origin) {
+        Some(least) => less(seed, least),
+        None => seed,
+    }
+}
+
+/// The same as `least_of_items` returns. Items that are all valid need no bits, and of 64 the compiler works on more at
+/// once, since it knows that there are so many.
+fn least_with_word<T: NativePType + WrappingSub>(items: &[T], word: u64, origin: T, seed: T) -> T
+    requires { length items.now ≤ 64 }
+    ensures { Some (T.value result) ≡ least_valid (Some (T.value seed) ∷ tabulate (λ j. option_map (turned T.PTYPE (T.value origin)) (if bit_of_word word j then Some (slice_index_or (map T.value items.now) j (pos 0)) else None)) (length items.now)) }
+{
+    if word == ALL_VALID {
+        least_of_valid(items, origin, seed)
+    } else if items.len() == WORD {
+        least_of_items(&items[..WORD], word, origin, seed)
+    } else {
+        least_of_items(items, word, origin, seed)
+    }
+}
+
+/// The first valid one among at most 64 items, minus an origin.
 fn first_of_word<T: NativePType + WrappingSub>(items: &[T], word: u64, origin: T) -> Option<T>
     requires { length items.now ≤ 64 }
     ensures one { least_valid (option_map T.value result ∷ tabulate (λ j. option_map (turned T.PTYPE (T.value origin)) (if bit_of_word word j then Some (slice_index_or (map T.value items.now) j (pos 0)) else None)) (length items.now)) ≡ least_valid (tabulate (λ j. option_map (turned T.PTYPE (T.value origin)) (if bit_of_word word j then Some (slice_index_or (map T.value items.now) j (pos 0)) else None)) (length items.now)) }
@@ -89,7 +117,7 @@ fn first_of_word<T: NativePType + WrappingSub>(items: &[T], word: u64, origin: T
     None
 }
 
-/// The least item so far, else the first valid one among at most 64 more, less an origin.
+/// The minimum so far, else the first valid one among at most 64 more, minus an origin.
 fn seed_of_word<T: NativePType + WrappingSub>(
     items: &[T],
     word: u64,
@@ -106,7 +134,7 @@ fn seed_of_word<T: NativePType + WrappingSub>(
     }
 }
 
-/// The least item so far and of the valid ones among at most 64 more, each less an origin.
+/// The minimum so far and of the valid ones among at most 64 more, each minus an origin.
 fn least_after_word<T: NativePType + WrappingSub>(
     items: &[T],
     word: u64,
@@ -122,7 +150,7 @@ fn least_after_word<T: NativePType + WrappingSub>(
     }
 }
 
-/// The least valid item from `start` to below `end`, each less an origin.
+/// The minimum of the valid items from `start` to below `end`, each minus an origin.
 pub(crate) fn least_between<T: NativePType + WrappingSub>(
     items: &[T],
     validity: &Validity,
@@ -146,7 +174,7 @@ pub(crate) fn least_between<T: NativePType + WrappingSub>(
     least
 }
 
-/// An integer less a reference where it is valid, 0 where it is null.
+/// An integer minus a reference where it is valid, 0 where it is null.
 fn difference<T: NativePType + WrappingSub>(item: T, is_valid: bool, reference: T) -> T
     ensures { T.value result ≡ minus_reference T.PTYPE (T.value reference) (if is_valid then Some (T.value item) else None) }
 {
@@ -154,8 +182,8 @@ fn difference<T: NativePType + WrappingSub>(item: T, is_valid: bool, reference: 
     if is_valid { difference } else { T::zero() }
 }
 
-/// Writes the slots of at most 64 items, less a reference. Those are valid whose bits are set.
-fn subtract_word<T: NativePType + WrappingSub>(
+/// Writes the slots of at most 64 items, minus a reference. The valid ones are those whose bits are set.
+fn subtract_items<T: NativePType + WrappingSub>(
     items: &[T],
     word: u64,
     reference: T,
@@ -170,7 +198,28 @@ fn subtract_word<T: NativePType + WrappingSub>(
     }
 }
 
-/// Writes the slots of the items from `start` on, less a reference.
+/// The same as `subtract_items` writes. Items that are all valid need no bits, and of 64 the compiler works on more at once,
+/// since it knows that there are so many.
+fn subtract_word<T: NativePType + WrappingSub>(
+    items: &[T],
+    word: u64,
+    reference: T,
+    slots: &mut [T],
+)
+    requires few { length items.now ≤ 64 }
+    requires slots { length slots.old ≡ length items.now }
+    ensures { (j : ℕ) → j < length items.now → slice_index_or (map T.value slots.new) j (pos 0) ≡ minus_reference T.PTYPE (T.value reference) (if bit_of_word word j then Some (slice_index_or (map T.value items.now) j (pos 0)) else None) }
+{
+    if word == ALL_VALID {
+        without_nulls::subtract(items, reference, slots);
+    } else if items.len() == WORD {
+        subtract_items(&items[..WORD], word, reference, slots);
+    } else {
+        subtract_items(items, word, reference, slots);
+    }
+}
+
+/// Writes the slots of the items from `start` on, minus a reference.
 fn subtract<T: NativePType + WrappingSub>(
     items: &[T],
     validity: &Validity,
@@ -193,8 +242,8 @@ fn subtract<T: NativePType + WrappingSub>(
     }
 }
 
-/// Adds the slots of the items after those that have one, up to below `end`, less a reference.
-fn push_differences<T: NativePType + WrappingSub>(
+/// Appends the slots of the items after those that have one, up to below `end`, minus a reference.
+pub(crate) fn push_differences<T: NativePType + WrappingSub>(
     items: &[T],
     validity: &Validity,
     end: usize,
@@ -214,7 +263,7 @@ fn push_differences<T: NativePType + WrappingSub>(
     Ok(())
 }
 
-/// The slots of the items less a reference.
+/// The slots of the items minus a reference.
 pub(crate) fn differences<T: NativePType + WrappingSub>(
     alloc: Global,
     items: &[T],
@@ -229,27 +278,6 @@ pub(crate) fn differences<T: NativePType + WrappingSub>(
     let mut slots = Vec::with_capacity(alloc, len)?;
     for k in 0..chunk_count(len) {
         push_differences(items, validity, chunk_end(k, len), reference, &mut slots)?;
-    }
-    Ok(slots)
-}
-
-/// The slots of the items, each less the reference of its chunk.
-pub(crate) fn chunked_differences<T: NativePType + WrappingSub>(
-    alloc: Global,
-    items: &[T],
-    validity: &Validity,
-    references: &[T],
-) -> Result<Vec<T>, AllocError>
-    requires covers { IsTrue (covers validity.now (length items.now)) }
-    requires references { length references.now ≡ chunks_of (length items.now) }
-    ensures long { IfOk result (λ v. length v.items ≡ length items.now) }
-    ensures slots { IfOk result (λ v. map T.value v.items ≡ chunked_slots T.PTYPE (map T.value references.now) (items_of validity.now (map T.value items.now))) }
-{
-    let len = items.len();
-    let mut slots = Vec::with_capacity(alloc, len)?;
-    for k in 0..references.len() {
-        let end = chunk_end(k, len);
-        push_differences(items, validity, end, references[k], &mut slots)?;
     }
     Ok(slots)
 }

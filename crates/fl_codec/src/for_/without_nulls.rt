@@ -4,7 +4,7 @@
 ghost use Rattle.std.specs.Prelude.{◌≡◌, ◌<◌, ◌≤◌, ◌+◌, ◌-◌, ◌*◌, ◌/◌, ◌^◌, ◌++◌, ◌+ℤ◌, ◌-ℤ◌, ℕ, pos, Some, IfOk, OnOk, length, map, min, option_map, slice_index_or};
 ghost use Rattle.fl_types.specs.Integers.{wrap};
 ghost use Rattle.fl_codec.specs.Chunks.{chunks_of};
-ghost use Rattle.fl_codec.specs.FoRColumns.{chunked_slots, chunked_sums, least_valid, min_valid, turned};
+ghost use Rattle.fl_codec.specs.FoRColumns.{chunked_sums, least_valid, min_valid, turned};
 
 use crate::chunks::{chunk_count, chunk_end};
 use fastlanes::FL_CHUNK_SIZE;
@@ -13,21 +13,32 @@ use fl_types::NativePType;
 use num_traits::{WrappingAdd, WrappingSub};
 use std::alloc::{AllocError, Global};
 
-/// The lesser of two integers.
+/// The smaller of two integers.
 pub(crate) fn less<T: NativePType>(x: T, y: T) -> T
     ensures { Some (T.value result) ≡ min_valid (Some (T.value x)) (Some (T.value y)) }
 {
     if y < x { y } else { x }
 }
 
-/// An integer less a reference, modulo 2 to the type's bits.
+/// The smaller of two integers, of which each may be missing.
+pub(crate) fn lesser<T: NativePType>(x: Option<T>, y: Option<T>) -> Option<T>
+    ensures { option_map T.value result ≡ min_valid (option_map T.value x) (option_map T.value y) }
+{
+    match (x, y) {
+        (Some(x), Some(y)) => Some(less(x, y)),
+        (None, y) => y,
+        (x, None) => x,
+    }
+}
+
+/// An integer minus a reference, modulo 2 to the type's bits.
 pub(crate) fn minus<T: NativePType + WrappingSub>(item: T, reference: T) -> T
     ensures { T.value result ≡ wrap T.PTYPE (T.value item -ℤ T.value reference) }
 {
     item.wrapping_sub(&reference)
 }
 
-/// The least of these integers, each less an origin, if there is one.
+/// The minimum of these integers, each minus an origin, if there is one.
 pub(crate) fn least_of<T: NativePType + WrappingSub>(items: &[T], origin: T) -> Option<T>
     ensures { option_map T.value result ≡ least_valid (map (λ z. Some z) (map (λ x. turned T.PTYPE (T.value origin) (T.value x)) items.now)) }
 {
@@ -43,14 +54,14 @@ pub(crate) fn least_of<T: NativePType + WrappingSub>(items: &[T], origin: T) -> 
 }
 
 /// An integer plus a reference, modulo 2 to the type's bits.
-fn plus<T: NativePType + WrappingAdd>(item: T, reference: T) -> T
+pub(crate) fn plus<T: NativePType + WrappingAdd>(item: T, reference: T) -> T
     ensures { T.value result ≡ wrap T.PTYPE (T.value item +ℤ T.value reference) }
 {
     item.wrapping_add(&reference)
 }
 
-/// Writes each integer less a reference.
-fn subtract<T: NativePType + WrappingSub>(items: &[T], reference: T, slots: &mut [T])
+/// Writes each integer minus a reference.
+pub(crate) fn subtract<T: NativePType + WrappingSub>(items: &[T], reference: T, slots: &mut [T])
     requires { length slots.old ≡ length items.now }
     ensures { map T.value slots.new ≡ map (λ z. wrap T.PTYPE (z -ℤ T.value reference)) (map T.value items.now) }
 {
@@ -59,9 +70,9 @@ fn subtract<T: NativePType + WrappingSub>(items: &[T], reference: T, slots: &mut
     }
 }
 
-/// Adds each integer less a reference to the slots. They are written while the memory that is made for them is in
+/// Appends each integer minus a reference to the slots. They are written while the memory that is made for them is in
 /// the cache.
-fn push_differences<T: NativePType + WrappingSub>(
+pub(crate) fn push_differences<T: NativePType + WrappingSub>(
     items: &[T],
     reference: T,
     slots: &mut Vec<T>,
@@ -87,8 +98,8 @@ fn add<T: NativePType + WrappingAdd>(items: &[T], reference: T, slots: &mut [T])
     }
 }
 
-/// Where the items of chunk `k` begin and end among `len` items, of which the first stands at `offset`.
-fn part_of_chunk(k: usize, offset: usize, len: usize) -> (usize, usize)
+/// Where the items of chunk `k` begin and end among `len` items, of which the first is at `offset`.
+pub(crate) fn part_of_chunk(k: usize, offset: usize, len: usize) -> (usize, usize)
     requires few { offset + len < 2 ^ 64 }
     requires chunk { 1024 * k ≤ offset + len }
     ensures start { result.0 ≡ 1024 * k - offset }
@@ -101,7 +112,7 @@ fn part_of_chunk(k: usize, offset: usize, len: usize) -> (usize, usize)
     (start, end)
 }
 
-/// Writes each integer plus the reference of its chunk of 1024, where the first one stands at `offset`.
+/// Writes each integer plus the reference of its chunk of 1024, where the first one is at `offset`.
 fn add_chunks<T: NativePType + WrappingAdd>(
     items: &[T],
     references: &[T],
@@ -121,7 +132,7 @@ fn add_chunks<T: NativePType + WrappingAdd>(
     }
 }
 
-/// Each integer less a reference, modulo 2 to the type's bits.
+/// Each integer minus a reference, modulo 2 to the type's bits.
 pub(crate) fn differences<T: NativePType + WrappingSub>(
     alloc: Global,
     items: &[T],
@@ -132,22 +143,6 @@ pub(crate) fn differences<T: NativePType + WrappingSub>(
     let mut slots = Vec::with_capacity(alloc, items.len())?;
     for k in 0..chunk_count(items.len()) {
         push_differences(chunk_of(items, k), reference, &mut slots)?;
-    }
-    Ok(slots)
-}
-
-/// Each integer less the reference of its chunk of 1024, modulo 2 to the type's bits.
-pub(crate) fn chunked_differences<T: NativePType + WrappingSub>(
-    alloc: Global,
-    items: &[T],
-    references: &[T],
-) -> Result<Vec<T>, AllocError>
-    requires { length references.now ≡ chunks_of (length items.now) }
-    ensures { IfOk result (λ v. map T.value v.items ≡ chunked_slots T.PTYPE (map T.value references.now) (map (λ z. Some z) (map T.value items.now))) }
-{
-    let mut slots = Vec::with_capacity(alloc, items.len())?;
-    for k in 0..references.len() {
-        push_differences(chunk_of(items, k), references[k], &mut slots)?;
     }
     Ok(slots)
 }
@@ -166,7 +161,7 @@ pub(crate) fn sums<T: NativePType + WrappingAdd>(
     Ok(sums)
 }
 
-/// Each integer plus the reference of its chunk of 1024, modulo 2 to the type's bits. The first one stands at
+/// Each integer plus the reference of its chunk of 1024, modulo 2 to the type's bits. The first one is at
 /// `offset` in its chunk.
 pub(crate) fn chunked_sums<T: NativePType + WrappingAdd>(
     alloc: Global,

@@ -97,7 +97,7 @@ fn are_run_indices(indices: &PrimitiveArray, offsets: &PrimitiveArray, count: us
     true
 }
 
-/// Why run offsets or run indices name none of this many run values, if they do not: `RunOffsets` where an
+/// Why run offsets or run indices do not fit this many run values: `RunOffsets` where an
 /// offset is below the first one, or a chunk has no run value or more than 1024, or there are run values
 /// without a chunk; then `RunIndex` where an index that is not null is not below its chunk's number of run
 /// values.
@@ -131,7 +131,7 @@ fn is_index_array(array: &PrimitiveArray) -> bool
     }
 }
 
-/// Why these parts make no column of `len` items from `offset` on, if they make none.
+/// Why these parts are not those of a column of `len` items from `offset` on, if they are not.
 ///
 /// It is the first of these: `OffsetTooLarge` at 1024 or more; `ChildNullable` where run values may
 /// be null; `RunIndexType` where indices are neither `u8` nor `u16`; `BlockOffsetsType` where run

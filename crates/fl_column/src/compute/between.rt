@@ -3,7 +3,7 @@
 ghost use Rattle.std.specs.Prelude.{◌≡◌, ◌<◌, Ok, map, length, pos, slice_index_or};
 ghost use Rattle.fl_types.specs.Buffers.{integers_of, ptype_of};
 ghost use Rattle.fl_column.specs.Columns.{column_of_bools, column_of_primitive};
-ghost use Rattle.fl_column.specs.Questions.{is_before, is_between, tested};
+ghost use Rattle.fl_column.specs.Queries.{is_before, is_between, tested};
 ghost use Rattle.fl_types.specs.Values.{integer_of, ptype_of_value};
 ghost use Rattle.fl_types.specs.Refusals.{Answers};
 
@@ -83,7 +83,7 @@ fn between_slots(
 impl PrimitiveArray {
     /// Whether each item is between two bounds of the array's type; a null stays a null. Nothing
     /// is between bounds of which the lower is greater than the upper.
-    #[tactic(auto, using(crate::proofs::QuestionLaws::tests))]
+    #[tactic(auto, using(crate::proofs::QueryLaws::tests))]
     pub fn between(
         &self,
         alloc: Global,

@@ -3,7 +3,7 @@
 ghost use Rattle.std.specs.Prelude.{◌≡◌, ◌<◌, Ok, map, length, pos, slice_index_or};
 ghost use Rattle.fl_types.specs.Buffers.{integers_of, ptype_of};
 ghost use Rattle.fl_column.specs.Columns.{column_of_bools, column_of_primitive};
-ghost use Rattle.fl_column.specs.Questions.{holds, tested};
+ghost use Rattle.fl_column.specs.Queries.{holds, tested};
 ghost use Rattle.fl_types.specs.Values.{integer_of, ptype_of_value};
 ghost use Rattle.fl_types.specs.Refusals.{Answers};
 
@@ -73,7 +73,7 @@ fn compare_slots(
 
 impl PrimitiveArray {
     /// How each item compares with a constant of the array's type; a null stays a null.
-    #[tactic(auto, using(crate::proofs::QuestionLaws::tests))]
+    #[tactic(auto, using(crate::proofs::QueryLaws::tests))]
     pub fn compare(
         &self,
         alloc: Global,

@@ -4,7 +4,7 @@ ghost use Rattle.std.specs.Prelude.{◌≡◌, IsTrue, length, option_map};
 ghost use Rattle.fl_types.specs.Buffers.{integers_of, ptype_of};
 ghost use Rattle.fl_column.specs.Columns.{column_of_primitive};
 ghost use Rattle.fl_types.specs.Validities.{covers, items_of};
-ghost use Rattle.fl_column.specs.Questions.{are_constant, same_item};
+ghost use Rattle.fl_column.specs.Queries.{are_constant, same_item};
 
 use crate::primitive::PrimitiveArray;
 use crate::selection::item_at;

@@ -4,7 +4,7 @@ ghost use Rattle.std.specs.Prelude.{◌≡◌, IsTrue, length, option_map, if◌
 ghost use Rattle.fl_types.specs.Buffers.{integers_of, ptype_of};
 ghost use Rattle.fl_column.specs.Columns.{column_of_primitive};
 ghost use Rattle.fl_types.specs.Validities.{covers, items_of};
-ghost use Rattle.fl_column.specs.Questions.{are_sorted, are_strictly_sorted, each_next, in_order, is_below};
+ghost use Rattle.fl_column.specs.Queries.{are_sorted, are_strictly_sorted, each_next, in_order, is_below};
 
 use crate::primitive::PrimitiveArray;
 use crate::selection::item_at;

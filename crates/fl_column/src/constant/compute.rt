@@ -8,7 +8,7 @@ ghost use Rattle.fl_types.specs.Validities.{covers, items_of, nullability_of};
 ghost use Rattle.fl_types.specs.declared.dtype.DType.TheVariants.{Primitive};
 ghost use Rattle.fl_column.specs.Operations.{cast_column, filter_of, ranges_column, take_column};
 ghost use Rattle.fl_types.specs.Masks.{mask_len};
-ghost use Rattle.fl_column.specs.Questions.{are_constant, are_sorted, are_strictly_sorted, holds, is_between, tested};
+ghost use Rattle.fl_column.specs.Queries.{are_constant, are_sorted, are_strictly_sorted, holds, is_between, tested};
 ghost use Rattle.fl_types.specs.Types.{can_be_null, integer_type};
 ghost use Rattle.fl_types.specs.Values.{integer_of, ptype_of_value};
 ghost use Rattle.fl_types.specs.Refusals.{Answers};

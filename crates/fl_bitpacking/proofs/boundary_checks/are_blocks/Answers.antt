@@ -2,7 +2,7 @@ use Rattle.std.proofs.Common.{refl, ◌≡◌, ◌+◌, ◌-◌, get_or, sym, ap
 use Rattle.std.specs.Prelude.{unsigned_abs}
 use Rattle.std.proofs.lemmas.Bool.{cases_lt}
 use Rattle.std.proofs.lemmas.List.{length-map}
-use Rattle.fl_column.proofs.QuestionLaws.{next_fails, next_holds}
+use Rattle.fl_column.proofs.QueryLaws.{next_fails, next_holds}
 use Rattle.fl_column.specs.Numbers.{numbers}
 use Rattle.fl_bitpacking.specs.Blocks.{is_block}
 use Rattle.fl_bitpacking.proofs.boundary_checks.are_blocks.Goals as goal

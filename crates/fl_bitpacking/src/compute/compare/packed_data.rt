@@ -6,7 +6,7 @@ ghost use Rattle.fl_types.specs.Integers.{bits_of_type};
 ghost use Rattle.fl_types.specs.Refusals.{Answers};
 ghost use Rattle.fl_column.specs.Columns.{column_of_bools};
 ghost use Rattle.fl_column.specs.Numbers.{numbers};
-ghost use Rattle.fl_column.specs.Questions.{tested};
+ghost use Rattle.fl_column.specs.Queries.{tested};
 ghost use Rattle.fl_bitpacking.specs.Blocks.{are_blocks, boundary_blocks, global_blocks};
 ghost use Rattle.fl_bitpacking.specs.Columns.{block_count, column_of_packed};
 ghost use Rattle.fl_bitpacking.specs.Decided.{undecided_by_block};
@@ -23,7 +23,7 @@ use std::alloc::Global;
 
 impl PackedData {
     /// The answers of a test for the items, whose blocks all have one width, or for the sums of the items and the references of
-    /// their blocks; a null stays a null. A block is unpacked once, or not at all if there is no item or the width decides the
+    /// their blocks; nulls stay null. A block is unpacked once, or not at all if there is no item or the width decides the
     /// block's test.
     pub fn test_global(
         &self,
@@ -46,7 +46,7 @@ impl PackedData {
     }
 
     /// The answers of a test for the items, whose blocks lie between the boundaries, or for the sums of the items and the
-    /// references of their blocks; a null stays a null. Each block whose own width does not decide its test is unpacked once, and
+    /// references of their blocks; nulls stay null. Each block whose own width does not decide its test is unpacked once, and
     /// none if there is no item.
     pub fn test_blocked(
         &self,

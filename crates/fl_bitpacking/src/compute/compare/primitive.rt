@@ -3,7 +3,7 @@
 ghost use Rattle.std.specs.Prelude.{◌≡◌, Ok, length, map};
 ghost use Rattle.fl_types.specs.Refusals.{Answers};
 ghost use Rattle.fl_column.specs.Columns.{column_of_bools, column_of_primitive};
-ghost use Rattle.fl_column.specs.Questions.{tested};
+ghost use Rattle.fl_column.specs.Queries.{tested};
 ghost use Rattle.fl_bitpacking.specs.Compared.{IsPackedTest};
 ghost use Rattle.fl_bitpacking.specs.RangeTests.{IsTestOf, passes};
 
@@ -39,9 +39,9 @@ fn test_slots(
     match_each_integer_ptype!(array.ptype(), test_typed(array, alloc, test))
 }
 
-/// The answers of a test for the items of a plain array; a null stays a null. A reference of the test is an integer of the
+/// The answers of a test for the items of a plain array; nulls stay null. A reference of the test is an integer of the
 /// array's type.
-#[tactic(auto, using(fl_column::proofs::QuestionLaws::tests))]
+#[tactic(auto, using(fl_column::proofs::QueryLaws::tests))]
 pub fn test_primitive(
     alloc: Global,
     array: &PrimitiveArray,

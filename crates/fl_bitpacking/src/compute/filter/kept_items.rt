@@ -1,39 +1,11 @@
 //! Items that are kept by the words of a mask.
 
-ghost use Rattle.std.specs.Prelude.{◌≡◌, ◌+◌, ◌++◌, ◌<◌, ◌≤◌, ℕ, OnOk, drop, false, length, slice_index_or, true, vec_capacity, vec_len};
+ghost use Rattle.std.specs.Prelude.{◌≡◌, ◌+◌, ◌++◌, ◌<◌, ◌≤◌, ℕ, OnOk, drop, length, true, vec_capacity, vec_len};
 ghost use Rattle.fl_types.specs.Bits.{between, bit_of_word, tabulate, true_count};
 ghost use Rattle.fl_column.specs.Operations.{kept};
 
 use fl_types::{BitList, NativePType};
 use std::alloc::AllocError;
-
-/// The lowest `count` bits of a word, which is all of it from 64 on.
-fn low_bits(word: u64, count: usize) -> u64
-    ensures low { (j : ℕ) → j < count → bit_of_word result j ≡ bit_of_word word j }
-    ensures clear { (j : ℕ) → count ≤ j → bit_of_word result j ≡ false }
-{
-    if count < 64 {
-        word & ((1 << count) - 1)
-    } else {
-        word
-    }
-}
-
-/// The `count` booleans from `at` on as a word, the first in its lowest bit. No other bit is set.
-pub(crate) fn word_at(bits: &BitList, at: usize, count: usize) -> u64
-    requires some { 0 < count }
-    requires few { count ≤ 64 }
-    requires within { at + count ≤ length bits.now }
-    ensures bits { (j : ℕ) → j < count → bit_of_word result j ≡ slice_index_or bits.now (at + j) false }
-    ensures clear { (j : ℕ) → count ≤ j → bit_of_word result j ≡ false }
-{
-    let (k, shift) = (at / 64, at % 64);
-    let low = bits.word(k) >> shift;
-    if shift + count <= 64 {
-        return low_bits(low, count);
-    }
-    low_bits(low | bits.word(k + 1) << (64 - shift), count)
-}
 
 /// How many of the `count` booleans from `from` on are true.
 pub(crate) fn count_between(bits: &BitList, from: usize, count: usize) -> usize
@@ -45,13 +17,13 @@ pub(crate) fn count_between(bits: &BitList, from: usize, count: usize) -> usize
     let mut set = 0;
     for k in 0..count.div_ceil(64) {
         let at = 64 * k;
-        let word = word_at(bits, from + at, (count - at).min(64));
+        let word = bits.word_from(from + at, (count - at).min(64));
         set += word.count_ones() as usize;
     }
     set
 }
 
-/// Adds the items at the set bits of a word, for which there is room.
+/// Appends the items at the set bits of a word, for which there is room.
 fn push_set<T: NativePType>(taken: &mut Vec<T>, items: &[T], word: u64)
     requires items { (j : ℕ) → bit_of_word word j ≡ true → j < length items.now }
     requires room { vec_len taken.old + length (kept (tabulate (bit_of_word word) 64) items.now) ≤ vec_capacity taken.old }
@@ -64,7 +36,7 @@ fn push_set<T: NativePType>(taken: &mut Vec<T>, items: &[T], word: u64)
     }
 }
 
-/// Adds the items whose booleans are true, of which the first is that at `from`.
+/// Appends the items whose booleans are true, of which the first is that at `from`.
 pub(crate) fn push_kept<T: NativePType>(
     taken: &mut Vec<T>,
     items: &[T],
@@ -79,7 +51,7 @@ pub(crate) fn push_kept<T: NativePType>(
     for k in 0..items.len().div_ceil(64) {
         let at = 64 * k;
         let count = (items.len() - at).min(64);
-        let word = word_at(bits, from + at, count);
+        let word = bits.word_from(from + at, count);
         taken.reserve(word.count_ones() as usize)?;
         push_set(taken, &items[at..at + count], word);
     }

@@ -105,7 +105,7 @@ fn patch_typed<T: NativePType + WrappingAdd, I: NativePType>(
     write_values(indices, values, offset, &[], 0, items);
 }
 
-/// Puts the patches' values in place of what is stored. The first item is the one at `from`; there are `before`
+/// Writes the patches' values over what is stored. The first item is the one at `from`; there are `before`
 /// patches before it, and `after` before the end of the items.
 pub(crate) fn patch_part<T: NativePType + WrappingAdd>(
     patches: Option<&Patches>,

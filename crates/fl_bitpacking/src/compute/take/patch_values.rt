@@ -13,7 +13,7 @@ use fl_patches::Patches;
 use fl_patches::indices::rank_between;
 use fl_types::{NativePType, match_each_integer_ptype};
 
-/// Where among the indices of patches those of a chunk's positions are looked for: from `start` to below
+/// Where among the indices of patches those of a chunk's positions are searched: from `start` to below
 /// `end`.
 #[derive(Clone, Copy)]
 struct ChunkRange {
@@ -23,7 +23,7 @@ struct ChunkRange {
 }
 
 impl ChunkRange {
-    /// The range of the chunk that a position stands in.
+    /// The range of the chunk of a position.
     fn of(patches: &Patches, position: usize) -> ChunkRange
         ensures chunk { result.chunk ≡ position / 1024 }
         ensures range { IsChunkRange patches.now result.chunk result.start result.end }
@@ -36,7 +36,7 @@ impl ChunkRange {
         }
     }
 
-    /// The range of the chunk that another position stands in, which is often the same chunk.
+    /// The range of the chunk of another position, which is often the same chunk.
     fn moved_to(self, patches: &Patches, position: usize) -> ChunkRange
         requires { IsChunkRange patches.now self.chunk self.start self.end }
         ensures chunk { result.chunk ≡ position / 1024 }
@@ -69,7 +69,7 @@ fn patched_or<T: NativePType, I: NativePType>(
     }
 }
 
-/// Puts the values of the patches of these positions in place of what is stored. A chunk's range is
+/// Writes the values of the patches of these positions over what is stored. A chunk's range is
 /// looked up once where positions in it follow one another.
 fn patch_values<T: NativePType, I: NativePType>(
     patches: &Patches,
@@ -97,35 +97,32 @@ fn patch_values<T: NativePType, I: NativePType>(
 
 fn patch_typed<T: NativePType, I: NativePType>(
     patches: &Patches,
-    values: &[T],
     positions: &[usize],
     items: &mut [T],
 )
     requires typed { patches.now.indices.ptype ≡ I.PTYPE }
-    requires rising { IsTrue (is_rising (numbers patches.now.indices)) }
-    requires even { length values.now ≡ length patches.now.indices.slots }
+    requires values { patches.now.values.ptype ≡ T.PTYPE }
     requires long { length items.old ≡ length positions.now }
-    ensures { (i : ℕ) → i < length items.old → value_at T.value items.new i ≡ unwrap_or (value_beside (numbers patches.now.indices) (map T.value values.now) (patches.now.offset + slice_index positions.now i)) (value_at T.value items.old i) }
+    ensures { (i : ℕ) → i < length items.old → value_at T.value items.new i ≡ unwrap_or (patched patches.now (slice_index positions.now i)) (value_at T.value items.old i) }
 {
     let indices = patches.indices().as_slice::<I>();
+    let values = patches.values().as_slice::<T>();
     patch_values(patches, indices, values, positions, items);
 }
 
-/// Puts the patches of these positions in place of what is stored.
+/// Writes the patches of these positions over what is stored.
 fn patch_items<T: NativePType>(patches: &Patches, positions: &[usize], items: &mut [T])
     requires values { patches.now.values.ptype ≡ T.PTYPE }
     requires long { length items.old ≡ length positions.now }
     ensures { (i : ℕ) → i < length items.old → value_at T.value items.new i ≡ unwrap_or (patched patches.now (slice_index positions.now i)) (value_at T.value items.old i) }
 {
-    let (indices, values) = (patches.indices(), patches.values());
-    let values = values.as_slice::<T>();
     match_each_integer_ptype!(
-        indices.ptype(),
-        patch_typed::<T>(patches, values, positions, items)
+        patches.indices().ptype(),
+        patch_typed::<T>(patches, positions, items)
     )
 }
 
-/// The items at these positions, as they are stored, with the patches of the positions in their places,
+/// The items at these positions, as they are stored, with the patches of the positions at their indices,
 /// if there are patches.
 pub(crate) fn with_patches_at<T: NativePType>(
     mut items: Vec<T>,

@@ -23,7 +23,7 @@ fn position_of<I: NativePType>(index: I, len: usize) -> Option<usize>
     }
 }
 
-/// Adds the position that an index names, if it is not null.
+/// Appends the position that an index names, if it is not null.
 #[tactic(auto, using(crate::proofs::TakenLaws::position_skipped, crate::proofs::TakenLaws::position_added, crate::proofs::TakenLaws::position_refused))]
 fn push_position<I: NativePType>(
     positions: &mut Vec<usize>,
@@ -65,7 +65,7 @@ fn positions_typed<I: NativePType>(
 }
 
 /// The positions that those indices name among `len` items that are not null. The integer under a null
-/// index is never looked at.
+/// index is not read.
 ///
 /// # Errors
 /// `IndexOutOfBounds` where an index is negative or not below `len`.

@@ -30,6 +30,7 @@ pub(crate) fn unpack_threshold(bits: usize) -> usize
 }
 
 /// Where the run that begins at `from` ends: the positions before that lie in one block.
+#[inline(always)]
 fn run_end(offset: usize, positions: &[usize], from: usize) -> usize
     requires some { from < length positions.now }
     requires few { (i : ℕ) → i < length positions.now → offset + slice_index positions.now i < 2 ^ 64 }
@@ -47,6 +48,7 @@ fn run_end(offset: usize, positions: &[usize], from: usize) -> usize
 }
 
 /// The byte at which block `j` starts, which lies in memory.
+#[inline(always)]
 pub(crate) fn block_start(widths: Widths, j: usize) -> usize
     requires starts { HasStarts widths }
     requires named { Names widths j }
@@ -66,9 +68,9 @@ pub(crate) fn block_start(widths: Widths, j: usize) -> usize
 /// Consecutive positions that lie in one block, and the bytes and the width of the block.
 #[derive(Clone, Copy)]
 struct Run<'a> {
-    /// The place of the first one in the list of positions.
+    /// The index of the first one in the list of positions.
     from: usize,
-    /// The place behind the last one.
+    /// The index after the last one.
     to: usize,
     /// The width of the block.
     width: usize,
@@ -77,6 +79,7 @@ struct Run<'a> {
 }
 
 /// The run that begins at `from`, of blocks whose items have this many bits.
+#[inline(always)]
 fn run_from<'a>(blocks: PackedBlocks<'a>, positions: &[usize], from: usize, bits: usize) -> Run<'a>
     requires readable { AreReadable bits blocks }
     requires starts { HasStarts blocks.widths }
@@ -126,6 +129,7 @@ fn pick_run<T: BitPacked>(
 }
 
 /// Writes the items of a run, each read without its neighbours.
+#[inline(always)]
 fn read_run<T: PhysicalPType>(
     blocks: PackedBlocks,
     run: Run,
@@ -152,7 +156,7 @@ fn read_run<T: PhysicalPType>(
     }
 }
 
-/// Writes the items of the run that begins at `from`, and gives where it ends.
+/// Writes the items of the run that begins at `from`, and returns where it ends.
 fn take_run<T: BitPacked + PhysicalPType>(
     blocks: PackedBlocks,
     positions: &[usize],

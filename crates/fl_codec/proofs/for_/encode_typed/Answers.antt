@@ -1,11 +1,8 @@
-use Rattle.std.proofs.Common.{ap, sym, subst, Result}
-use Rattle.fl_types.specs.declared.error.FastLanesError.{FastLanesError}
-use Rattle.fl_types.specs.Refusals.{Answers}
-use Rattle.fl_codec.specs.Parts.{OneReference, global_parts, subtract_min}
+use Rattle.fl_codec.proofs.ReferenceLaws.{covered_read, fit_read}
 use Rattle.fl_codec.proofs.for_.encode_typed.Goals as goal
 
-pub returns-in-None : goal.returns-in-None
-returns-in-None g c = ap (subtract_min c.args.array.now) (sym c.in-None.ensures)
+pub guess_least-requires-clause-covers : goal.guess_least-requires-clause-covers
+guess_least-requires-clause-covers g c = covered_read g.T.Number.value c.args.array.now c.validity.result.now c.as_slice.result.now c.validity.ensures.value c.validity.ensures.covers c.as_slice.ensures
 
-pub returns-in-Some : goal.returns-in-Some
-returns-in-Some g c = subst (λ (m : Result OneReference FastLanesError). Answers global_parts c.subtract_reference.result m) (ap (subtract_min c.args.array.now) c.in-Some.ensures) c.subtract_reference.ensures
+pub guess_least-requires-clause-fit : goal.guess_least-requires-clause-fit
+guess_least-requires-clause-fit g c = fit_read g.T.Number.value c.args.array.now g.T.NativePType.PTYPE c.as_slice.result.now c.requires c.stored_integers_are_in_range.ensures.slots c.as_slice.ensures

@@ -1,16 +1,19 @@
-use Rattle.std.proofs.Common.{map, sym, arith, None}
+use Rattle.std.proofs.Common.{map, refl, sym, arith}
 use Rattle.fl_types.specs.Validities.{items_of}
-use Rattle.fl_column.proofs.ListLaws.{any_at, any_from}
-use Rattle.fl_patches.specs.Exceptions.{is_negative}
+use Rattle.fl_patches.proofs.BlockSigns.{negative_in_block, none_more, none_of_all}
 use Rattle.fl_patches.proofs.Gathers.{covered_values}
 use Rattle.fl_patches.proofs.block_widths.has_negative.Goals as goal
 
-pub returns-then-is_negative_at : goal.returns-then-is_negative_at
-returns-then-is_negative_at g c =
-    let count = covered_values g.T.Number.value c.args.validity.now c.args.items.now c.requires in
-    sym (any_at is_negative (items_of c.args.validity.now (map g.T.Number.value c.args.items.now)) c.loop-i.i None (omega arith) (sym c.if-is_negative_at.ensures))
+pub loop-block-init : goal.loop-block-init
+loop-block-init g c = refl
+
+pub loop-block-preserved : goal.loop-block-preserved
+loop-block-preserved g c = none_more (items_of c.args.validity.now (map g.T.Number.value c.args.items.now)) c.loop-block.block c.loop-block.invariant (sym c.if-has_negative_in_block.ensures)
+
+pub returns-then-has_negative_in_block : goal.returns-then-has_negative_in_block
+returns-then-has_negative_in_block g c = sym (negative_in_block (items_of c.args.validity.now (map g.T.Number.value c.args.items.now)) c.loop-block.block (sym c.if-has_negative_in_block.ensures))
 
 pub returns : goal.returns
 returns g c =
     let count = covered_values g.T.Number.value c.args.validity.now c.args.items.now c.requires in
-    sym (any_from is_negative (items_of c.args.validity.now (map g.T.Number.value c.args.items.now)) None (λ i h. c.loop-i.invariant i (omega arith)))
+    sym (none_of_all (items_of c.args.validity.now (map g.T.Number.value c.args.items.now)) c.loop-block.block (omega arith) c.loop-block.invariant)

@@ -1,8 +1,9 @@
-use Rattle.std.proofs.Common.{◌≡◌, ℕ, ◌<◌, false, get_or, map, None}
+use Rattle.std.proofs.Common.{◌≡◌, ◌*◌, false, map, take}
+use Rattle.std.specs.List.{list_any}
 use Rattle.fl_types.specs.Validities.{items_of}
 use Rattle.fl_patches.specs.Exceptions.{is_negative}
 use Rattle.fl_patches.proofs.block_widths.has_negative.Given as goal
 
--- no item so far is negative
-abbrev pub invariant-loop-i : goal.invariant-loop-i
-invariant-loop-i g l = (k : ℕ) → k < l.i → is_negative (get_or (items_of l.validity (map g.T.Number.value l.items)) k None) ≡ false
+-- no item of the blocks so far is negative
+abbrev pub invariant-loop-block : goal.invariant-loop-block
+invariant-loop-block g l = list_any is_negative (take (1024 * l.block) (items_of l.validity (map g.T.Number.value l.items))) ≡ false

@@ -1,6 +1,6 @@
 use Rattle.std.proofs.Common.{◌≡◌, ◌+◌, ◌-◌, get_or, nat_lt, sym, ap, ◌∙◌, inl, inr, arith}
 use Rattle.std.proofs.lemmas.Bool.{cases_lt, le-ltb, lt-ltb}
-use Rattle.fl_column.proofs.QuestionLaws.{next_fails, next_holds}
+use Rattle.fl_column.proofs.QueryLaws.{next_fails, next_holds}
 use Rattle.fl_column.specs.Numbers.{numbers_by}
 use Rattle.fl_patches.proofs.Rising.{length-numbers_by}
 use Rattle.fl_patches.proofs.checks.are_rising.Goals as goal

@@ -1,9 +1,7 @@
-use Rattle.std.proofs.Common.{◌≡◌, ◌≤◌, length, map, get_or, arith, refl, sym, ap, ◌∙◌}
-use Rattle.std.proofs.lemmas.Bool.{eqb-true}
+use Rattle.std.proofs.Common.{◌≤◌, map, get_or, arith, refl, sym, ap, ◌∙◌}
 use Rattle.std.proofs.lemmas.List.{length-map}
 use Rattle.fl_types.specs.Bits.{between}
-use Rattle.fl_types.specs.Validities.{items_of, masked}
-use Rattle.fl_column.proofs.ItemLaws.{length-masked}
+use Rattle.fl_types.specs.Validities.{items_of}
 use Rattle.fl_patches.specs.Exceptions.{histogram_of}
 use Rattle.fl_patches.proofs.Histograms.{counts_nulls, entry_few}
 use Rattle.fl_patches.proofs.histogram.count_items.Goals as goal
@@ -16,11 +14,3 @@ returns-in-AllInvalid g c =
     let count = length-map c.args.items.now g.T.Number.value in
     counts_nulls g.T.NativePType.PTYPE (map g.T.Number.value c.args.items.now) c.args.start c.args.end _ c.args.entries.now c.requires.order (omega arith) c.requires.empty refl
     ∙ ap (λ v. histogram_of g.T.NativePType.PTYPE (between c.args.start c.args.end (items_of v (map g.T.Number.value c.args.items.now)))) (sym c.in-AllInvalid.is)
-
-pub count_all-requires-clause-range : goal.count_all-requires-clause-range
-count_all-requires-clause-range g c =
-    let items = map g.T.Number.value c.args.items.now in
-    let even : length c.in-Array.bits ≡ length c.args.items.now = eqb-true _ _ (rw c.in-Array.is at c.requires.covers) in
-    let count : length items ≡ length c.args.items.now = length-map c.args.items.now g.T.Number.value in
-    let long : length (masked c.in-Array.bits items) ≡ length items = length-masked c.in-Array.bits items (even ∙ sym count) in
-    omega arith

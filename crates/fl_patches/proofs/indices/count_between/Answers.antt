@@ -4,24 +4,28 @@ use Rattle.fl_column.specs.Numbers.{numbers_by}
 use Rattle.fl_patches.specs.PatchMaps.{count_below}
 use Rattle.fl_patches.proofs.Rising.{length-numbers_by}
 use Rattle.fl_patches.proofs.SearchRanges.{count_of_part, numbers_by-between}
-use Rattle.fl_patches.proofs.Slices.{rising_part}
 use Rattle.fl_patches.proofs.indices.count_between.Goals as goal
 
-pub count_below_typed-requires : goal.count_below_typed-requires
-count_below_typed-requires g c =
+pub returns-then-indices-start-ge-COMPARED : goal.returns-then-indices-start-ge-COMPARED
+returns-then-indices-start-ge-COMPARED g c =
     let value = g.I.Number.value in
     let xs = numbers_by value c.args.indices.now in
     let len = length-numbers_by value c.args.indices.now in
-    let low = c.requires.low in
-    let high = c.requires.high in
-    let within = c.requires.within in
-    rw (numbers_by-between value c.args.indices.now c.args.start c.args.end) (rising_part xs c.args.start c.args.end c.requires.rising (omega arith) (omega arith))
+    let start = c.narrowed-start.result.0 in
+    let low = c.narrowed-start.ensures.low in
+    let high = c.narrowed-start.ensures.high in
+    let few = c.narrowed-start.ensures.few in
+    let room = c.if-indices-start-ge-COMPARED.true in
+    let part : start + count_below c.args.limit (between start (start + 16) xs) ≡ count_below c.args.limit xs = count_of_part xs start (start + 16) c.args.limit c.requires.rising low (omega arith) (omega arith) in
+    rw (c.count_each.ensures, numbers_by-between value c.args.indices.now start (start + 16)) part
 
-pub returns : goal.returns
-returns g c =
+pub returns-else-indices-start-ge-COMPARED : goal.returns-else-indices-start-ge-COMPARED
+returns-else-indices-start-ge-COMPARED g c =
     let value = g.I.Number.value in
     let xs = numbers_by value c.args.indices.now in
     let len = length-numbers_by value c.args.indices.now in
-    let within = c.requires.within in
-    let part : c.args.start + count_below c.args.limit (between c.args.start c.args.end xs) ≡ count_below c.args.limit xs = count_of_part xs c.args.start c.args.end c.args.limit c.requires.rising c.requires.low c.requires.high (omega arith) in
-    rw (c.count_below_typed.ensures, numbers_by-between value c.args.indices.now c.args.start c.args.end) part
+    let start = c.narrowed-start.result.0 in
+    let end = c.narrowed-start.result.1 in
+    let within = c.narrowed-start.ensures.within in
+    let part : start + count_below c.args.limit (between start end xs) ≡ count_below c.args.limit xs = count_of_part xs start end c.args.limit c.requires.rising c.narrowed-start.ensures.low c.narrowed-start.ensures.high (omega arith) in
+    rw (c.count_each-else-indices-start-ge-COMPARED.ensures, numbers_by-between value c.args.indices.now start end) part

@@ -1,4 +1,4 @@
-use Rattle.std.proofs.Common.{◌≡◌, ◌+◌, ◌-◌, ◌<◌, ◌≤◌, get_or, length, map, unsigned_abs, ap, sym, ◌∙◌, arith}
+use Rattle.std.proofs.Common.{◌≡◌, ◌-◌, get_or, length, arith}
 use Rattle.std.specs.Prelude.{IsTrue}
 use Rattle.fl_column.specs.Numbers.{numbers_by}
 use Rattle.fl_patches.specs.PatchMaps.{AreFoundTo, count_below, is_rising}

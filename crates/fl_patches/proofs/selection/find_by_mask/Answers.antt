@@ -1,6 +1,4 @@
-use Rattle.std.proofs.Common.{◌≡◌, length, refl, ap, sym, ◌∙◌}
-use Rattle.fl_column.specs.Numbers.{numbers}
-use Rattle.fl_patches.specs.PatchMaps.{count_below}
+use Rattle.std.proofs.Common.{refl, sym}
 use Rattle.fl_patches.proofs.Kept.{length_positions, positions_all, positions_none}
 use Rattle.fl_patches.proofs.selection.find_by_mask.Goals as goal
 

@@ -10,10 +10,10 @@ pub returns-clause-parts : goal.returns-clause-parts
 returns-clause-parts c =
     let p = c.args.array.now in
     let by : List ℕ → Type 0 = λ widths. IsPackedInBlocks p widths c.in_ok-packed.packed.0 in
-    subst by (c.deref.ensures.value ∙ chosen_are p c.in_ok-widths.widths.items c.in_ok-widths.exceptions c.in_ok-widths.ensures.chosen) c.in_ok-packed.ensures.parts
+    subst by (c.deref-2.ensures.value ∙ chosen_are p c.in_ok-widths.widths.items c.in_ok-widths.exceptions c.in_ok-widths.ensures.chosen) c.in_ok-packed.ensures.parts
 
 pub returns-clause-column : goal.returns-clause-column
 returns-clause-column c =
     let p = c.args.array.now in
     let by : List ℕ → Type 0 = λ widths. column_of_packed c.in_ok-packed.packed.0 (boundary_blocks (boundaries_of widths)) ≡ column_of_primitive p in
-    subst by (c.deref.ensures.value ∙ chosen_are p c.in_ok-widths.widths.items c.in_ok-widths.exceptions c.in_ok-widths.ensures.chosen) c.in_ok-packed.ensures.column
+    subst by (c.deref-2.ensures.value ∙ chosen_are p c.in_ok-widths.widths.items c.in_ok-widths.exceptions c.in_ok-widths.ensures.chosen) c.in_ok-packed.ensures.column

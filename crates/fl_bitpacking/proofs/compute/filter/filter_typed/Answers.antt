@@ -1,4 +1,4 @@
-use Rattle.std.proofs.Common.{◌≡◌, ◌∙◌, Ok, ap, sym}
+use Rattle.std.proofs.Common.{◌≡◌, Ok, ap}
 use Rattle.fl_bitpacking.proofs.FilteredLaws.{kept_column, slots_covered}
 use Rattle.fl_column.specs.Selections.{kept_validity}
 use Rattle.fl_bitpacking.proofs.compute.filter.filter_typed.Goals as goal

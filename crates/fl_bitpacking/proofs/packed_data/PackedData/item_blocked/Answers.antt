@@ -1,16 +1,6 @@
-use Rattle.std.proofs.Common.{◌≡◌, ◌+◌, ◌-◌, ◌/◌, ℕ, sym, ◌∙◌, refl}
-use Rattle.fl_column.specs.Columns.{Column, numbers_of}
-use Rattle.fl_bitpacking.specs.Blocks.{boundary_blocks}
-use Rattle.fl_bitpacking.specs.Columns.{BitPackedParts}
-use Rattle.fl_bitpacking.specs.SingleItems.{HasBlock, item_in_block}
-use Rattle.fl_bitpacking.proofs.PackedSlices.{item_of_packed}
+use Rattle.std.proofs.Common.{◌∙◌}
+use Rattle.fl_bitpacking.proofs.BlockItems.{item_between}
 use Rattle.fl_bitpacking.proofs.packed_data.PackedData.item_blocked.Goals as goal
 
-same_item : (c : Column) (p : BitPackedParts) (i first start end : ℕ) → HasBlock c ((p.offset + i) / 1024) first start end
-    → item_in_block p (start - first) ((end - start) / 128) i ≡ item_in_block p ((boundary_blocks (numbers_of c)).start ((p.offset + i) / 1024)) ((boundary_blocks (numbers_of c)).width ((p.offset + i) / 1024)) i
-same_item c p i first start end h = rw (← h.first_is, ← h.start_is, ← h.end_is) refl
-
 pub returns-clause-item : goal.returns-clause-item
-returns-clause-item r c h =
-    let p = r.args.self.now in
-    r.item_in_block.ensures.item ∙ (same_item c p r.args.i r.args.first r.args.start r.args.end h ∙ sym (item_of_packed p (boundary_blocks (numbers_of c)) r.args.i r.requires.range))
+returns-clause-item r c h = r.item_in_block.ensures.item ∙ item_between c r.args.self.now r.args.i r.args.first r.args.start r.args.end r.requires.range h

@@ -1,36 +1,23 @@
-use Rattle.std.proofs.Common.{◌≡◌, ◌∷◌, ◌∙◌, ℕ, ℤ, pos, Option, Some, None, cond, ap, refl, arith, get_or, length, map, option_map}
-use Rattle.fl_types.specs.Bits.{bit_of_word, tabulate}
-use Rattle.fl_codec.specs.FoRColumns.{least_valid, min_valid, turned}
-use Rattle.fl_codec.proofs.WithNulls.{least_alone, word_step}
-use Rattle.fl_codec.proofs.WithoutNulls.{value_of_read}
+use Rattle.std.proofs.Common.{arith, length-take}
+use Rattle.std.proofs.lemmas.List.{take_all}
+use Rattle.fl_codec.specs.FoRColumns.{turned}
+use Rattle.fl_codec.proofs.FullWords.{least_of_full}
+use Rattle.fl_codec.proofs.WithNulls.{least_of_same}
 use Rattle.fl_codec.proofs.for_.with_nulls.least_with_word.Goals as goal
 
-pub loop-j-init : goal.loop-j-init
-loop-j-init g c = record { least = least_alone (g.T.Number.value c.args.seed); within = omega arith }
+pub slice_bounds-least_of_items-end : goal.slice_bounds-least_of_items-end
+slice_bounds-least_of_items-end g c = let whole = c.if-items-eq-WORD.true in omega (arith, length-take 64 c.args.items.now)
 
-pub loop-j-preserved : goal.loop-j-preserved
-loop-j-preserved g c =
-    let value = g.T.Number.value in
-    let turn = turned g.T.NativePType.PTYPE (value c.args.origin) in
-    let more = c.loop-j-test.true in
-    let seed = value c.args.seed in
-    let least = value c.loop-j.least in
-    let item = get_or (map value c.args.items.now) c.loop-j.j (pos 0) in
-    let bit = bit_of_word c.args.word c.loop-j.j in
-    let slot : ℕ → Option ℤ = λ j. option_map (turned g.T.NativePType.PTYPE (value c.args.origin)) (cond (bit_of_word c.args.word j) (Some (get_or (map value c.args.items.now) j (pos 0))) None) in
-    let read = value_of_read value c.args.items.now c.loop-j.j c.index-items-j.result more c.index-items-j.is in
-    let chosen = c.valid_or-item.ensures ∙ (ap (λ b. cond b (value c.minus.result) seed) c.has_bit.ensures ∙ ap (λ z. cond bit z seed) (c.minus.ensures ∙ ap turn read)) in
-    let lesser = c.less-least.ensures ∙ ap (λ z. min_valid (Some least) (Some z)) chosen in
-    record {
-      least = word_step turn slot seed least (value c.less-least.result) item bit c.loop-j.j refl c.loop-j.invariant.least lesser;
-      within = omega arith;
-    }
+pub least_of_items-requires : goal.least_of_items-requires
+least_of_items-requires g c = let whole = c.if-items-eq-WORD.true in omega (arith, length-take 64 c.args.items.now)
 
-pub returns : goal.returns
-returns g c =
+pub returns-then-items-eq-WORD : goal.returns-then-items-eq-WORD
+returns-then-items-eq-WORD g c =
     let value = g.T.Number.value in
-    let slot : ℕ → Option ℤ = λ j. option_map (turned g.T.NativePType.PTYPE (value c.args.origin)) (cond (bit_of_word c.args.word j) (Some (get_or (map value c.args.items.now) j (pos 0))) None) in
-    let over = c.loop-j-test.false in
-    let within = c.loop-j.invariant.within in
-    let all : c.loop-j.j ≡ length c.args.items.now = omega arith in
-    c.loop-j.invariant.least ∙ ap (λ n. least_valid (Some (value c.args.seed) ∷ tabulate slot n)) all
+    let whole = c.if-items-eq-WORD.true in
+    least_of_same value (turned g.T.NativePType.PTYPE (value c.args.origin)) c.args.word (value c.args.seed) (value c.least_of_items.result) _ c.args.items.now (take_all 64 c.args.items.now (omega arith)) c.least_of_items.ensures
+
+pub returns-then-word-eq-ALL_VALID : goal.returns-then-word-eq-ALL_VALID
+returns-then-word-eq-ALL_VALID g c =
+    let value = g.T.Number.value in
+    least_of_full value (turned g.T.NativePType.PTYPE (value c.args.origin)) c.args.word (value c.args.seed) (value c.least_of_valid.result) c.args.items.now c.if-word-eq-ALL_VALID.true c.requires c.least_of_valid.ensures

@@ -1,9 +1,9 @@
 use Rattle.std.proofs.Common.{◌≡◌, map, length, sym, rules}
 use Rattle.std.proofs.lemmas.List.{length-map}
 use Rattle.std.proofs.lemmas.Result.{IfOk-weaker}
-use Rattle.fl_column.specs.Questions.{is_between}
+use Rattle.fl_column.specs.Queries.{is_between}
 use Rattle.fl_types.specs.Values.{integer_of}
-use Rattle.fl_column.proofs.QuestionLaws.{tested_bits}
+use Rattle.fl_column.proofs.QueryLaws.{tested_bits}
 use Rattle.fl_column.proofs.compute.between.between_typed.Goals as goal
 
 pub returns : goal.returns

@@ -1,6 +1,6 @@
 use Rattle.std.proofs.Common.{◌∙◌, ap, not}
 use Rattle.fl_column.proofs.GatherLaws.{value_read}
-use Rattle.fl_column.proofs.QuestionLaws.{not_less}
+use Rattle.fl_column.proofs.QueryLaws.{not_less}
 use Rattle.fl_column.proofs.compute.compare.compares_at.Goals as goal
 
 pub returns-in-Eq : goal.returns-in-Eq

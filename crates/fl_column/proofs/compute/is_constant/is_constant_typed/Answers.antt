@@ -4,7 +4,7 @@ use Rattle.fl_types.specs.Validities.{items_of, covers}
 use Rattle.fl_types.specs.Buffers.{integers_of}
 use Rattle.fl_column.proofs.GatherLaws.{covers_read}
 use Rattle.fl_column.proofs.ItemLaws.{length-items_of}
-use Rattle.fl_column.proofs.QuestionLaws.{constant_from_first, not_constant}
+use Rattle.fl_column.proofs.QueryLaws.{constant_from_first, not_constant}
 use Rattle.fl_column.proofs.compute.is_constant.is_constant_typed.Goals as goal
 
 pub returns-then-not-is_same_item : goal.returns-then-not-is_same_item

@@ -1,7 +1,7 @@
 use Rattle.std.proofs.Common.{map, None, option_map}
 use Rattle.fl_types.specs.Buffers.{integers_of}
 use Rattle.fl_types.specs.Validities.{items_of}
-use Rattle.fl_column.specs.Questions.{in_order}
+use Rattle.fl_column.specs.Queries.{in_order}
 use Rattle.fl_column.proofs.GatherLaws.{covers_read, pairs_more, pairs_fail, pairs_all}
 use Rattle.fl_column.proofs.compute.is_sorted.is_sorted_typed.Goals as goal
 

@@ -1,6 +1,6 @@
 use Rattle.std.proofs.Common.{◌≡◌, ℕ, ◌+◌, ◌<◌, map, get_or, None, true}
 use Rattle.fl_types.specs.Validities.{items_of}
-use Rattle.fl_column.specs.Questions.{in_order}
+use Rattle.fl_column.specs.Queries.{in_order}
 use Rattle.fl_column.proofs.compute.is_sorted.is_sorted_typed.Given as goal
 
 -- the pairs so far are in order

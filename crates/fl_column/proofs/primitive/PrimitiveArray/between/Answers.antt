@@ -1,7 +1,7 @@
 use Rattle.fl_types.specs.Values.{integer_of}
 use Rattle.fl_types.proofs.Refused.{no_memory_there, only_memory}
-use Rattle.fl_column.specs.Questions.{is_between}
-use Rattle.fl_column.proofs.QuestionLaws.{tested_column}
+use Rattle.fl_column.specs.Queries.{is_between}
+use Rattle.fl_column.proofs.QueryLaws.{tested_column}
 use Rattle.fl_column.proofs.primitive.PrimitiveArray.between.Goals as goal
 
 pub returns : goal.returns

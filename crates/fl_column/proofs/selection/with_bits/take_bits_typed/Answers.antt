@@ -2,7 +2,7 @@ use Rattle.std.proofs.Common.{length, map, rules, sym}
 use Rattle.std.proofs.lemmas.List.{length-map}
 use Rattle.std.proofs.lemmas.Result.{IfOk-weaker}
 use Rattle.fl_column.specs.Selections.{bit_named}
-use Rattle.fl_column.proofs.QuestionLaws.{tested_bits}
+use Rattle.fl_column.proofs.QueryLaws.{tested_bits}
 use Rattle.fl_column.proofs.selection.with_bits.take_bits_typed.Goals as goal
 
 pub returns : goal.returns

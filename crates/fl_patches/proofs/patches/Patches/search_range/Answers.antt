@@ -11,9 +11,9 @@ returns-in-Some-clause-range c =
     let k = c.args.i / 1024 in
     let offsets = c.in-Some.chunk_offsets in
     let all = c.len-num_patches.ensures.slots in
-    let start = chunk_offset_is p offsets k c.len-num_patches.result c.chunk_offset_at-start.result c.self.invariant c.in-Some.is all c.chunk_offset_at-start.ensures in
-    let end = chunk_offset_is p offsets (k + 1) c.len-num_patches.result c.chunk_offset_at-end.result c.self.invariant c.in-Some.is all c.chunk_offset_at-end.ensures in
-    rw (← c.self.view_is) (chunk_range p k c.chunk_offset_at-start.result c.chunk_offset_at-end.result (sound p c.self.invariant) (sound_offsets p offsets c.self.invariant c.in-Some.is).start start end)
+    let start = chunk_offset_is p offsets k c.len-num_patches.result c.offsets_of_chunk.result.0 c.self.invariant c.in-Some.is all c.offsets_of_chunk.ensures.start in
+    let end = chunk_offset_is p offsets (k + 1) c.len-num_patches.result c.offsets_of_chunk.result.1 c.self.invariant c.in-Some.is all c.offsets_of_chunk.ensures.end in
+    rw (← c.self.view_is) (chunk_range p k c.offsets_of_chunk.result.0 c.offsets_of_chunk.result.1 (sound p c.self.invariant) (sound_offsets p offsets c.self.invariant c.in-Some.is).start start end)
 
 pub returns-in-Some-clause-narrow : goal.returns-in-Some-clause-narrow
 returns-in-Some-clause-narrow c =
@@ -22,6 +22,6 @@ returns-in-Some-clause-narrow c =
     let k = c.args.i / 1024 in
     let offsets = c.in-Some.chunk_offsets in
     let all = c.len-num_patches.ensures.slots in
-    let start = chunk_offset_is p offsets k c.len-num_patches.result c.chunk_offset_at-start.result c.self.invariant c.in-Some.is all c.chunk_offset_at-start.ensures in
-    let end = chunk_offset_is p offsets (k + 1) c.len-num_patches.result c.chunk_offset_at-end.result c.self.invariant c.in-Some.is all c.chunk_offset_at-end.ensures in
+    let start = chunk_offset_is p offsets k c.len-num_patches.result c.offsets_of_chunk.result.0 c.self.invariant c.in-Some.is all c.offsets_of_chunk.ensures.start in
+    let end = chunk_offset_is p offsets (k + 1) c.len-num_patches.result c.offsets_of_chunk.result.1 c.self.invariant c.in-Some.is all c.offsets_of_chunk.ensures.end in
     rw (← c.self.view_is, c.in-Some.is, start, end) refl

@@ -1,7 +1,7 @@
 use Rattle.std.proofs.Common.{length, map, sym, rules}
 use Rattle.std.proofs.lemmas.List.{length-map}
 use Rattle.std.proofs.lemmas.Result.{IfOk-weaker}
-use Rattle.fl_column.proofs.QuestionLaws.{tested_bits}
+use Rattle.fl_column.proofs.QueryLaws.{tested_bits}
 use Rattle.fl_bitpacking.specs.RangeTests.{passes}
 use Rattle.fl_bitpacking.proofs.compute.compare.primitive.test_typed.Goals as goal
 

@@ -1,4 +1,4 @@
-use Rattle.std.proofs.Common.{◌≡◌, ◌+◌, ◌≤◌, ◌∙◌, length, map, ap, sym, ℕ, arith}
+use Rattle.std.proofs.Common.{◌≡◌, ◌∙◌, map, ap, ℕ, arith}
 use Rattle.std.specs.Option.{option_copied}
 use Rattle.fl_bitpacking.specs.Filtered.{count_before, items_before, slots_of}
 use Rattle.fl_bitpacking.proofs.FilteredLaws.{blocks_pushed, none_kept}

@@ -1,4 +1,4 @@
-use Rattle.std.proofs.Common.{◌≡◌, ◌+◌, ◌-◌, ◌*◌, ◌∙◌, length, drop, map, ap, sym, subst, ℕ, arith, length-take, length-drop}
+use Rattle.std.proofs.Common.{◌≡◌, ◌+◌, ◌-◌, ◌∙◌, map, ap, sym, subst, ℕ, arith}
 use Rattle.std.specs.Option.{option_copied}
 use Rattle.fl_types.specs.Bits.{between, true_count}
 use Rattle.fl_bitpacking.specs.Filtered.{AreKept, count_before, items_before, slots_of}

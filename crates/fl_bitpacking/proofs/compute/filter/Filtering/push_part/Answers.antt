@@ -1,4 +1,4 @@
-use Rattle.std.proofs.Common.{◌≡◌, ◌+◌, ◌∙◌, length, unwrap_or, ap, sym, arith}
+use Rattle.std.proofs.Common.{◌+◌, ◌∙◌, length, unwrap_or, ap, arith}
 use Rattle.std.specs.Option.{option_copied}
 use Rattle.fl_patches.specs.PatchMaps.{patched_in}
 use Rattle.fl_bitpacking.specs.Filtered.{slots_of}

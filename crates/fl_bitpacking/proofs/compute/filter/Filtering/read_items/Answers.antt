@@ -1,4 +1,4 @@
-use Rattle.std.proofs.Common.{◌≡◌, ℕ, ◌+◌, ◌-◌, ◌*◌, ◌/◌, ◌%◌, ◌∙◌, true, false, length, drop, take, get_or, refl, ap, sym, arith, length-take, length-drop}
+use Rattle.std.proofs.Common.{◌≡◌, ℕ, ◌+◌, ◌-◌, ◌*◌, ◌%◌, ◌∙◌, true, false, length, drop, get_or, refl, ap, sym, arith, length-take, length-drop}
 use Rattle.fl_types.specs.Bits.{bit_of_word}
 use Rattle.fl_bitpacking.specs.Blocks.{blocks_of, bytes_of_block, item_of_blocks}
 use Rattle.fl_bitpacking.proofs.Bounds.{width_named}
@@ -38,7 +38,7 @@ read_set-requires-clause-set g c j set =
     let at = 64 * c.loop-k.k in
     let here = c.min-count.ensures in
     let kept = c.loop-k.auto.items in
-    let inside = bit_below c.word_at-word.result c.min-count.result j c.word_at-word.ensures.clear set in
+    let inside = bit_below c.word_from-word.result c.min-count.result j c.word_from-word.ensures.clear set in
     let taken = length-take (at + c.min-count.result - at) (drop at c.loop-k.items) in
     let rest = length-drop at c.loop-k.items in
     omega arith
@@ -73,7 +73,7 @@ loop-k-preserved g c =
           (λ k below on. c.loop-k.invariant.done k (omega arith) on)
           (λ j below on.
           let place : from + at + j ≡ from + (at + j) = omega arith in
-          let bit : bit_of_word c.word_at-word.result j ≡ true = c.word_at-word.ensures.bits j (omega arith) ∙ ap (λ (m : ℕ). get_or f.bits.now m false) place ∙ on in
+          let bit : bit_of_word c.word_from-word.result j ≡ true = c.word_from-word.ensures.bits j (omega arith) ∙ ap (λ (m : ℕ). get_or f.bits.now m false) place ∙ on in
           let end : offset + from + at + j ≡ offset + (from + (at + j)) = omega arith in
           c.read_set.ensures.items j bit ∙ item_in ptype blocks packed c.block_at-block.result.now c.of_block-width.result c.args.j ((offset + from + at) % 1024) (offset + from + at) j width bytes refl (omega arith) (omega arith)
           ∙ ap (λ (p : ℕ). item_of_blocks ptype blocks packed p) end) i (omega arith) set;

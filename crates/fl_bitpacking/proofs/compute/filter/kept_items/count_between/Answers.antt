@@ -13,8 +13,8 @@ overflow_add-set c =
     let ended = c.div_ceil-k-end.ensures in
     let inside = c.requires in
     let now : min (64 * c.loop-k.k) c.args.count ≡ at = omega arith in
-    let most : c.loop-k.set + count_ones c.word_at-word.result ≤ at + c.min.result =
-    count_fits bits from at c.min.result c.word_at-word.result c.loop-k.set (omega arith) c.word_at-word.ensures.bits c.word_at-word.ensures.clear (c.loop-k.invariant ∙ ap (λ m. true_count (between from (from + m) bits)) now) in
+    let most : c.loop-k.set + count_ones c.word_from-word.result ≤ at + c.min.result =
+    count_fits bits from at c.min.result c.word_from-word.result c.loop-k.set (omega arith) c.word_from-word.ensures.bits c.word_from-word.ensures.clear (c.loop-k.invariant ∙ ap (λ m. true_count (between from (from + m) bits)) now) in
     omega arith
 
 pub loop-k-preserved : goal.loop-k-preserved
@@ -28,7 +28,7 @@ loop-k-preserved c =
     let inside = c.requires in
     let now : min (64 * c.loop-k.k) c.args.count ≡ at = omega arith in
     let next : min (64 * (c.loop-k.k + 1)) c.args.count ≡ at + c.min.result = omega arith in
-    count_of_word bits from at c.min.result c.word_at-word.result c.loop-k.set (omega arith) c.word_at-word.ensures.bits c.word_at-word.ensures.clear (c.loop-k.invariant ∙ ap (λ m. true_count (between from (from + m) bits)) now)
+    count_of_word bits from at c.min.result c.word_from-word.result c.loop-k.set (omega arith) c.word_from-word.ensures.bits c.word_from-word.ensures.clear (c.loop-k.invariant ∙ ap (λ m. true_count (between from (from + m) bits)) now)
     ∙ ap (λ m. true_count (between from (from + m) bits)) (sym next)
 
 pub returns : goal.returns

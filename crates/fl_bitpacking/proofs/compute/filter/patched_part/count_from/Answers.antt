@@ -1,5 +1,4 @@
-use Rattle.std.proofs.Common.{◌≡◌, ◌+◌, ◌∙◌, get_or, ap, sym, arith}
-use Rattle.fl_column.specs.Numbers.{numbers_by}
+use Rattle.std.proofs.Common.{arith}
 use Rattle.fl_bitpacking.proofs.PartPatches.{counted_next, counted_to}
 use Rattle.fl_bitpacking.proofs.compute.filter.patched_part.count_from.Goals as goal
 

@@ -1,4 +1,4 @@
-use Rattle.std.proofs.Common.{◌≡◌, ◌+◌, ◌∙◌, map, unsigned_abs, ap, sym, arith}
+use Rattle.std.proofs.Common.{◌≡◌, ◌∙◌, map, unsigned_abs, ap, arith}
 use Rattle.fl_column.specs.Numbers.{numbers, numbers_by}
 use Rattle.fl_patches.proofs.Parts.{sound}
 use Rattle.fl_patches.proofs.Slices.{before_in_order}

@@ -1,4 +1,4 @@
-use Rattle.std.proofs.Common.{◌≡◌, ℕ, ◌+◌, ◌-◌, ◌∙◌, ◌/◌, option_map, length, map, drop, take, unwrap_or, ap, sym, arith, length-take, length-drop}
+use Rattle.std.proofs.Common.{◌≡◌, ℕ, ◌+◌, ◌-◌, ◌∙◌, ◌/◌, length, map, drop, take, unwrap_or, ap, sym, arith, length-take, length-drop}
 use Rattle.std.proofs.lemmas.List.{length-map}
 use Rattle.fl_column.specs.Numbers.{numbers_by}
 use Rattle.fl_patches.proofs.Parts.{sound}
