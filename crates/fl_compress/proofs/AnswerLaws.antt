@@ -1,20 +1,17 @@
 -- What the steps of the search answer, by what the calls in them answered.
 use Rattle.std.proofs.lemmas.Bool.Decides.{nat_tests}
-use Rattle.std.proofs.Common.{◌≡◌, ◌≤◌, ◌<◌, ℕ, ◌+◌, ◌-◌, ℤ, Bool, true, false, List, [], ◌∷◌, ◌++◌, length, Option, Some, None, Ok, Err, ap, sym, subst, ◌∙◌, inl, inr, refl, arith}
+use Rattle.std.proofs.Common.{◌≡◌, ◌≤◌, ◌<◌, ℕ, ◌+◌, ◌-◌, Bool, true, false, List, [], ◌∷◌, ◌++◌, length, Option, Some, None, Ok, Err, ap, sym, subst, ◌∙◌, refl, arith}
 use Rattle.std.specs.Prelude.{IfErr, IfOk, IsTrue, Result}
 use Rattle.fl_types.specs.declared.error.FastLanesError.{FastLanesError}
-use Rattle.fl_types.specs.declared.error.FastLanesError.TheVariants.{NoMinimum, OutOfMemory}
-use Rattle.fl_types.specs.declared.validity.Validity.{Validity}
-use Rattle.fl_types.specs.Refusals.{Answers, Refuses}
+use Rattle.fl_types.specs.declared.error.FastLanesError.TheVariants.{OutOfMemory}
+use Rattle.fl_types.specs.Refusals.{Answers}
 use Rattle.fl_types.specs.Validities.{covers}
 use Rattle.fl_types.specs.Values.{ScalarParts}
-use Rattle.fl_types.proofs.RefusalLaws.{Refuses_cases}
 use Rattle.fl_column.specs.Columns.{ConstantParts, PrimitiveParts, column_of_primitive}
-use Rattle.fl_column.specs.Questions.{are_constant}
-use Rattle.fl_codec.specs.FoRColumns.{least_by, reading}
+use Rattle.fl_column.specs.Queries.{are_constant}
 use Rattle.fl_codec.specs.declared.for_.ItemOrder.{ItemOrder}
 use Rattle.fl_codec.specs.declared.for_.ItemOrder.TheVariants.{Natural, Signed}
-use Rattle.fl_codec.specs.Parts.{ByChunk, Nulls, OneReference, RunParts, Whole, compress_deltas, encode_chunked_by, encode_global_by, encode_runs, items_of_primitive, subtract_min}
+use Rattle.fl_codec.specs.Parts.{ByChunk, Nulls, OneReference, Whole, compress_deltas, encode_chunked_by, encode_global_by, encode_runs}
 use Rattle.fl_bitpacking.specs.Encoders.{AnswersUnless}
 use Rattle.fl_array.specs.Trees.{Tree, column}
 use Rattle.fl_array.specs.Trees as tree
@@ -112,12 +109,14 @@ pub nulls_choice : (order : ItemOrder) (p : PrimitiveParts) (constant : Constant
 nulls_choice order p constant reference limits depth child others r e f g a =
     answers_same r _ _ (sym (nulls_list order p constant reference limits depth e ∙ (ap (λ c. combined (with_references order) c (Some (Primitive, 0))) (sym f) ∙ ap (combined (with_references order) child) (sym g)))) a
 
-pub frames_choice : (order : ItemOrder) (p : PrimitiveParts) (children : List Shape) (first one many best choice : Option (Shape × ℕ)) → Gives (cheapest (encoded_bytes p) (over_one_reference order children)) one → Gives (cheapest (encoded_bytes p) (over_chunk_references order children)) many
-    → best ≡ cheaper first one → choice ≡ cheaper best many → Gives (or_frames order p children first) choice
-frames_choice order p children first one many best choice g h k c =
-    let other = ok_is _ _ g in
-    let last = ok_is _ _ h in
-    gives _ _ (cc)
+pub frames_choice : (order : ItemOrder) (p : PrimitiveParts) (children : List Shape) (first one many choice : Option (Shape × ℕ)) → Gives (cheaper first (cheapest (encoded_bytes p) (over_one_reference order children))) one → Gives (cheapest (encoded_bytes p) (over_chunk_references order children)) many
+    → choice ≡ cheaper one many → Gives (or_frames order p children first) choice
+frames_choice order p children first one many choice g h c =
+    gives _ _ (ap (λ a. cheaper a (cheapest (encoded_bytes p) (over_chunk_references order children))) (ok_is _ _ g) ∙ (ap (cheaper one) (ok_is _ _ h) ∙ sym c))
+
+-- another choice, and what was made with one reference
+pub or_one : (a b made choice : Option (Shape × ℕ)) → Gives b made → choice ≡ cheaper a made → Gives (cheaper a b) choice
+or_one a b made choice g c = gives _ _ (ap (cheaper a) (ok_is _ _ g) ∙ sym c)
 
 -- what takes no bytes is the cheapest of a longer list
 free_longer : (p : PrimitiveParts) (xs ys : List Shape) (s : Shape) (n : ℕ) → Some (s, n) ≡ cheapest (encoded_bytes p) xs → n ≡ 0 → cheapest (encoded_bytes p) (xs ++ ys) ≡ Some (s, n)
@@ -153,32 +152,63 @@ pub unframed_choice : (limits : Limits) (depth : ℕ) (p : PrimitiveParts) (pack
 unframed_choice limits depth p packed e f = gives _ _ (not_framed_list limits depth p e ∙ sym f)
 
 -- ---- deltas
-pub deltas_choice : (p bases deltas : PrimitiveParts) (v : Validity) (own len : ℕ) (schemes : List Shape) (r : Result Choice FastLanesError) → compress_deltas p ≡ (bases, deltas) → own ≡ validity_bytes len v → len ≡ length p.slots → v ≡ p.validity
-    → Answers chosen r (Ok (combined Delta (cheapest (encoded_bytes bases) schemes) (beside own (cheapest (encoded_bytes deltas) schemes)))) → Answers chosen r (Ok (cheapest (encoded_bytes p) (over_deltas schemes)))
-deltas_choice p bases deltas v own len schemes r e f g h a =
-    let bytes : own ≡ validity_bytes (length p.slots) p.validity = f ∙ (ap (λ n. validity_bytes n v) g ∙ ap (validity_bytes (length p.slots)) h) in
-    answers_same r _ _ (sym (deltas_list p schemes
-    ∙ (ap (λ (x : PrimitiveParts × PrimitiveParts). combined Delta (cheapest (encoded_bytes x.0) schemes) (beside (validity_bytes (length p.slots) p.validity) (cheapest (encoded_bytes x.1) schemes))) e
-    ∙ ap (λ n. combined Delta (cheapest (encoded_bytes bases) schemes) (beside n (cheapest (encoded_bytes deltas) schemes))) (sym bytes)))) a
+-- the cheapest of arrays of deltas, by those of the parts
+deltas_are : (p : PrimitiveParts) (own : ℕ) (schemes : List Shape) (d : Shape × ℕ) → own ≡ validity_bytes (length p.slots) p.validity → Gives (cheapest (encoded_bytes (compress_deltas p).1) schemes) (Some d)
+    → cheapest (encoded_bytes p) (over_deltas schemes) ≡ combined Delta (cheapest (encoded_bytes (compress_deltas p).0) schemes) (beside own (Some d))
+deltas_are p own schemes d e f =
+    let bases = cheapest (encoded_bytes (compress_deltas p).0) schemes in
+    deltas_list p schemes ∙ (ap (λ n. combined Delta bases (beside n (cheapest (encoded_bytes (compress_deltas p).1) schemes))) (sym e) ∙ ap (λ c. combined Delta bases (beside own c)) (ok_is _ _ f))
 
-pub delta_choice : (limits : Limits) (depth : ℕ) (p : PrimitiveParts) (framed deltas choice : Option (Shape × ℕ)) → has_level limits.delta depth ≡ true → Gives (cheapest (encoded_bytes p) (framed_schemes limits depth)) framed
-    → Gives (cheapest (encoded_bytes p) (over_deltas (framed_schemes limits (depth - 1)))) deltas → choice ≡ cheaper framed deltas → Gives (cheapest (encoded_bytes p) (delta_schemes limits depth)) choice
-delta_choice limits depth p framed deltas choice e f g c =
-    let lists = delta_list limits depth p e in
-    let first = ok_is _ _ f in
-    let other = ok_is _ _ g in
-    gives _ _ (cc)
+dear_two : (first : Shape × ℕ) (bases : Option (Shape × ℕ)) (d : Shape × ℕ) (own : ℕ) → first.1 ≤ d.1 + own → cheaper (Some first) (combined Delta bases (beside own (Some d))) ≡ Some first
+dear_two first None d own h = refl
+dear_two first (Some b) d own h = grind (arith, nat_tests)
+
+-- deltas that take as many bytes as another choice
+pub dear_deltas : (p : PrimitiveParts) (first : Shape) (n own : ℕ) (schemes : List Shape) (d : Shape × ℕ) → own ≡ validity_bytes (length p.slots) p.validity → Gives (cheapest (encoded_bytes (compress_deltas p).1) schemes) (Some d) → n ≤ d.1 + own
+    → Gives (cheaper (Some (first, n)) (cheapest (encoded_bytes p) (over_deltas schemes))) (Some (first, n))
+dear_deltas p first n own schemes d e f h =
+    gives _ _ (ap (cheaper (Some (first, n))) (deltas_are p own schemes d e f) ∙ dear_two (first, n) (cheapest (encoded_bytes (compress_deltas p).0) schemes) d own h)
+
+-- an array of deltas that was made
+pub deltas_choice : (p bases : PrimitiveParts) (own : ℕ) (schemes : List Shape) (first made choice : Option (Shape × ℕ)) (d : Shape × ℕ) → own ≡ validity_bytes (length p.slots) p.validity → Gives (cheapest (encoded_bytes (compress_deltas p).1) schemes) (Some d) → (compress_deltas p).0 ≡ bases
+    → Gives (combined Delta (cheapest (encoded_bytes bases) schemes) (beside own (Some d))) made → choice ≡ cheaper first made → Gives (cheaper first (cheapest (encoded_bytes p) (over_deltas schemes))) choice
+deltas_choice p bases own schemes first made choice d e f g h c =
+    gives _ _ (ap (cheaper first) (deltas_are p own schemes d e f ∙ (ap (λ q. combined Delta (cheapest (encoded_bytes q) schemes) (beside own (Some d))) g ∙ ok_is _ _ h)) ∙ sym c)
+
+-- a choice over these bases
+pub over_bases : (bases : Option (Shape × ℕ)) (first : Option (Shape × ℕ)) (other : Option (Shape × ℕ)) (r : Result Choice FastLanesError) → Gives bases first → Answers chosen r (Ok (combined Delta first other)) → Answers chosen r (Ok (combined Delta bases other))
+over_bases bases first other r e a = answers_same r _ _ (ap (λ b. combined Delta b other) (sym (ok_is _ _ e))) a
+
+pub delta_choice : (limits : Limits) (depth : ℕ) (p : PrimitiveParts) (framed : Option (Shape × ℕ)) (r : Result Choice FastLanesError) → has_level limits.delta depth ≡ true → Gives (cheapest (encoded_bytes p) (framed_schemes limits depth)) framed
+    → Answers chosen r (Ok (cheaper framed (cheapest (encoded_bytes p) (over_deltas (framed_schemes limits (depth - 1)))))) → Answers chosen r (Ok (cheapest (encoded_bytes p) (delta_schemes limits depth)))
+delta_choice limits depth p framed r e f a =
+    answers_same r _ _ (sym (delta_list limits depth p e ∙ ap (λ c. cheaper c (cheapest (encoded_bytes p) (over_deltas (framed_schemes limits (depth - 1))))) (ok_is _ _ f))) a
 
 pub no_delta_choice : (limits : Limits) (depth : ℕ) (p : PrimitiveParts) (framed : Option (Shape × ℕ)) → has_level limits.delta depth ≡ false → Gives (cheapest (encoded_bytes p) (framed_schemes limits depth)) framed → Gives (cheapest (encoded_bytes p) (delta_schemes limits depth)) framed
 no_delta_choice limits depth p framed e f = gives _ _ (no_delta_list limits depth p e ∙ ok_is _ _ f)
 
 -- ---- runs
-pub runs_choice : (p : PrimitiveParts) (runs : RunParts) (values others : List Shape) (first : Option (Shape × ℕ)) (r : Result Choice FastLanesError) → encode_runs p ≡ runs
-    → Answers chosen r (Ok (cheaper first (combined runs_of (cheapest (encoded_bytes runs.values) values) (combined two (cheapest (encoded_bytes runs.indices) others) (cheapest (encoded_bytes runs.offsets) others)))))
+pub runs_choice : (p v o : PrimitiveParts) (i : Option (Shape × ℕ)) (values others : List Shape) (first : Option (Shape × ℕ)) (r : Result Choice FastLanesError) → ◌≡◌ {A = PrimitiveParts × PrimitiveParts} ((encode_runs p).values, (encode_runs p).offsets) (v, o) → Gives (cheapest (encoded_bytes (encode_runs p).indices) others) i
+    → Answers chosen r (Ok (cheaper first (combined runs_of (cheapest (encoded_bytes v) values) (combined two i (cheapest (encoded_bytes o) others)))))
     → Answers chosen r (Ok (cheaper first (cheapest (encoded_bytes p) (over_runs values others))))
-runs_choice p runs values others first r e a =
+runs_choice p v o i values others first r e f a =
     answers_same r _ _ (ap (cheaper first) (sym (runs_list p values others
-    ∙ ap (λ (x : RunParts). combined runs_of (cheapest (encoded_bytes x.values) values) (combined two (cheapest (encoded_bytes x.indices) others) (cheapest (encoded_bytes x.offsets) others))) e))) a
+    ∙ (ap (λ x. combined runs_of (cheapest (encoded_bytes (encode_runs p).values) values) (combined two x (cheapest (encoded_bytes (encode_runs p).offsets) others))) (ok_is _ _ f)
+    ∙ ap (λ (x : PrimitiveParts × PrimitiveParts). combined runs_of (cheapest (encoded_bytes x.0) values) (combined two i (cheapest (encoded_bytes x.1) others))) e)))) a
+
+-- run indices that take as many bytes as another choice
+dear_first : (first : Shape × ℕ) (values : Option (Shape × ℕ)) (i : Shape × ℕ) (offsets : Option (Shape × ℕ)) → first.1 ≤ i.1 → cheaper (Some first) (combined runs_of values (combined two (Some i) offsets)) ≡ Some first
+dear_first first None i None h = refl
+dear_first first None i (Some o) h = refl
+dear_first first (Some v) i None h = refl
+dear_first first (Some v) i (Some o) h = grind (arith, nat_tests)
+
+pub dear_indices : (p : PrimitiveParts) (first : Shape) (n : ℕ) (values others : List Shape) (i : Shape × ℕ) → Gives (cheapest (encoded_bytes (encode_runs p).indices) others) (Some i) → n ≤ i.1
+    → Gives (cheaper (Some (first, n)) (cheapest (encoded_bytes p) (over_runs values others))) (Some (first, n))
+dear_indices p first n values others i e h =
+    let v = cheapest (encoded_bytes (encode_runs p).values) values in
+    let o = cheapest (encoded_bytes (encode_runs p).offsets) others in
+    gives _ _ (ap (cheaper (Some (first, n))) (runs_list p values others) ∙ (ap (λ x. cheaper (Some (first, n)) (combined runs_of v (combined two x o))) (ok_is _ _ e) ∙ dear_first (first, n) v i o h))
 
 -- two parts that take as many bytes as another choice
 dear_parts : (first : Shape × ℕ) (values : Option (Shape × ℕ)) (i o : Shape × ℕ) → first.1 ≤ i.1 + o.1 → cheaper (Some first) (combined runs_of values (combined two (Some i) (Some o))) ≡ Some first

@@ -1,6 +1,6 @@
 -- The children of frames of reference, by the differences that they hold.
-use Rattle.std.proofs.Common.{◌≡◌, ℕ, ℤ, pos, ◌+◌, ◌/◌, ◌<◌, ◌&&◌, Bool, true, false, cond, List, [], length, map, get_or, nat_lt, is_none, Option, Some, None, Ok, Err, option_map, unwrap_or, IsTrue, refl, ap, sym, ◌∙◌, arith}
-use Rattle.std.specs.Prelude.{Result, if◌then◌else◌}
+use Rattle.std.proofs.Common.{◌≡◌, ℕ, ℤ, pos, ◌+◌, ◌/◌, ◌<◌, ◌&&◌, Bool, true, false, cond, List, [], length, map, get_or, nat_lt, is_none, Option, Some, None, option_map, IsTrue, refl, ap, sym, ◌∙◌, arith}
+use Rattle.std.specs.Prelude.{if◌then◌else◌}
 use Rattle.std.specs.List.{list_all}
 use Rattle.std.proofs.lemmas.List.{ext_get_or, get_or-map, length-map}
 use Rattle.fl_types.specs.declared.dtype.PType.{PType}
@@ -9,7 +9,7 @@ use Rattle.fl_column.specs.Columns.{PrimitiveParts}
 use Rattle.fl_column.proofs.ItemLaws.{get_or-items_of, length-items_of}
 use Rattle.fl_codec.specs.FoRColumns.{chunk_references, chunked_slots, common_reference, minus_reference, reading}
 use Rattle.fl_codec.specs.declared.for_.ItemOrder.{ItemOrder}
-use Rattle.fl_codec.specs.Parts.{ByChunk, FoRParts, Nulls, Whole, encode_chunked_by, items_of_primitive, less_chunk_leasts, less_common, non_nullable, null_constant, reference_scalar, subtract_reference}
+use Rattle.fl_codec.specs.Parts.{ByChunk, Nulls, Whole, encode_chunked_by, items_of_primitive, less_chunk_leasts, less_common, non_nullable, null_constant, reference_scalar, subtract_reference}
 use Rattle.fl_codec.proofs.Tables.{get_or-table, length-table}
 use Rattle.fl_statistics.specs.Differences.{difference, less_references}
 use Rattle.fl_statistics.proofs.Differences.{get_or-less, length-less}

@@ -1,6 +1,6 @@
 -- With fewer levels there are no other schemes, so none is cheaper.
-use Rattle.std.proofs.Common.{◌≡◌, ℕ, ◌-◌, ◌<◌, ◌≤◌, ◌&&◌, Bool, true, false, List, [], ◌∷◌, ◌++◌, map, nat_lt, Option, Some, None, Ok, refl, ap, sym, subst, ◌∙◌, arith}
-use Rattle.std.specs.Prelude.{flat_map, if◌then◌else◌}
+use Rattle.std.proofs.Common.{◌≡◌, ℕ, ◌-◌, ◌<◌, ◌≤◌, Bool, true, false, List, [], ◌∷◌, ◌++◌, map, Option, Some, None, refl, ap, sym, subst, ◌∙◌, arith}
+use Rattle.std.specs.Prelude.{flat_map}
 use Rattle.std.specs.List.{All}
 use Rattle.std.proofs.lemmas.Bool.Decides.{nat_tests}
 use Rattle.std.proofs.lemmas.List.Elements.{All-append, All-cons, All-head, All-map, All-nil, All-same, All-tail, All-weaker}
@@ -13,7 +13,7 @@ use Rattle.fl_encode.specs.Shapes.{BitPacked, Constant, Delta, Primitive, Shape}
 use Rattle.fl_compress.specs.declared.limits.Limits.{Limits}
 use Rattle.fl_compress.specs.Candidates.{candidates, delta_schemes, framed_schemes, has_level, over_deltas, over_frames, over_runs, packed_schemes, where_allowed, with_reference, with_references}
 use Rattle.fl_compress.specs.Cheapest.{cheaper, cheapest, combined}
-use Rattle.fl_compress.specs.Choices.{runs_of, two}
+use Rattle.fl_compress.specs.Choices.{CostsNoMore, runs_of, two}
 use Rattle.fl_compress.specs.EncodedBytes.{encoded_bytes}
 use Rattle.fl_compress.proofs.AnswerLaws.{Gives, gives}
 use Rattle.fl_compress.proofs.CheapestLaws.{first_cheapest}
@@ -134,3 +134,13 @@ single_choice limits p s n e f same =
     ∙ (ap (λ c. cheaper c runs) best
     ∙ (ap (cheaper (Some (s, n))) (runs_list p values others ∙ ap (λ q. combined runs_of (cheapest (encoded_bytes q) values) rest) same)
     ∙ dear_values (s, n) (cheapest (encoded_bytes p) values) rest (λ v g. none_cheaper (encoded_bytes p) values (delta_schemes limits limits.depth) (s, n) v (delta_within limits (limits.depth - 1) limits.depth (omega arith)) best g))))
+
+-- what costs no more than the cheapest packed array costs no more than that of fewer levels
+pub packed_costs : (limits : Limits) (p : PrimitiveParts) (depth other : ℕ) (s : Shape) (n m : ℕ) → depth ≤ other → m ≤ n → Some (s, n) ≡ cheapest (encoded_bytes p) (packed_schemes limits other) → CostsNoMore m (cheapest (encoded_bytes p) (packed_schemes limits depth))
+packed_costs limits p depth other s n m h most best = by_choice (cheapest (encoded_bytes p) (packed_schemes limits depth)) refl
+  where
+    by_choice : (c : Option (Shape × ℕ)) → cheapest (encoded_bytes p) (packed_schemes limits depth) ≡ c → CostsNoMore m c
+    by_choice None e = tt
+    by_choice (Some c) e =
+        let low : n ≤ c.1 = none_cheaper (encoded_bytes p) (packed_schemes limits depth) (packed_schemes limits other) (s, n) c (packed_within limits depth other h) (sym best) e in
+        omega arith

@@ -10,3 +10,6 @@ pub mod SmallestLaws
 pub mod StatisticsLaws
 pub mod FewerLevels
 pub mod SingleRuns
+pub mod PartLaws
+pub mod ZeroLeasts
+pub mod ReferenceLaws

@@ -5,7 +5,7 @@ use Rattle.std.proofs.lemmas.Bool.Decides.{nat_tests}
 use Rattle.std.proofs.lemmas.List.{append-nil, map-append}
 use Rattle.fl_types.specs.declared.error.FastLanesError.{FastLanesError}
 use Rattle.fl_column.specs.Columns.{ConstantParts, PrimitiveParts, column_of_primitive}
-use Rattle.fl_column.specs.Questions.{are_constant}
+use Rattle.fl_column.specs.Queries.{are_constant}
 use Rattle.fl_types.specs.Values.{ScalarParts}
 use Rattle.fl_codec.specs.declared.for_.ItemOrder.{ItemOrder}
 use Rattle.fl_codec.specs.declared.for_.ItemOrder.TheVariants.{Natural, Signed}

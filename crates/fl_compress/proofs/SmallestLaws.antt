@@ -11,7 +11,7 @@ use Rattle.fl_types.specs.declared.validity.Validity.{Validity}
 use Rattle.fl_types.specs.declared.validity.Validity.TheVariants as valid
 use Rattle.fl_types.specs.Validities.{covers}
 use Rattle.fl_column.specs.Columns.{PrimitiveParts, column_of_primitive}
-use Rattle.fl_column.specs.Questions.{are_constant}
+use Rattle.fl_column.specs.Queries.{are_constant}
 use Rattle.fl_array.specs.Trees.{Tree}
 use Rattle.fl_array.specs.Trees as tree
 use Rattle.fl_encode.specs.declared.scheme.Packing.TheVariants.{BestWidth, BestWidths}

@@ -5,10 +5,10 @@ use Rattle.fl_types.specs.declared.error.FastLanesError.{FastLanesError}
 use Rattle.fl_types.specs.declared.error.FastLanesError.TheVariants.{CastOutOfRange}
 use Rattle.fl_types.specs.declared.validity.Validity.{Validity}
 use Rattle.fl_column.specs.Columns.{PrimitiveParts, column_of_primitive}
-use Rattle.fl_column.specs.Questions.{are_constant}
+use Rattle.fl_column.specs.Queries.{are_constant}
 use Rattle.fl_array.specs.Trees.{Tree}
 use Rattle.fl_codec.specs.declared.for_.ItemOrder.TheVariants.{Natural, Signed}
-use Rattle.fl_codec.specs.Parts.{ByChunk, FoRParts, Nulls, OneReference, RunParts, Whole, compress_deltas, encode_chunked_by, encode_global_by, encode_runs}
+use Rattle.fl_codec.specs.Parts.{ByChunk, FoRParts, Nulls, OneReference, Whole, compress_deltas, encode_chunked_by, encode_global_by, encode_runs}
 use Rattle.fl_encode.specs.declared.scheme.Packing.TheVariants.{BestWidth, BestWidths, Width}
 use Rattle.fl_encode.specs.declared.scheme.Scheme.{Scheme}
 use Rattle.fl_encode.specs.Encodings.{IsEncodedAs, encode_refusal}
@@ -28,25 +28,25 @@ pub packed_sizes_are : (p : PrimitiveParts) (plain : ℕ) (same : Bool) (one eac
     → record { plain = plain; is_constant = same; best_width = one; best_widths = each } ≡ packed_sizes p
 packed_sizes_are p plain same one each e f g h = rw (e, f, g, h) refl
 
-pub delta_sizes_are : (p bases deltas : PrimitiveParts) (framed b d : FramedSizes) (v : Validity) (own len : ℕ) → framed_sizes p ≡ framed → compress_deltas p ≡ (bases, deltas) → framed_sizes bases ≡ b → framed_sizes deltas ≡ d → own ≡ validity_bytes len v → len ≡ length p.slots → v ≡ p.validity
+pub delta_sizes_are : (p bases : PrimitiveParts) (framed b d : FramedSizes) (v : Validity) (own len : ℕ) → framed_sizes p ≡ framed → (compress_deltas p).0 ≡ bases → framed_sizes bases ≡ b → framed_sizes (compress_deltas p).1 ≡ d → own ≡ validity_bytes len v → len ≡ length p.slots → v ≡ p.validity
     → Gives (delta_sizes p) (record { framed = framed; bases = b; deltas = d; validity = own })
-delta_sizes_are p bases deltas framed b d v own len e f g h o l w =
+delta_sizes_are p bases framed b d v own len e f g h o l w =
     let all : FramedSizes → FramedSizes → FramedSizes → ℕ → DeltaSizes = λ first second third n. record { framed = first; bases = second; deltas = third; validity = n } in
     let bytes : own ≡ validity_bytes (length p.slots) p.validity = o ∙ (ap (λ n. validity_bytes n v) l ∙ ap (validity_bytes (length p.slots)) w) in
     gives _ _ (ap (λ x. all x (framed_sizes (compress_deltas p).0) (framed_sizes (compress_deltas p).1) (validity_bytes (length p.slots) p.validity)) e
-    ∙ (ap (λ (x : PrimitiveParts × PrimitiveParts). all framed (framed_sizes x.0) (framed_sizes x.1) (validity_bytes (length p.slots) p.validity)) f
-    ∙ (ap (λ x. all framed x (framed_sizes deltas) (validity_bytes (length p.slots) p.validity)) g
+    ∙ (ap (λ x. all framed (framed_sizes x) (framed_sizes (compress_deltas p).1) (validity_bytes (length p.slots) p.validity)) f
+    ∙ (ap (λ x. all framed x (framed_sizes (compress_deltas p).1) (validity_bytes (length p.slots) p.validity)) g
     ∙ (ap (λ x. all framed b x (validity_bytes (length p.slots) p.validity)) h ∙ ap (all framed b d) (sym bytes)))))
 
-pub statistics_are : (p : PrimitiveParts) (runs : RunParts) (items values : DeltaSizes) (indices offsets : FramedSizes) → delta_sizes p ≡ items → encode_runs p ≡ runs → delta_sizes runs.values ≡ values → framed_sizes runs.indices ≡ indices → framed_sizes runs.offsets ≡ offsets
+pub statistics_are : (p v o : PrimitiveParts) (items values : DeltaSizes) (indices offsets : FramedSizes) → delta_sizes p ≡ items → ◌≡◌ {A = PrimitiveParts × PrimitiveParts} ((encode_runs p).values, (encode_runs p).offsets) (v, o) → delta_sizes v ≡ values → framed_sizes (encode_runs p).indices ≡ indices → framed_sizes o ≡ offsets
     → Gives (statistics_of p) (record { items = items; values = values; indices = indices; offsets = offsets })
 unfolding statistics_of
-statistics_are p runs items values indices offsets e f g h o =
+statistics_are p v o items values indices offsets e f g h l =
     let all : DeltaSizes → DeltaSizes → FramedSizes → FramedSizes → Statistics = λ first second third last. record { items = first; values = second; indices = third; offsets = last } in
     gives _ _ (ap (λ x. all x (delta_sizes (encode_runs p).values) (framed_sizes (encode_runs p).indices) (framed_sizes (encode_runs p).offsets)) e
-    ∙ (ap (λ (x : RunParts). all items (delta_sizes x.values) (framed_sizes x.indices) (framed_sizes x.offsets)) f
-    ∙ (ap (λ x. all items x (framed_sizes runs.indices) (framed_sizes runs.offsets)) g
-    ∙ (ap (λ x. all items values x (framed_sizes runs.offsets)) h ∙ ap (all items values indices) o))))
+    ∙ (ap (λ (x : PrimitiveParts × PrimitiveParts). all items (delta_sizes x.0) (framed_sizes (encode_runs p).indices) (framed_sizes x.1)) f
+    ∙ (ap (λ x. all items x (framed_sizes (encode_runs p).indices) (framed_sizes o)) g
+    ∙ (ap (λ x. all items values x (framed_sizes o)) h ∙ ap (all items values indices) l))))
 
 -- ---- what is foreseen
 first_of : (a b : Bool) → (a && b) ≡ true → a ≡ true

@@ -1,13 +1,17 @@
 -- Schemes with how many bytes they take.
-use Rattle.std.specs.Prelude.{◌≡◌, ℕ, ℤ, List, length, Option, Some, None, option_map}
+use Rattle.std.specs.Prelude.{◌≡◌, ◌≤◌, ℕ, ℤ, pos, List, length, Option, Some, None, option_map}
 use Rattle.fl_types.specs.Validities.{items_of}
 use Rattle.fl_column.specs.Columns.{PrimitiveParts}
 use Rattle.fl_statistics.specs.declared.widths.BitStatistics.{BitStatistics}
 use Rattle.fl_statistics.specs.BitStatistics.{bit_statistics}
 use Rattle.fl_statistics.specs.Differences.{less_references}
 use Rattle.fl_codec.specs.declared.for_.ItemOrder.{ItemOrder}
+use Rattle.fl_codec.specs.FoRColumns.{chunk_references, common_reference, least_by, reading}
+use Rattle.fl_codec.specs.Parts.{compress_deltas, encode_runs, items_of_primitive}
 use Rattle.fl_encode.specs.Shapes.{RLE, Shape, shape}
 use Rattle.fl_compress.specs.declared.choice.Choice.{Choice}
+use Rattle.fl_compress.specs.declared.parts.Part.{Part}
+use Rattle.fl_compress.specs.declared.parts.Part.TheVariants.{Deltas, Indices, Items}
 use Rattle.fl_compress.specs.Candidates.{over_chunk_references, over_one_reference}
 use Rattle.fl_compress.specs.Cheapest.{cheaper, cheapest}
 use Rattle.fl_compress.specs.EncodedBytes.{encoded_bytes}
@@ -48,3 +52,23 @@ runs_of values others = RLE values others.0 others.1
 -- the cheapest of frames of reference of an order over these, or another choice
 abbrev pub or_frames : ItemOrder → PrimitiveParts → List Shape → Option (Shape × ℕ) → Option (Shape × ℕ)
 or_frames order p children best = cheaper (cheaper best (cheapest (encoded_bytes p) (over_one_reference order children))) (cheapest (encoded_bytes p) (over_chunk_references order children))
+
+-- the items of an array, its deltas, or its run indices, as an array
+abbrev pub part_of : Part → PrimitiveParts → PrimitiveParts
+part_of Items p = p
+part_of Deltas p = (compress_deltas p).1
+part_of Indices p = (encode_runs p).indices
+
+-- so many bytes are at most those of a choice, if there is one
+abbrev pub CostsNoMore : ℕ → Option (Shape × ℕ) → Type 0
+CostsNoMore bytes None = Unit
+CostsNoMore bytes (Some choice) = bytes ≤ choice.1
+
+-- the references have one in common, which is this integer
+abbrev pub AreAll : List ℤ → Option ℤ → Type 0
+AreAll references least = (z : ℤ) × (least ≡ Some z) × (common_reference references ≡ Some z)
+
+-- by an order, 0 is the least item, and the reference of each chunk
+abbrev pub HasZeroLeasts : ItemOrder → PrimitiveParts → Type 0
+HasZeroLeasts order p =
+    (least_by (reading order p.ptype) (items_of_primitive p) ≡ Some (pos 0)) × (common_reference (chunk_references (reading order p.ptype) (items_of_primitive p)) ≡ Some (pos 0))

@@ -3,7 +3,7 @@
 ghost use Rattle.std.specs.Prelude.{◌≡◌, ◌<◌, ◌≤◌, IfErr, IfOk, IsTrue, length, true};
 ghost use Rattle.fl_types.specs.declared.error.FastLanesError.TheVariants.{OutOfMemory};
 ghost use Rattle.fl_column.specs.Columns.{column_of_primitive};
-ghost use Rattle.fl_column.specs.Questions.{are_constant};
+ghost use Rattle.fl_column.specs.Queries.{are_constant};
 ghost use Rattle.fl_array.specs.Trees.{Constant, Primitive, column};
 ghost use Rattle.fl_encode.specs.Packings.{constant_of};
 ghost use Rattle.fl_serde.specs.ByteCounts.{primitive_bytes, tree_bytes};
@@ -30,7 +30,7 @@ use std::alloc::Global;
 /// equal becomes constant, where this is allowed.
 ///
 /// # Errors
-/// None but `OutOfMemory`.
+/// Only `OutOfMemory`.
 pub fn compress_within(
     alloc: Global,
     array: &PrimitiveArray,
@@ -51,7 +51,7 @@ pub fn compress_within(
 /// The array, encoded as small as `compress_within` makes it with three levels of all encodings.
 ///
 /// # Errors
-/// None but `OutOfMemory`.
+/// Only `OutOfMemory`.
 pub fn compress(alloc: Global, array: &PrimitiveArray) -> Result<ArrayRef, FastLanesError>
     ensures smallest { IfOk result (IsSmallest (candidates default_limits) array.now) }
     ensures column { IfOk result (λ t. column t ≡ column_of_primitive array.now) }

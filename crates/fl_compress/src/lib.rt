@@ -11,6 +11,7 @@ pub mod laws;
 pub mod limits;
 mod orders;
 mod packing;
+mod parts;
 mod search;
 mod single_runs;
 pub mod sizes;

@@ -1,173 +1,228 @@
 //! The search for the scheme by which an array takes fewest bytes, slot by slot. What takes no bytes ends it.
 
-ghost use Rattle.std.specs.Prelude.{◌≡◌, ◌<◌, ◌≤◌, ◌^◌, ◌&&◌, ℤ, List, [], ◌∷◌, IfOk, Ok, Some, is_none, length, map, nat_lt};
-ghost use Rattle.std.specs.List.{list_all};
+ghost use Rattle.std.specs.Prelude.{◌≡◌, ◌<◌, ◌≤◌, ◌^◌, ℤ, List, [], ◌∷◌, IfOk, Ok, Some, map, option_map, true};
 ghost use Rattle.fl_types.specs.Refusals.{Answers};
 ghost use Rattle.fl_encode.specs.Shapes as shapes;
 ghost use Rattle.fl_compress.specs.Candidates.{candidates, delta_schemes, framed_schemes, over_chunk_references, over_deltas, over_one_reference, over_runs, packed_schemes, where_allowed, with_references};
-ghost use Rattle.fl_codec.specs.FoRColumns.{chunked_slots};
+ghost use Rattle.fl_codec.specs.FoRColumns.{chunk_references, chunked_slots, least_by, reading};
 ghost use Rattle.fl_codec.specs.Parts.{items_of_primitive, non_nullable, subtract_reference};
 ghost use Rattle.fl_serde.specs.ByteCounts.{primitive_bytes};
 ghost use Rattle.fl_compress.specs.Cheapest.{beside, cheaper, cheapest, combined};
-ghost use Rattle.fl_compress.specs.Choices.{HoldDifferences, chosen, chosen_in, or_frames, runs_of, two, with_slots};
+ghost use Rattle.fl_compress.specs.Choices.{AreAll, CostsNoMore, HoldDifferences, chosen, chosen_in, or_frames, part_of, runs_of, two, with_slots};
 ghost use Rattle.fl_compress.specs.EncodedBytes.{encoded_bytes};
 
 use crate::choice::{self, Choice, cheaper, plain};
 use crate::limits::{Limits, has_level};
 use crate::orders::are_orders_one;
 use crate::packing::choose_packing;
+use crate::parts::{
+    Part, count_bits, count_bits_less, has_zero_leasts, is_all_null, is_constant, is_less_constant,
+    leasts, plain_bytes, ptype_of,
+};
 use crate::single_runs::are_runs_single;
-use fl_codec::for_::{ItemOrder, are_nulls, common_reference, least_item, references_of};
-use fl_codec::rle::Runs;
-use fl_codec::{delta, rle};
+use fl_codec::delta::blocks::delta_bases;
+use fl_codec::for_::{ItemOrder, common_reference};
+use fl_codec::rle::blocks::run_values;
+use fl_column::laws::stored_integers_are_in_range;
 use fl_column::{FastLanesError, PhysicalPType, PrimitiveArray};
 use fl_encode::Scheme;
-use fl_serde::byte_counts::{primitive_bytes, validity_bytes};
-use fl_statistics::{bit_statistics, bit_statistics_less, is_constant_less};
-use fl_types::match_each_integer_ptype;
+use fl_serde::byte_counts::validity_bytes;
+use fl_statistics::bit_statistics;
+use fl_types::{NativePType, is_equal, match_each_integer_ptype};
 use num_traits::WrappingSub;
 use std::alloc::Global;
 
 /// A constant array, where one is allowed and all items are equal.
-fn choose_constant(array: &PrimitiveArray, limits: &Limits) -> Option<Choice>
-    ensures { chosen_in result ≡ cheapest (encoded_bytes array.now) (where_allowed limits.now.constant (shapes.Constant ∷ [])) }
+fn choose_constant(
+    alloc: Global,
+    array: &PrimitiveArray,
+    part: Part,
+    limits: &Limits,
+) -> Result<Option<Choice>, FastLanesError>
+    ensures { Answers chosen_in result (Ok (cheapest (encoded_bytes (part_of part array.now)) (where_allowed limits.now.constant (shapes.Constant ∷ [])))) }
 {
-    if limits.constant && array.is_constant() {
-        let scheme = Scheme::Constant;
-        return Some(Choice { scheme, bytes: 0 });
+    if !limits.constant {
+        return Ok(None);
     }
-    None
+    let equal = is_constant(alloc, array, part)?;
+    if equal {
+        let scheme = Scheme::Constant;
+        return Ok(Some(Choice { scheme, bytes: 0 }));
+    }
+    Ok(None)
 }
 
 /// The cheaper of a plain and a constant array.
-fn choose_whole(array: &PrimitiveArray, limits: &Limits) -> Choice
-    ensures choice { chosen result ≡ cheaper (Some (shapes.Primitive, primitive_bytes array.now)) (cheapest (encoded_bytes array.now) (where_allowed limits.now.constant (shapes.Constant ∷ []))) }
-    ensures few { result.bytes < 2 ^ 68 }
+fn choose_whole(
+    alloc: Global,
+    array: &PrimitiveArray,
+    part: Part,
+    limits: &Limits,
+) -> Result<Choice, FastLanesError>
+    ensures choice { Answers chosen result (Ok (cheaper (Some (shapes.Primitive, primitive_bytes (part_of part array.now))) (cheapest (encoded_bytes (part_of part array.now)) (where_allowed limits.now.constant (shapes.Constant ∷ []))))) }
+    ensures few { IfOk result (λ choice. choice.bytes < 2 ^ 68) }
 {
-    let plain = plain(primitive_bytes(array));
-    cheaper(plain, choose_constant(array, limits))
+    let constant = choose_constant(alloc, array, part, limits)?;
+    Ok(cheaper(plain(plain_bytes(array, part)), constant))
 }
 
 /// The cheapest of a plain, a constant and a packed array. What takes no bytes needs no statistics, and neither
 /// does what may not be packed.
-fn choose_packed(array: &PrimitiveArray, limits: &Limits, depth: u8) -> Choice
-    ensures choice { chosen result ≡ cheapest (encoded_bytes array.now) (packed_schemes limits.now depth) }
-    ensures few { result.bytes < 2 ^ 68 }
+fn choose_packed(
+    alloc: Global,
+    array: &PrimitiveArray,
+    limits: &Limits,
+    depth: u8,
+) -> Result<Choice, FastLanesError>
+    ensures choice { Answers chosen result (Ok (cheapest (encoded_bytes array.now) (packed_schemes limits.now depth))) }
+    ensures few { IfOk result (λ choice. choice.bytes < 2 ^ 68) }
 {
-    let best = choose_whole(array, limits);
+    let best = choose_whole(alloc, array, Part::Items, limits)?;
     if best.bytes == 0 {
-        return best;
+        return Ok(best);
     }
     if !has_level(limits.bitpacked, depth) {
-        return best;
+        return Ok(best);
     }
     let statistics = bit_statistics(array);
-    cheaper(best, choose_packing(array, &statistics, limits, depth))
+    let packing = choose_packing(array, Part::Items, &statistics, limits, depth);
+    Ok(cheaper(best, packing))
 }
 
-/// A constant array of an array's items less the references of their blocks, where one is allowed and they are all
-/// equal.
+/// A constant array of items minus the references of their blocks, where one is allowed and they are all equal.
 fn choose_constant_differences<T: PhysicalPType + WrappingSub>(
+    alloc: Global,
     array: &PrimitiveArray,
+    part: Part,
     one: T,
     references: &[T],
     limits: &Limits,
-) -> Option<Choice>
-    requires { array.now.ptype ≡ T.PTYPE }
-    ensures { (slots : List ℤ) → HoldDifferences slots array.now (T.value one) (map T.value references.now) → chosen_in result ≡ cheapest (encoded_bytes (with_slots array.now slots)) (where_allowed limits.now.constant (shapes.Constant ∷ [])) }
+) -> Result<Option<Choice>, FastLanesError>
+    requires { (part_of part array.now).ptype ≡ T.PTYPE }
+    ensures { (slots : List ℤ) → HoldDifferences slots (part_of part array.now) (T.value one) (map T.value references.now) → Answers chosen_in result (Ok (cheapest (encoded_bytes (with_slots (part_of part array.now) slots)) (where_allowed limits.now.constant (shapes.Constant ∷ [])))) }
 {
-    if limits.constant && is_constant_less(array, one, references) {
-        let scheme = Scheme::Constant;
-        return Some(Choice { scheme, bytes: 0 });
+    if !limits.constant {
+        return Ok(None);
     }
-    None
+    let equal = is_less_constant(alloc, array, part, one, references)?;
+    if equal {
+        let scheme = Scheme::Constant;
+        return Ok(Some(Choice { scheme, bytes: 0 }));
+    }
+    Ok(None)
 }
 
 /// The cheaper of a plain and a constant array of the same.
 fn choose_whole_differences<T: PhysicalPType + WrappingSub>(
+    alloc: Global,
     array: &PrimitiveArray,
+    part: Part,
     one: T,
     references: &[T],
     limits: &Limits,
-) -> Choice
-    requires { array.now.ptype ≡ T.PTYPE }
-    ensures choice { (slots : List ℤ) → HoldDifferences slots array.now (T.value one) (map T.value references.now) → chosen result ≡ cheaper (Some (shapes.Primitive, primitive_bytes (with_slots array.now slots))) (cheapest (encoded_bytes (with_slots array.now slots)) (where_allowed limits.now.constant (shapes.Constant ∷ []))) }
-    ensures few { result.bytes < 2 ^ 68 }
+) -> Result<Choice, FastLanesError>
+    requires { (part_of part array.now).ptype ≡ T.PTYPE }
+    ensures choice { (slots : List ℤ) → HoldDifferences slots (part_of part array.now) (T.value one) (map T.value references.now) → Answers chosen result (Ok (cheaper (Some (shapes.Primitive, primitive_bytes (with_slots (part_of part array.now) slots))) (cheapest (encoded_bytes (with_slots (part_of part array.now) slots)) (where_allowed limits.now.constant (shapes.Constant ∷ []))))) }
+    ensures few { IfOk result (λ choice. choice.bytes < 2 ^ 68) }
 {
-    let plain = plain(primitive_bytes(array));
-    cheaper(
-        plain,
-        choose_constant_differences(array, one, references, limits),
-    )
+    let constant = choose_constant_differences(alloc, array, part, one, references, limits)?;
+    Ok(cheaper(plain(plain_bytes(array, part)), constant))
 }
 
-/// The cheapest of a plain, a constant and a packed array of an array's items less the references of their blocks.
-/// That array is not made: its bits are counted straight from the array's items.
+/// The cheapest of a plain, a constant and a packed array of items minus the references of their blocks. That array is not
+/// made: its bits are counted straight from the array's items, or its deltas block by block.
 fn choose_differences<T: PhysicalPType + WrappingSub>(
+    alloc: Global,
     array: &PrimitiveArray,
+    part: Part,
     one: T,
     references: &[T],
     limits: &Limits,
     depth: u8,
-) -> Choice
-    requires { array.now.ptype ≡ T.PTYPE }
-    ensures choice { (slots : List ℤ) → HoldDifferences slots array.now (T.value one) (map T.value references.now) → chosen result ≡ cheapest (encoded_bytes (with_slots array.now slots)) (packed_schemes limits.now depth) }
-    ensures few { result.bytes < 2 ^ 68 }
+) -> Result<Choice, FastLanesError>
+    requires { (part_of part array.now).ptype ≡ T.PTYPE }
+    ensures choice { (slots : List ℤ) → HoldDifferences slots (part_of part array.now) (T.value one) (map T.value references.now) → Answers chosen result (Ok (cheapest (encoded_bytes (with_slots (part_of part array.now) slots)) (packed_schemes limits.now depth))) }
+    ensures few { IfOk result (λ choice. choice.bytes < 2 ^ 68) }
 {
-    let best = choose_whole_differences(array, one, references, limits);
+    let best = choose_whole_differences(alloc, array, part, one, references, limits)?;
     if best.bytes == 0 {
-        return best;
+        return Ok(best);
     }
     if !has_level(limits.bitpacked, depth) {
-        return best;
+        return Ok(best);
     }
-    let statistics = bit_statistics_less(array, one, references);
-    cheaper(best, choose_packing(array, &statistics, limits, depth))
+    let statistics = count_bits_less(alloc, array, part, one, references)?;
+    let packing = choose_packing(array, part, &statistics, limits, depth);
+    Ok(cheaper(best, packing))
 }
 
-fn choose_one_typed<T: PhysicalPType + WrappingSub>(
+/// The cheapest array of a FoR child over the items minus one reference.
+fn choose_less_one<T: PhysicalPType + WrappingSub>(
     alloc: Global,
     array: &PrimitiveArray,
-    order: ItemOrder,
+    part: Part,
+    reference: T,
     limits: &Limits,
     depth: u8,
-) -> Result<Option<Choice>, FastLanesError>
-    requires { array.now.ptype ≡ T.PTYPE }
-    ensures { Answers chosen_in result (Ok (cheapest (encoded_bytes array.now) (over_one_reference order (packed_schemes limits.now depth)))) }
+) -> Result<Choice, FastLanesError>
+    requires { (part_of part array.now).ptype ≡ T.PTYPE }
+    ensures choice { Answers chosen result (Ok (cheapest (encoded_bytes (subtract_reference (part_of part array.now) (T.value reference)).child) (packed_schemes limits.now depth))) }
+    ensures few { IfOk result (λ choice. choice.bytes < 2 ^ 68) }
 {
     let _validity = array.validity();
-    match least_item::<T>(array, order) {
-        Some(reference) => {
-            let none = &array.as_slice::<T>()[..0];
-            let child = choose_differences(array, reference, none, limits, depth);
-            let choice = choice::over_one_reference(alloc, order, child)?;
-            Ok(Some(choice))
-        }
-        None => Ok(None),
-    }
+    let none: &[T] = &[];
+    choose_differences(alloc, array, part, reference, none, limits, depth)
 }
 
-/// The cheapest FoR array of one reference by an order, if an item is valid.
-fn choose_one_reference(
+/// The cheapest array of a FoR child over the items less these references, one for each chunk.
+fn choose_less_references<T: PhysicalPType + WrappingSub>(
     alloc: Global,
     array: &PrimitiveArray,
-    order: ItemOrder,
+    part: Part,
+    references: &[T],
     limits: &Limits,
     depth: u8,
-) -> Result<Option<Choice>, FastLanesError>
-    ensures { Answers chosen_in result (Ok (cheapest (encoded_bytes array.now) (over_one_reference order (packed_schemes limits.now depth)))) }
+) -> Result<Choice, FastLanesError>
+    requires { (part_of part array.now).ptype ≡ T.PTYPE }
+    ensures choice { Answers chosen result (Ok (cheapest (encoded_bytes (with_slots (part_of part array.now) (chunked_slots (part_of part array.now).ptype (map T.value references.now) (items_of_primitive (part_of part array.now))))) (packed_schemes limits.now depth))) }
+    ensures few { IfOk result (λ choice. choice.bytes < 2 ^ 68) }
 {
-    match_each_integer_ptype!(
-        array.ptype(),
-        choose_one_typed(alloc, array, order, limits, depth)
-    )
+    let _validity = array.validity();
+    choose_differences(alloc, array, part, T::zero(), references, limits, depth)
 }
 
-/// Whether there are items, and all of them are null.
-fn is_all_null(array: &PrimitiveArray) -> bool
-    ensures { result ≡ (nat_lt 0 (length array.now.slots) && list_all is_none (items_of_primitive array.now)) }
+/// The cheaper of another choice, and of the cheapest FoR array of one reference by an order, which is the least item, if
+/// one is valid. Less 0 the items are themselves, so nothing is cheaper than the other choice, which is at most a packed
+/// array.
+fn choose_one_reference<T: PhysicalPType + WrappingSub>(
+    alloc: Global,
+    array: &PrimitiveArray,
+    part: Part,
+    order: ItemOrder,
+    least: Option<T>,
+    limits: &Limits,
+    depth: u8,
+    first: Choice,
+) -> Result<Choice, FastLanesError>
+    requires same { (part_of part array.now).ptype ≡ T.PTYPE }
+    requires least { option_map T.value least ≡ least_by (reading order (part_of part array.now).ptype) (items_of_primitive (part_of part array.now)) }
+    requires first { CostsNoMore first.bytes (cheapest (encoded_bytes (part_of part array.now)) (packed_schemes limits.now depth)) }
+    ensures choice { Answers chosen result (Ok (cheaper (chosen first) (cheapest (encoded_bytes (part_of part array.now)) (over_one_reference order (packed_schemes limits.now depth))))) }
+    ensures most { IfOk result (λ choice. choice.bytes ≤ first.bytes) }
 {
-    array.len() > 0 && are_nulls(array)
+    stored_integers_are_in_range(array);
+    let _validity = array.validity();
+    match least {
+        Some(reference) => {
+            if is_equal(reference, T::zero()) {
+                return Ok(first);
+            }
+            let child = choose_less_one(alloc, array, part, reference, limits, depth)?;
+            let choice = choice::over_one_reference(alloc, order, child)?;
+            Ok(cheaper(first, Some(choice)))
+        }
+        None => Ok(first),
+    }
 }
 
 /// The cheapest FoR array over the items less the one reference that all chunks have. No scheme for it is better than
@@ -175,17 +230,16 @@ fn is_all_null(array: &PrimitiveArray) -> bool
 fn choose_common<T: PhysicalPType + WrappingSub>(
     alloc: Global,
     array: &PrimitiveArray,
+    part: Part,
     order: ItemOrder,
     reference: T,
     limits: &Limits,
     depth: u8,
 ) -> Result<Choice, FastLanesError>
-    requires { array.now.ptype ≡ T.PTYPE }
-    ensures { Answers chosen result (Ok (combined (with_references order) (cheapest (encoded_bytes (subtract_reference array.now (T.value reference)).child) (packed_schemes limits.now depth)) (Some (shapes.Primitive, 0)))) }
+    requires { (part_of part array.now).ptype ≡ T.PTYPE }
+    ensures { Answers chosen result (Ok (combined (with_references order) (cheapest (encoded_bytes (subtract_reference (part_of part array.now) (T.value reference)).child) (packed_schemes limits.now depth)) (Some (shapes.Primitive, 0)))) }
 {
-    let _validity = array.validity();
-    let none = &array.as_slice::<T>()[..0];
-    let child = choose_differences(array, reference, none, limits, depth);
+    let child = choose_less_one(alloc, array, part, reference, limits, depth)?;
     choice::over_chunk_references(alloc, order, child, plain(0))
 }
 
@@ -193,72 +247,102 @@ fn choose_common<T: PhysicalPType + WrappingSub>(
 fn choose_by_chunk<T: PhysicalPType + WrappingSub>(
     alloc: Global,
     array: &PrimitiveArray,
+    part: Part,
     order: ItemOrder,
     references: Vec<T>,
     limits: &Limits,
     depth: u8,
 ) -> Result<Choice, FastLanesError>
-    requires { array.now.ptype ≡ T.PTYPE }
-    ensures { Answers chosen result (Ok (combined (with_references order) (cheapest (encoded_bytes (with_slots array.now (chunked_slots array.now.ptype (map T.value references.items) (items_of_primitive array.now)))) (packed_schemes limits.now depth)) (cheapest (encoded_bytes (non_nullable array.now.ptype (map T.value references.items))) (packed_schemes limits.now depth)))) }
+    requires { (part_of part array.now).ptype ≡ T.PTYPE }
+    ensures { Answers chosen result (Ok (combined (with_references order) (cheapest (encoded_bytes (with_slots (part_of part array.now) (chunked_slots (part_of part array.now).ptype (map T.value references.items) (items_of_primitive (part_of part array.now))))) (packed_schemes limits.now depth)) (cheapest (encoded_bytes (non_nullable (part_of part array.now).ptype (map T.value references.items))) (packed_schemes limits.now depth)))) }
 {
-    let _validity = array.validity();
-    let child = choose_differences(array, T::zero(), &references, limits, depth);
+    let child = choose_less_references(alloc, array, part, &references, limits, depth)?;
     let others = PrimitiveArray::non_nullable(references);
-    let others = choose_packed(&others, limits, depth);
+    let others = choose_packed(alloc, &others, limits, depth)?;
     choice::over_chunk_references(alloc, order, child, others)
 }
 
-fn choose_chunks_typed<T: PhysicalPType + WrappingSub>(
+/// The cheapest FoR array of a reference for each chunk by an order. Nulls alone are a constant, which takes no bytes.
+fn choose_chunk_references<T: PhysicalPType + WrappingSub>(
     alloc: Global,
     array: &PrimitiveArray,
+    part: Part,
     order: ItemOrder,
+    references: Vec<T>,
     limits: &Limits,
     depth: u8,
 ) -> Result<Choice, FastLanesError>
-    requires { array.now.ptype ≡ T.PTYPE }
-    ensures { Answers chosen result (Ok (cheapest (encoded_bytes array.now) (over_chunk_references order (packed_schemes limits.now depth)))) }
+    requires same { (part_of part array.now).ptype ≡ T.PTYPE }
+    requires references { map T.value references.items ≡ chunk_references (reading order (part_of part array.now).ptype) (items_of_primitive (part_of part array.now)) }
+    ensures { Answers chosen result (Ok (cheapest (encoded_bytes (part_of part array.now)) (over_chunk_references order (packed_schemes limits.now depth)))) }
 {
-    if is_all_null(array) {
+    if is_all_null(array, part) {
         return choice::over_chunk_references(alloc, order, plain(0), plain(0));
     }
-    let references = references_of::<T>(alloc, array, order)?;
     match common_reference(&references) {
-        Some(reference) => choose_common(alloc, array, order, reference, limits, depth),
-        None => choose_by_chunk(alloc, array, order, references, limits, depth),
+        Some(reference) => choose_common(alloc, array, part, order, reference, limits, depth),
+        None => choose_by_chunk(alloc, array, part, order, references, limits, depth),
     }
 }
 
-/// The cheapest FoR array of a reference for each chunk by an order. Nulls alone are a constant, which takes no bytes.
-fn choose_chunk_references(
-    alloc: Global,
-    array: &PrimitiveArray,
-    order: ItemOrder,
-    limits: &Limits,
-    depth: u8,
-) -> Result<Choice, FastLanesError>
-    ensures { Answers chosen result (Ok (cheapest (encoded_bytes array.now) (over_chunk_references order (packed_schemes limits.now depth)))) }
+/// Whether all references are the least item.
+fn are_least<T: NativePType>(references: &[T], least: Option<T>) -> bool
+    ensures { result ≡ true → AreAll (map T.value references.now) (option_map T.value least) }
 {
-    match_each_integer_ptype!(
-        array.ptype(),
-        choose_chunks_typed(alloc, array, order, limits, depth)
-    )
+    match (common_reference(references), least) {
+        (Some(common), Some(least)) => is_equal(common, least),
+        _ => false,
+    }
 }
 
-/// The cheapest of another choice, and of FoR arrays by an order whose children are packed.
-fn choose_frames(
+fn choose_frames_typed<T: PhysicalPType + WrappingSub>(
     alloc: Global,
     array: &PrimitiveArray,
+    part: Part,
     order: ItemOrder,
     limits: &Limits,
     depth: u8,
     first: Choice,
 ) -> Result<Choice, FastLanesError>
-    ensures choice { Answers chosen result (Ok (or_frames order array.now (packed_schemes limits.now depth) (chosen first))) }
+    requires same { (part_of part array.now).ptype ≡ T.PTYPE }
+    requires first { CostsNoMore first.bytes (cheapest (encoded_bytes (part_of part array.now)) (packed_schemes limits.now depth)) }
+    ensures choice { Answers chosen result (Ok (or_frames order (part_of part array.now) (packed_schemes limits.now depth) (chosen first))) }
     ensures most { IfOk result (λ choice. choice.bytes ≤ first.bytes) }
 {
-    let one = choose_one_reference(alloc, array, order, limits, depth)?;
-    let many = choose_chunk_references(alloc, array, order, limits, depth)?;
-    Ok(cheaper(cheaper(first, one), Some(many)))
+    let (references, least) = leasts::<T>(alloc, array, part, order)?;
+    let one = choose_one_reference(alloc, array, part, order, least, limits, depth, first)?;
+    if are_least(&references, least) {
+        return Ok(one);
+    }
+    let many = choose_chunk_references(alloc, array, part, order, references, limits, depth)?;
+    Ok(cheaper(one, Some(many)))
+}
+
+/// The cheapest of another choice, which is at most a packed array, and of FoR arrays by an order whose children are
+/// packed. Where all chunks have one reference, their references find nothing cheaper than that, and where it is 0, neither
+/// does that.
+fn choose_frames(
+    alloc: Global,
+    array: &PrimitiveArray,
+    part: Part,
+    order: ItemOrder,
+    limits: &Limits,
+    depth: u8,
+    first: Choice,
+) -> Result<Choice, FastLanesError>
+    requires { CostsNoMore first.bytes (cheapest (encoded_bytes (part_of part array.now)) (packed_schemes limits.now depth)) }
+    ensures choice { Answers chosen result (Ok (or_frames order (part_of part array.now) (packed_schemes limits.now depth) (chosen first))) }
+    ensures most { IfOk result (λ choice. choice.bytes ≤ first.bytes) }
+{
+    stored_integers_are_in_range(array);
+    let _validity = array.validity();
+    if has_zero_leasts(array, part, order) {
+        return Ok(first);
+    }
+    match_each_integer_ptype!(
+        ptype_of(array, part),
+        choose_frames_typed(alloc, array, part, order, limits, depth, first)
+    )
 }
 
 /// The cheapest of a packed array, and of FoR arrays whose children are packed. The bits of the items are counted
@@ -266,18 +350,19 @@ fn choose_frames(
 fn choose_framed(
     alloc: Global,
     array: &PrimitiveArray,
+    part: Part,
     limits: &Limits,
     depth: u8,
 ) -> Result<Choice, FastLanesError>
-    ensures choice { Answers chosen result (Ok (cheapest (encoded_bytes array.now) (framed_schemes limits.now depth))) }
+    ensures choice { Answers chosen result (Ok (cheapest (encoded_bytes (part_of part array.now)) (framed_schemes limits.now depth))) }
     ensures few { IfOk result (λ choice. choice.bytes < 2 ^ 68) }
 {
-    let whole = choose_whole(array, limits);
+    let whole = choose_whole(alloc, array, part, limits)?;
     if whole.bytes == 0 {
         return Ok(whole);
     }
-    let statistics = bit_statistics(array);
-    let packing = choose_packing(array, &statistics, limits, depth);
+    let statistics = count_bits(alloc, array, part)?;
+    let packing = choose_packing(array, part, &statistics, limits, depth);
     let packed = cheaper(whole, packing);
     if packed.bytes == 0 {
         return Ok(packed);
@@ -285,42 +370,66 @@ fn choose_framed(
     if !has_level(limits.for_, depth) {
         return Ok(packed);
     }
-    let natural = choose_frames(alloc, array, ItemOrder::Natural, limits, depth - 1, packed)?;
-    if are_orders_one(array, &statistics) {
+    let natural = choose_frames(
+        alloc,
+        array,
+        part,
+        ItemOrder::Natural,
+        limits,
+        depth - 1,
+        packed,
+    )?;
+    if are_orders_one(array, part, &statistics) {
         return Ok(natural);
     }
-    choose_frames(alloc, array, ItemOrder::Signed, limits, depth - 1, natural)
+    choose_frames(
+        alloc,
+        array,
+        part,
+        ItemOrder::Signed,
+        limits,
+        depth - 1,
+        natural,
+    )
 }
 
-/// The cheapest delta array over these bases and deltas, beside so many bytes of its own.
-fn choose_blocks(
+/// The cheapest delta array over these bases and a choice of deltas, beside so many bytes of its own.
+fn choose_over_bases(
     alloc: Global,
     bases: &PrimitiveArray,
-    deltas: &PrimitiveArray,
+    deltas: Choice,
     own: u128,
     limits: &Limits,
     depth: u8,
 ) -> Result<Choice, FastLanesError>
-    requires { own < 2 ^ 64 }
-    ensures { Answers chosen result (Ok (combined shapes.Delta (cheapest (encoded_bytes bases.now) (framed_schemes limits.now depth)) (beside own (cheapest (encoded_bytes deltas.now) (framed_schemes limits.now depth))))) }
+    requires deltas { deltas.bytes < 2 ^ 68 }
+    requires own { own < 2 ^ 64 }
+    ensures { Answers chosen result (Ok (combined shapes.Delta (cheapest (encoded_bytes bases.now) (framed_schemes limits.now depth)) (beside own (chosen deltas)))) }
 {
-    let bases = choose_framed(alloc, bases, limits, depth)?;
-    let deltas = choose_framed(alloc, deltas, limits, depth)?;
+    let bases = choose_framed(alloc, bases, Part::Items, limits, depth)?;
     choice::over_deltas(alloc, bases, deltas, own)
 }
 
-/// The cheapest delta array whose children are framed.
+/// The cheaper of another choice, and of the cheapest delta array whose children are framed. Of the deltas no list is made.
+/// Where they already take as many bytes, the bases are not looked at.
 fn choose_deltas(
     alloc: Global,
     array: &PrimitiveArray,
     limits: &Limits,
     depth: u8,
+    first: Choice,
 ) -> Result<Choice, FastLanesError>
-    ensures { Answers chosen result (Ok (cheapest (encoded_bytes array.now) (over_deltas (framed_schemes limits.now depth)))) }
+    ensures choice { Answers chosen result (Ok (cheaper (chosen first) (cheapest (encoded_bytes array.now) (over_deltas (framed_schemes limits.now depth))))) }
+    ensures most { IfOk result (λ choice. choice.bytes ≤ first.bytes) }
 {
     let own = validity_bytes(array.validity(), array.len());
-    let (bases, deltas) = delta::delta_compress(alloc, array)?;
-    choose_blocks(alloc, &bases, &deltas, own, limits, depth)
+    let deltas = choose_framed(alloc, array, Part::Deltas, limits, depth)?;
+    if first.bytes <= deltas.bytes + own {
+        return Ok(first);
+    }
+    let bases = delta_bases(alloc, array)?;
+    let made = choose_over_bases(alloc, &bases, deltas, own, limits, depth)?;
+    Ok(cheaper(first, Some(made)))
 }
 
 /// The cheapest of a framed array, and of a delta array whose children are framed.
@@ -333,15 +442,14 @@ fn choose_framed_or_deltas(
     ensures choice { Answers chosen result (Ok (cheapest (encoded_bytes array.now) (delta_schemes limits.now depth))) }
     ensures few { IfOk result (λ choice. choice.bytes < 2 ^ 68) }
 {
-    let framed = choose_framed(alloc, array, limits, depth)?;
+    let framed = choose_framed(alloc, array, Part::Items, limits, depth)?;
     if framed.bytes == 0 {
         return Ok(framed);
     }
     if !has_level(limits.delta, depth) {
         return Ok(framed);
     }
-    let deltas = choose_deltas(alloc, array, limits, depth - 1)?;
-    Ok(cheaper(framed, Some(deltas)))
+    choose_deltas(alloc, array, limits, depth - 1, framed)
 }
 
 /// The cheapest run-length encoded array over these run values, a choice of run indices, and one of run offsets.
@@ -365,23 +473,26 @@ fn choose_over_values(
 /// run offsets already take as many bytes, the run values are not looked at.
 fn choose_run_parts(
     alloc: Global,
-    runs: &Runs,
+    values: &PrimitiveArray,
+    indices: Choice,
+    offsets: &PrimitiveArray,
     limits: &Limits,
     depth: u8,
     first: Choice,
 ) -> Result<Choice, FastLanesError>
-    ensures { Answers chosen result (Ok (cheaper (chosen first) (combined runs_of (cheapest (encoded_bytes runs.now.values) (delta_schemes limits.now depth)) (combined two (cheapest (encoded_bytes runs.now.indices) (framed_schemes limits.now depth)) (cheapest (encoded_bytes runs.now.offsets) (framed_schemes limits.now depth)))))) }
+    requires { indices.bytes < 2 ^ 68 }
+    ensures { Answers chosen result (Ok (cheaper (chosen first) (combined runs_of (cheapest (encoded_bytes values.now) (delta_schemes limits.now depth)) (combined two (chosen indices) (cheapest (encoded_bytes offsets.now) (framed_schemes limits.now depth)))))) }
 {
-    let indices = choose_framed(alloc, &runs.indices, limits, depth)?;
-    let offsets = choose_framed(alloc, &runs.offsets, limits, depth)?;
+    let offsets = choose_framed(alloc, offsets, Part::Items, limits, depth)?;
     if first.bytes <= indices.bytes + offsets.bytes {
         return Ok(first);
     }
-    let made = choose_over_values(alloc, &runs.values, indices, offsets, limits, depth)?;
+    let made = choose_over_values(alloc, values, indices, offsets, limits, depth)?;
     Ok(cheaper(first, Some(made)))
 }
 
-/// The cheaper of another choice, and of the cheapest run-length encoded array.
+/// The cheaper of another choice, and of the cheapest run-length encoded array. Of the run indices no list is made. Where
+/// they already take as many bytes, the run values and the run offsets are not made.
 fn choose_runs(
     alloc: Global,
     array: &PrimitiveArray,
@@ -391,8 +502,12 @@ fn choose_runs(
 ) -> Result<Choice, FastLanesError>
     ensures { Answers chosen result (Ok (cheaper (chosen first) (cheapest (encoded_bytes array.now) (over_runs (delta_schemes limits.now depth) (framed_schemes limits.now depth))))) }
 {
-    let runs = rle::encode(alloc, array)?;
-    choose_run_parts(alloc, &runs, limits, depth, first)
+    let indices = choose_framed(alloc, array, Part::Indices, limits, depth)?;
+    if first.bytes <= indices.bytes {
+        return Ok(first);
+    }
+    let (values, offsets) = run_values(alloc, array)?;
+    choose_run_parts(alloc, &values, indices, &offsets, limits, depth, first)
 }
 
 /// The first scheme of the candidates by which the array takes fewest bytes, and these. Where each item begins a run,

@@ -1,15 +1,24 @@
 //! How many bytes an array takes by each candidate, before it is encoded.
 
-ghost use Rattle.std.specs.Prelude.{◌≡◌, ◌-◌, ◌^◌, IsTrue, None, Ok, Some, min};
+ghost use Rattle.std.specs.Prelude.{◌≡◌, ℤ, List, Ok, map, option_map};
 ghost use Rattle.fl_types.specs.Refusals.{Answers};
-ghost use Rattle.fl_compress.specs.Statistics.{delta_sizes, frame_sizes, framed_sizes, packed_sizes, statistics_of};
+ghost use Rattle.fl_codec.specs.FoRColumns.{chunk_references, chunked_slots, least_by, reading};
+ghost use Rattle.fl_codec.specs.Parts.{items_of_primitive, less_references, subtract_reference};
+ghost use Rattle.fl_compress.specs.Choices.{HoldDifferences, part_of, with_slots};
+ghost use Rattle.fl_compress.specs.Statistics.{chunk_sizes, delta_sizes, frame_sizes, framed_sizes, packed_sizes, statistics_of};
 
 use crate::packing::{at_best_width, at_best_widths};
-use fl_codec::for_::{EncodedFoR, GlobalFoR, ItemOrder, encode_by, encode_chunked_by};
-use fl_codec::{delta, rle};
-use fl_column::{FastLanesError, PrimitiveArray};
-use fl_serde::byte_counts::{primitive_bytes, validity_bytes};
-use fl_statistics::bit_statistics;
+use crate::parts::{
+    Part, count_bits, count_bits_less, is_all_null, is_constant, is_less_constant, leasts,
+    plain_bytes, ptype_of,
+};
+use fl_codec::delta::blocks::delta_bases;
+use fl_codec::for_::{ItemOrder, common_reference};
+use fl_codec::rle::blocks::run_values;
+use fl_column::{FastLanesError, PhysicalPType, PrimitiveArray};
+use fl_serde::byte_counts::validity_bytes;
+use fl_types::match_each_integer_ptype;
+use num_traits::WrappingSub;
 use std::alloc::Global;
 
 /// The bytes of an array by each packed scheme.
@@ -78,73 +87,180 @@ pub struct Statistics {
     pub values: DeltaSizes,
     /// The run index of each item.
     pub indices: FramedSizes,
-    /// How many run values stand before each chunk.
+    /// The number of run values before each chunk.
     pub offsets: FramedSizes,
 }
 
-/// The bytes of an array by each packed scheme. Its bits are counted once.
-fn packed_sizes(array: &PrimitiveArray) -> PackedSizes
-    ensures { result ≡ packed_sizes array.now }
+/// The bytes of a part by each packed scheme. Its bits are counted once.
+fn packed_sizes(
+    alloc: Global,
+    array: &PrimitiveArray,
+    part: Part,
+) -> Result<PackedSizes, FastLanesError>
+    ensures { Answers (λ sizes. sizes) result (Ok (packed_sizes (part_of part array.now))) }
 {
-    let statistics = bit_statistics(array);
-    PackedSizes {
-        plain: primitive_bytes(array),
-        is_constant: array.is_constant(),
-        best_width: at_best_width(array, &statistics),
-        best_widths: at_best_widths(array, &statistics),
+    let equal = is_constant(alloc, array, part)?;
+    let statistics = count_bits(alloc, array, part)?;
+    Ok(PackedSizes {
+        plain: plain_bytes(array, part),
+        is_constant: equal,
+        best_width: at_best_width(array, part, &statistics),
+        best_widths: at_best_widths(array, part, &statistics),
+    })
+}
+
+/// The bytes of a part minus the references of its blocks, `one` where the list has none, by each packed scheme. The
+/// differences are counted straight from the part.
+fn difference_sizes<T: PhysicalPType + WrappingSub>(
+    alloc: Global,
+    array: &PrimitiveArray,
+    part: Part,
+    one: T,
+    references: &[T],
+) -> Result<PackedSizes, FastLanesError>
+    requires { (part_of part array.now).ptype ≡ T.PTYPE }
+    ensures { (slots : List ℤ) → HoldDifferences slots (part_of part array.now) (T.value one) (map T.value references.now) → Answers (λ sizes. sizes) result (Ok (packed_sizes (with_slots (part_of part array.now) slots))) }
+{
+    let equal = is_less_constant(alloc, array, part, one, references)?;
+    let statistics = count_bits_less(alloc, array, part, one, references)?;
+    Ok(PackedSizes {
+        plain: plain_bytes(array, part),
+        is_constant: equal,
+        best_width: at_best_width(array, part, &statistics),
+        best_widths: at_best_widths(array, part, &statistics),
+    })
+}
+
+/// The bytes of the differences from one reference.
+fn sizes_less_one<T: PhysicalPType + WrappingSub>(
+    alloc: Global,
+    array: &PrimitiveArray,
+    part: Part,
+    reference: T,
+) -> Result<PackedSizes, FastLanesError>
+    requires { (part_of part array.now).ptype ≡ T.PTYPE }
+    ensures { Answers (λ sizes. sizes) result (Ok (packed_sizes (subtract_reference (part_of part array.now) (T.value reference)).child)) }
+{
+    let _validity = array.validity();
+    difference_sizes(alloc, array, part, reference, &[])
+}
+
+/// The bytes of the differences from these references, one for each chunk.
+fn sizes_less_references<T: PhysicalPType + WrappingSub>(
+    alloc: Global,
+    array: &PrimitiveArray,
+    part: Part,
+    references: &[T],
+) -> Result<PackedSizes, FastLanesError>
+    requires { (part_of part array.now).ptype ≡ T.PTYPE }
+    ensures { Answers (λ sizes. sizes) result (Ok (packed_sizes (with_slots (part_of part array.now) (chunked_slots (part_of part array.now).ptype (map T.value references.now) (items_of_primitive (part_of part array.now)))))) }
+{
+    let _validity = array.validity();
+    difference_sizes(alloc, array, part, T::zero(), references)
+}
+
+/// The bytes of the differences from one reference, which is the least item, if one is valid.
+fn one_reference<T: PhysicalPType + WrappingSub>(
+    alloc: Global,
+    array: &PrimitiveArray,
+    part: Part,
+    order: ItemOrder,
+    least: Option<T>,
+) -> Result<Option<PackedSizes>, FastLanesError>
+    requires same { (part_of part array.now).ptype ≡ T.PTYPE }
+    requires least { option_map T.value least ≡ least_by (reading order (part_of part array.now).ptype) (items_of_primitive (part_of part array.now)) }
+    ensures { Answers (λ sizes. sizes) result (Ok (frame_sizes order (part_of part array.now)).one) }
+{
+    let _order = order;
+    match least {
+        Some(reference) => {
+            let sizes = sizes_less_one(alloc, array, part, reference)?;
+            Ok(Some(sizes))
+        }
+        None => Ok(None),
     }
 }
 
-/// The bytes of the differences from one reference, if an item is valid.
-fn one_reference(
+/// The bytes of the differences from these references, one for each chunk, and of these.
+fn by_chunk<T: PhysicalPType + WrappingSub>(
     alloc: Global,
     array: &PrimitiveArray,
-    order: ItemOrder,
-) -> Result<Option<PackedSizes>, FastLanesError>
-    ensures { Answers (λ sizes. sizes) result (Ok (frame_sizes order array.now).one) }
+    part: Part,
+    references: Vec<T>,
+) -> Result<ChunkSizes, FastLanesError>
+    requires { (part_of part array.now).ptype ≡ T.PTYPE }
+    ensures { Answers (λ sizes. sizes) result (Ok (chunk_sizes (less_references (part_of part array.now) (map T.value references.items)))) }
 {
-    match encode_by(alloc, array, order) {
-        Ok(GlobalFoR { child, .. }) => Ok(Some(packed_sizes(&child))),
-        Err(FastLanesError::NoMinimum) => Ok(None),
-        Err(error) => Err(error),
-    }
+    let sizes = sizes_less_references(alloc, array, part, &references)?;
+    let others = PrimitiveArray::non_nullable(references);
+    let others = packed_sizes(alloc, &others, Part::Items)?;
+    Ok(ChunkSizes::ByChunk(sizes, others))
 }
 
 /// The bytes of the differences from a reference for each chunk, and of these.
-fn chunk_references(
+fn of_references<T: PhysicalPType + WrappingSub>(
     alloc: Global,
     array: &PrimitiveArray,
+    part: Part,
     order: ItemOrder,
+    references: Vec<T>,
 ) -> Result<ChunkSizes, FastLanesError>
-    ensures { Answers (λ sizes. sizes) result (Ok (frame_sizes order array.now).chunks) }
+    requires same { (part_of part array.now).ptype ≡ T.PTYPE }
+    requires references { map T.value references.items ≡ chunk_references (reading order (part_of part array.now).ptype) (items_of_primitive (part_of part array.now)) }
+    ensures { Answers (λ sizes. sizes) result (Ok (frame_sizes order (part_of part array.now)).chunks) }
 {
-    Ok(match encode_chunked_by(alloc, array, order)? {
-        EncodedFoR::Global(GlobalFoR { child, .. }) => ChunkSizes::Whole(packed_sizes(&child)),
-        EncodedFoR::Chunked(child, others) => {
-            ChunkSizes::ByChunk(packed_sizes(&child), packed_sizes(&others))
+    let _order = order;
+    if is_all_null(array, part) {
+        return Ok(ChunkSizes::Nulls);
+    }
+    match common_reference(&references) {
+        Some(reference) => {
+            let sizes = sizes_less_one(alloc, array, part, reference)?;
+            Ok(ChunkSizes::Whole(sizes))
         }
-        EncodedFoR::Nulls(_, _) => ChunkSizes::Nulls,
-    })
+        None => by_chunk(alloc, array, part, references),
+    }
+}
+
+fn frame_sizes_typed<T: PhysicalPType + WrappingSub>(
+    alloc: Global,
+    array: &PrimitiveArray,
+    part: Part,
+    order: ItemOrder,
+) -> Result<FrameSizes, FastLanesError>
+    requires { (part_of part array.now).ptype ≡ T.PTYPE }
+    ensures { Answers (λ sizes. sizes) result (Ok (frame_sizes order (part_of part array.now))) }
+{
+    let (references, least) = leasts::<T>(alloc, array, part, order)?;
+    let one = one_reference(alloc, array, part, order, least)?;
+    let chunks = of_references(alloc, array, part, order, references)?;
+    Ok(FrameSizes { one, chunks })
 }
 
 fn frame_sizes(
     alloc: Global,
     array: &PrimitiveArray,
+    part: Part,
     order: ItemOrder,
 ) -> Result<FrameSizes, FastLanesError>
-    ensures { Answers (λ sizes. sizes) result (Ok (frame_sizes order array.now)) }
+    ensures { Answers (λ sizes. sizes) result (Ok (frame_sizes order (part_of part array.now))) }
 {
-    let one = one_reference(alloc, array, order)?;
-    let chunks = chunk_references(alloc, array, order)?;
-    Ok(FrameSizes { one, chunks })
+    match_each_integer_ptype!(
+        ptype_of(array, part),
+        frame_sizes_typed(alloc, array, part, order)
+    )
 }
 
-fn framed_sizes(alloc: Global, array: &PrimitiveArray) -> Result<FramedSizes, FastLanesError>
-    ensures { Answers (λ sizes. sizes) result (Ok (framed_sizes array.now)) }
+fn framed_sizes(
+    alloc: Global,
+    array: &PrimitiveArray,
+    part: Part,
+) -> Result<FramedSizes, FastLanesError>
+    ensures { Answers (λ sizes. sizes) result (Ok (framed_sizes (part_of part array.now))) }
 {
-    let packed = packed_sizes(array);
-    let natural = frame_sizes(alloc, array, ItemOrder::Natural)?;
-    let signed = frame_sizes(alloc, array, ItemOrder::Signed)?;
+    let packed = packed_sizes(alloc, array, part)?;
+    let natural = frame_sizes(alloc, array, part, ItemOrder::Natural)?;
+    let signed = frame_sizes(alloc, array, part, ItemOrder::Signed)?;
     Ok(FramedSizes {
         packed,
         natural,
@@ -155,10 +271,10 @@ fn framed_sizes(alloc: Global, array: &PrimitiveArray) -> Result<FramedSizes, Fa
 fn delta_sizes(alloc: Global, array: &PrimitiveArray) -> Result<DeltaSizes, FastLanesError>
     ensures { Answers (λ sizes. sizes) result (Ok (delta_sizes array.now)) }
 {
-    let framed = framed_sizes(alloc, array)?;
-    let (bases, deltas) = delta::delta_compress(alloc, array)?;
-    let bases = framed_sizes(alloc, &bases)?;
-    let deltas = framed_sizes(alloc, &deltas)?;
+    let framed = framed_sizes(alloc, array, Part::Items)?;
+    let bases = delta_bases(alloc, array)?;
+    let bases = framed_sizes(alloc, &bases, Part::Items)?;
+    let deltas = framed_sizes(alloc, array, Part::Deltas)?;
     let validity = validity_bytes(array.validity(), array.len());
     Ok(DeltaSizes {
         framed,
@@ -168,18 +284,19 @@ fn delta_sizes(alloc: Global, array: &PrimitiveArray) -> Result<DeltaSizes, Fast
     })
 }
 
-/// The statistics of an array. The bits of each part are counted in one pass, and no part is encoded further.
+/// The statistics of an array. Deltas, run indices and differences are counted chunk by chunk and none is kept; only bases,
+/// run values and run offsets are made.
 ///
 /// # Errors
-/// None but `OutOfMemory`.
+/// Only `OutOfMemory`.
 pub fn statistics_of(alloc: Global, array: &PrimitiveArray) -> Result<Statistics, FastLanesError>
     ensures { Answers (λ statistics. statistics) result (Ok (statistics_of array.now)) }
 {
     let items = delta_sizes(alloc, array)?;
-    let runs = rle::encode(alloc, array)?;
-    let values = delta_sizes(alloc, &runs.values)?;
-    let indices = framed_sizes(alloc, &runs.indices)?;
-    let offsets = framed_sizes(alloc, &runs.offsets)?;
+    let indices = framed_sizes(alloc, array, Part::Indices)?;
+    let (values, offsets) = run_values(alloc, array)?;
+    let values = delta_sizes(alloc, &values)?;
+    let offsets = framed_sizes(alloc, &offsets, Part::Items)?;
     Ok(Statistics {
         items,
         values,

@@ -62,7 +62,7 @@ present value xs = map (λ z. Some z) (map value xs)
 pub length-present : {X : Type 0} (value : X → ℤ) (xs : List X) → length (present value xs) ≡ length xs
 length-present value xs = length-map (map value xs) (λ z. Some z) ∙ length-map xs value
 
-present_at : {X : Type 0} (value : X → ℤ) (xs : List X) (i : ℕ) (x : X) → i < length xs → x ≡ get_or xs i x → get_or (present value xs) i None ≡ Some (value x)
+pub present_at : {X : Type 0} (value : X → ℤ) (xs : List X) (i : ℕ) (x : X) → i < length xs → x ≡ get_or xs i x → get_or (present value xs) i None ≡ Some (value x)
 present_at value xs i x h read =
     let some : get_or (map (λ z. Some z) (map value xs)) i None ≡ Some (get_or (map value xs) i (value x)) = get_or-map (λ z. Some z) (map value xs) i (value x) None (omega (arith, length-map xs value)) in
     let same : get_or (map value xs) i (value x) ≡ value x = get_or-map value xs i x (value x) h ∙ ap value (sym read) in

@@ -1,5 +1,5 @@
 -- Integers of a type, their signs and their bits.
-use Rattle.std.proofs.Common.{◌≡◌, ◌≢◌, ℕ, ℤ, pos, negsuc, zero, suc, ◌+◌, ◌-◌, ◌-ℤ◌, ◌^◌, ◌%◌, ◌<◌, ◌≤◌, ◌==◌, ◌&&◌, ◌||◌, Bool, true, false, not, cond, List, [], ◌∷◌, Option, Some, None, nat_lt, unsigned_abs, IsTrue, refl, ap, sym, subst, ◌∙◌, arith, inl, inr, lit≤}
+use Rattle.std.proofs.Common.{◌≡◌, ℕ, ℤ, pos, negsuc, suc, ◌+◌, ◌-◌, ◌-ℤ◌, ◌^◌, ◌%◌, ◌<◌, ◌≤◌, ◌==◌, ◌&&◌, ◌||◌, Bool, true, false, not, cond, List, [], ◌∷◌, Option, Some, None, nat_lt, unsigned_abs, refl, ap, sym, ◌∙◌, arith, inl, inr, lit≤}
 use Rattle.std.specs.Prelude.{int_lt}
 use Rattle.std.specs.Int.{w8, w16, w32, w64, cast_signed, int_rem_euclid}
 use Rattle.std.specs.List.{list_all, list_any}
@@ -14,7 +14,7 @@ use Rattle.fl_types.proofs.Patterns.{read_pattern}
 use Rattle.fl_column.specs.Columns.{option_all}
 use Rattle.fl_column.proofs.ListLaws.{and_first, and_second}
 use Rattle.fl_patches.specs.Exceptions.{bit_count, bits_of_item, count_with_bits, is_negative}
-use Rattle.fl_patches.proofs.BitCounts.{bit_count_holds, bit_count_most, bits_of_pattern, pattern_below, type_most}
+use Rattle.fl_patches.proofs.BitCounts.{bit_count_holds, bit_count_most, pattern_below, type_most}
 use Rattle.fl_patches.proofs.Histograms.{count_cons}
 use Rattle.fl_statistics.specs.Differences.{difference}
 

@@ -1,5 +1,5 @@
 -- Totals over the best widths of blocks, one block at a time.
-use Rattle.std.proofs.Common.{◌≡◌, ℕ, ℤ, ◌+◌, ◌*◌, ◌≤◌, ◌==◌, ◌&&◌, Bool, true, false, not, nat_lt, List, [], ◌∷◌, ◌++◌, length, get_or, min, sum, Option, refl, ap, sym, ◌∙◌, arith}
+use Rattle.std.proofs.Common.{◌≡◌, ℕ, ℤ, ◌+◌, ◌*◌, ◌≤◌, ◌<◌, ◌==◌, ◌&&◌, Bool, true, false, not, nat_lt, List, [], ◌∷◌, ◌++◌, length, get_or, min, sum, Option, refl, ap, sym, ◌∙◌, arith}
 use Rattle.std.specs.List.{list_all, list_any}
 use Rattle.std.proofs.lemmas.List.{take_all}
 use Rattle.std.proofs.lemmas.List.Folds.{list_all-append}
@@ -12,8 +12,10 @@ use Rattle.fl_column.specs.Columns.{option_all}
 use Rattle.fl_patches.specs.Costs.{best_width, best_widths, block_histogram, count_above, first_widths}
 use Rattle.fl_patches.specs.Exceptions.{exception_count, histogram_of, is_negative, width_of_block}
 use Rattle.fl_patches.proofs.Blocks.{take_to_block}
-use Rattle.fl_patches.proofs.LeastTotals.{chosen_after, exceptions_to, widths_more}
+use Rattle.fl_patches.proofs.LeastTotals.{chosen_after, exceptions_few, exceptions_more, exceptions_to, widths_more}
 use Rattle.fl_statistics.specs.BitStatistics.{bit_statistics}
+use Rattle.fl_statistics.specs.declared.widths.WidthTotals.{WidthTotals}
+use Rattle.fl_statistics.specs.WidthTotals.{AreWidthTotals}
 use Rattle.fl_statistics.proofs.Counts.{entry_at, first_part}
 use Rattle.fl_statistics.proofs.Signs.{negative_by_bits}
 
@@ -77,3 +79,35 @@ sum_none t items = refl
 pub native_none : (t : PType) (items : List (Option ℤ)) → true ≡ list_all (λ width. width == bits_of_type t) (first_widths t items 0)
 unfolding first_widths
 native_none t items = refl
+
+-- ---- the totals
+pub no_totals : (t : PType) (items : List (Option ℤ)) (totals : WidthTotals) → totals ≡ record { widths = 0; exceptions = 0; all_native = true } → AreWidthTotals t items 0 totals
+no_totals t items totals e = rw e (record { widths = sum_none t items; exceptions = refl; all_native = native_none t items })
+
+pub totals_more : (t : PType) (items : List (Option ℤ)) (block w out : ℕ) (old new : WidthTotals) → 1024 * block < length items → w ≡ best_width t (block_histogram t items block) → out ≡ count_above w (block_histogram t items block) → AreWidthTotals t items block old
+    → new.widths ≡ old.widths + w → new.exceptions ≡ old.exceptions + out → new.all_native ≡ (old.all_native && (w == bits_of_type t)) → AreWidthTotals t items (block + 1) new
+unfolding exceptions_to
+totals_more t items block w out old new begun best above were sums lost natives = record {
+  widths = sums ∙ sum_more t items block w old.widths best were.widths;
+  exceptions = lost ∙ exceptions_more t items block w old.exceptions out begun best above were.exceptions;
+  all_native = natives ∙ native_more t items block w old.all_native (w == bits_of_type t) best were.all_native refl;
+}
+
+-- what the histogram of all items and the totals of all blocks say
+pub statistics_from : (t : PType) (items : List (Option ℤ)) (totals : WidthTotals) (width exceptions : ℕ) (all : List ℕ) (negative : Bool) (bits : ℕ) → list_all (option_all (fits t)) items ≡ true → all ≡ histogram_of t items → AreWidthTotals t items (chunk_count (length items)) totals
+    → bits ≡ bits_of_type t → negative ≡ (not (is_unsigned t) && nat_lt 0 (get_or all bits 0)) → width ≡ best_width t all → exceptions ≡ count_above width all
+    → record { negative = negative; width = width; exceptions = exceptions; block_widths = totals.widths; block_exceptions = totals.exceptions; all_native = totals.all_native; widest = get_or all bits 0 } ≡ bit_statistics t items
+unfolding exceptions_to
+statistics_from t items totals width exceptions all negative bits fit counted are room wide best out =
+    let blocks = chunk_count (length items) in
+    let whole : between 0 (1024 * blocks) items ≡ items = first_part items (1024 * blocks) ∙ take_all (1024 * blocks) items (omega arith) in
+    statistics_are t items blocks width exceptions totals.widths totals.exceptions bits all totals.all_native negative fit wide refl room (counted ∙ ap (histogram_of t) (sym whole)) best out are.widths are.exceptions are.all_native
+
+-- they leave out no more items than there are
+pub exceptions_most : (t : PType) (items : List (Option ℤ)) (block : ℕ) (totals : WidthTotals) → AreWidthTotals t items block totals → totals.exceptions ≤ length items
+unfolding exceptions_to
+exceptions_most t items block totals are = let few = exceptions_few t items block in omega (arith, are.exceptions)
+
+-- the blocks have all items
+pub whole_part : (items : List (Option ℤ)) (blocks : ℕ) → blocks ≡ chunk_count (length items) → between 0 (1024 * blocks) items ≡ items
+whole_part items blocks all = first_part items (1024 * blocks) ∙ take_all (1024 * blocks) items (omega arith)

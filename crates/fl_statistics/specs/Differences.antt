@@ -1,8 +1,10 @@
 -- Items less references.
-use Rattle.std.specs.Prelude.{◌/◌, ◌-ℤ◌, ℕ, ℤ, List, length, Option, None, option_map, slice_index_or}
+use Rattle.std.specs.Prelude.{◌/◌, ◌-ℤ◌, ℤ, List, length, Option, None, option_map, slice_index_or}
 use Rattle.fl_types.specs.declared.dtype.PType.{PType}
 use Rattle.fl_types.specs.Bits.{tabulate}
 use Rattle.fl_types.specs.Integers.{wrap}
+use Rattle.fl_column.specs.Columns.{PrimitiveParts}
+use Rattle.fl_codec.specs.Parts.{compress_deltas, encode_runs, items_of_primitive}
 
 -- an integer less a reference, modulo 2 to the type's bits
 abbrev pub difference : PType → ℤ → ℤ → ℤ
@@ -12,3 +14,11 @@ difference ptype reference z = wrap ptype (z -ℤ reference)
 unfoldable pub less_references : PType → ℤ → List ℤ → List (Option ℤ) → List (Option ℤ)
 less_references ptype one references items =
     tabulate (λ i. option_map (difference ptype (slice_index_or references (i / 1024) one)) (slice_index_or items i None)) (length items)
+
+-- the deltas of an array, none of which is null
+abbrev pub deltas_of : PrimitiveParts → List (Option ℤ)
+deltas_of p = items_of_primitive (compress_deltas p).1
+
+-- the run indices of an array, null where it is
+abbrev pub indices_of : PrimitiveParts → List (Option ℤ)
+indices_of p = items_of_primitive (encode_runs p).indices

@@ -1,2 +1,3 @@
 pub mod BitStatistics
 pub mod Differences
+pub mod WidthTotals

@@ -1,8 +1,8 @@
-//! Whether an array's items, each less the reference of its block, are all equal.
+//! Whether an array's items, each minus the reference of its block, are all equal.
 
 ghost use Rattle.std.specs.Prelude.{◌≡◌, ◌<◌, ◌/◌, IsTrue, None, length, map, option_map, slice_index_or};
 ghost use Rattle.fl_types.specs.Validities.{covers, items_of};
-ghost use Rattle.fl_column.specs.Questions.{are_constant, same_item};
+ghost use Rattle.fl_column.specs.Queries.{are_constant, same_item};
 ghost use Rattle.fl_statistics.specs.Differences.{difference, less_references};
 
 use crate::widths::reference_of;
@@ -11,8 +11,8 @@ use fl_column::{PrimitiveArray, item_at};
 use fl_types::{NativePType, Validity, is_equal};
 use num_traits::WrappingSub;
 
-/// An item less a reference, modulo 2 to the type's bits. A null stays a null.
-fn difference<T: NativePType + WrappingSub>(item: Option<T>, reference: T) -> Option<T>
+/// An item minus a reference, modulo 2 to the type's bits. Nulls stay null.
+pub(crate) fn difference<T: NativePType + WrappingSub>(item: Option<T>, reference: T) -> Option<T>
     ensures { option_map T.value result ≡ option_map (difference T.PTYPE (T.value reference)) (option_map T.value item) }
 {
     match item {
@@ -21,7 +21,7 @@ fn difference<T: NativePType + WrappingSub>(item: Option<T>, reference: T) -> Op
     }
 }
 
-/// Item `i` less the reference of its block. A null stays a null.
+/// Item `i` minus the reference of its block. Nulls stay null.
 fn difference_at<T: NativePType + WrappingSub>(
     items: &[T],
     validity: &Validity,
@@ -38,7 +38,7 @@ fn difference_at<T: NativePType + WrappingSub>(
 }
 
 /// Whether two items are equal; a null equals a null.
-fn is_same_item<T: NativePType>(x: Option<T>, y: Option<T>) -> bool
+pub(crate) fn is_same_item<T: NativePType>(x: Option<T>, y: Option<T>) -> bool
     ensures { result ≡ same_item (option_map T.value x) (option_map T.value y) }
 {
     match (x, y) {
@@ -67,7 +67,7 @@ fn is_constant<T: NativePType + WrappingSub>(
     true
 }
 
-/// Whether an array's items less the references of their blocks are all equal; a null equals a null. A block for
+/// Whether an array's items minus the references of their blocks are all equal; a null equals a null. A block for
 /// which the list has no reference takes `one`. The differences are taken modulo 2 to the type's bits.
 ///
 /// The references have the array's type.

@@ -29,7 +29,7 @@ fn count_item<T: PhysicalPType>(entries: &mut [usize], item: T)
     entries[bits_of(item)] += 1;
 }
 
-/// Counts an item less a reference by its bits.
+/// Counts an item minus a reference by its bits.
 fn count_difference<T: PhysicalPType + WrappingSub>(entries: &mut [usize], item: T, reference: T)
     requires room { length entries.old ≡ bits_of_type T.PTYPE + 1 }
     requires few { (k : ℕ) → slice_index entries.old k < 2 ^ 63 }
@@ -61,7 +61,7 @@ pub(crate) fn clear<T: PhysicalPType>(entries: &mut [usize])
     }
 }
 
-/// Counts the quarters of items less a reference by their bits, each into entries of its own, which are 0 before.
+/// Counts the quarters of items minus a reference by their bits, each into entries of its own, which are 0 before.
 fn count_quarters<T: PhysicalPType + WrappingSub>(
     items: &[T],
     reference: T,
@@ -90,7 +90,7 @@ fn count_quarters<T: PhysicalPType + WrappingSub>(
     }
 }
 
-/// Counts items less a reference by their bits, four at a time: items that follow one another often have as many bits, so
+/// Counts items minus a reference by their bits, four at a time: items that follow one another often have as many bits, so
 /// each quarter has entries of its own, and no count waits for the one before it.
 fn count_side_by_side<T: PhysicalPType + WrappingSub>(
     items: &[T],
@@ -120,8 +120,12 @@ fn count_side_by_side<T: PhysicalPType + WrappingSub>(
     add_entries(entries, fourth);
 }
 
-/// Counts items less a reference by their bits, where none is null.
-fn count_present<T: PhysicalPType + WrappingSub>(items: &[T], reference: T, entries: &mut [usize])
+/// Counts items minus a reference by their bits, where none is null.
+pub(crate) fn count_present<T: PhysicalPType + WrappingSub>(
+    items: &[T],
+    reference: T,
+    entries: &mut [usize],
+)
     requires few { length items.now ≤ 1024 }
     requires room { length entries.old ≡ bits_of_type T.PTYPE + 1 }
     ensures { entries.new ≡ histogram_of T.PTYPE (map (λ z. Some z) (map (λ x. difference T.PTYPE (T.value reference) (T.value x)) items.now)) }
@@ -133,8 +137,12 @@ fn count_present<T: PhysicalPType + WrappingSub>(items: &[T], reference: T, entr
     }
 }
 
-/// Counts an item less a reference by its bits, of which a null has none.
-fn count_slot<T: PhysicalPType + WrappingSub>(entries: &mut [usize], item: Option<T>, reference: T)
+/// Counts an item minus a reference by its bits, of which a null has none.
+pub(crate) fn count_slot<T: PhysicalPType + WrappingSub>(
+    entries: &mut [usize],
+    item: Option<T>,
+    reference: T,
+)
     requires room { length entries.old ≡ bits_of_type T.PTYPE + 1 }
     requires few { (k : ℕ) → slice_index entries.old k < 2 ^ 63 }
     ensures { (before : List (Option ℤ)) → entries.old ≡ histogram_of T.PTYPE before → entries.new ≡ histogram_of T.PTYPE (before ++ option_map (difference T.PTYPE (T.value reference)) (option_map T.value item) ∷ []) }
@@ -145,7 +153,7 @@ fn count_slot<T: PhysicalPType + WrappingSub>(entries: &mut [usize], item: Optio
     }
 }
 
-/// Counts the items from `start` to below `end` less a reference by their bits, each of which may be null.
+/// Counts the items from `start` to below `end` minus a reference by their bits, each of which may be null.
 fn count_valid<T: PhysicalPType + WrappingSub>(
     items: &[T],
     validity: &Validity,
@@ -167,7 +175,7 @@ fn count_valid<T: PhysicalPType + WrappingSub>(
     }
 }
 
-/// Counts the items from `start` to below `end`, at most a block, less a reference by their bits: entry `b` is
+/// Counts the items from `start` to below `end`, at most a block, minus a reference by their bits: entry `b` is
 /// how many have `b` bits. A null has none.
 pub(crate) fn count_items<T: PhysicalPType + WrappingSub>(
     items: &[T],

@@ -3,7 +3,16 @@
 
 pub mod constants;
 mod counting;
+pub mod deltas;
+pub mod indices;
 pub mod widths;
 
 pub use crate::constants::is_constant_less;
+pub use crate::deltas::{
+    delta_count, delta_statistics, delta_statistics_less, is_delta_constant, is_delta_constant_less,
+};
+pub use crate::indices::leasts::{index_references, least_index};
+pub use crate::indices::{
+    index_count, index_statistics, index_statistics_less, is_index_constant, is_index_constant_less,
+};
 pub use crate::widths::{BitStatistics, bit_statistics, bit_statistics_less};

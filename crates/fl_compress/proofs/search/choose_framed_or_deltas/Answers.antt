@@ -9,7 +9,7 @@ returns-then-not-has_level-clause-choice c = no_delta_choice c.args.limits.now c
 
 pub returns-clause-choice : goal.returns-clause-choice
 returns-clause-choice c =
-    delta_choice c.args.limits.now c.args.depth c.args.array.now (chosen c.in_ok-framed.framed) (chosen c.in_ok-deltas.deltas) (chosen c.cheaper.result) (sym c.has_level.ensures ∙ c.if-not-has_level.false) c.in_ok-framed.ensures.choice c.in_ok-deltas.ensures c.cheaper.ensures.choice
+    delta_choice c.args.limits.now c.args.depth c.args.array.now (chosen c.in_ok-framed.framed) c.choose_deltas.result (sym c.has_level.ensures ∙ c.if-not-has_level.false) c.in_ok-framed.ensures.choice c.choose_deltas.ensures.choice
 
 pub returns-then-framed-eq0-clause-choice : goal.returns-then-framed-eq0-clause-choice
 returns-then-framed-eq0-clause-choice c = free_deltas c.args.limits.now c.args.depth c.args.array.now (shape c.in_ok-framed.framed.scheme) c.in_ok-framed.framed.bytes c.in_ok-framed.ensures.choice c.if-framed-eq0.true

@@ -1,9 +1,11 @@
-use Rattle.fl_compress.specs.Candidates.{packed_schemes}
-use Rattle.fl_compress.specs.Choices.{chosen, chosen_in}
-use Rattle.fl_compress.proofs.AnswerLaws.{frames_choice}
+use Rattle.fl_encode.specs.Shapes.{shape}
+use Rattle.fl_compress.specs.Choices.{part_of}
+use Rattle.fl_compress.proofs.PartLaws.{part_covers, part_fits}
+use Rattle.fl_compress.proofs.ReferenceLaws.{zero_frames}
 use Rattle.fl_compress.proofs.search.choose_frames.Goals as goal
 
-pub returns-clause-choice : goal.returns-clause-choice
-returns-clause-choice c =
-    frames_choice c.args.order c.args.array.now (packed_schemes c.args.limits.now c.args.depth) (chosen c.args.first) (chosen_in c.in_ok-one.one) (chosen c.in_ok-many.many) (chosen c.cheaper.result) (chosen c.cheaper-2.result)
-    c.in_ok-one.ensures c.in_ok-many.ensures c.cheaper.ensures.choice c.cheaper-2.ensures.choice
+pub returns-then-has_zero_leasts-clause-choice : goal.returns-then-has_zero_leasts-clause-choice
+returns-then-has_zero_leasts-clause-choice c =
+    let p = c.args.array.now in
+    zero_frames c.args.order (part_of c.args.part p) c.args.limits.now c.args.depth (shape c.args.first.scheme) c.args.first.bytes (part_covers c.args.part p c.validity-validity.ensures.covers) (part_fits c.args.part p c.stored_integers_are_in_range.ensures.slots)
+    (c.has_zero_leasts.ensures c.if-has_zero_leasts.true) c.requires

@@ -1,4 +1,4 @@
-use Rattle.std.proofs.Common.{◌≡◌, ◌+◌, ◌<◌, length, map, get_or, pos, false, ap, sym, subst, ◌∙◌, arith}
+use Rattle.std.proofs.Common.{map, sym, subst, ◌∙◌}
 use Rattle.fl_compress.proofs.SingleRuns.{AllDiffer, single_values}
 use Rattle.std.proofs.lemmas.List.{length-map}
 use Rattle.fl_compress.proofs.single_runs.are_single_typed.Goals as goal

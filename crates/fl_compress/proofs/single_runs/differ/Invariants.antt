@@ -1,4 +1,4 @@
-use Rattle.std.proofs.Common.{◌≡◌, ℕ, ◌+◌, ◌<◌, ◌≤◌, false, map, get_or, pos}
+use Rattle.std.proofs.Common.{◌≡◌, ℕ, ◌+◌, ◌<◌, false, map, get_or, pos}
 use Rattle.std.specs.Ordering.{int_eq}
 use Rattle.fl_compress.proofs.single_runs.differ.Given as goal
 

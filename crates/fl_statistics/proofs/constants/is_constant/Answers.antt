@@ -1,6 +1,6 @@
 use Rattle.std.proofs.Common.{◌≡◌, ◌<◌, map, length, sym, ◌∙◌, arith}
 use Rattle.fl_types.specs.Validities.{items_of}
-use Rattle.fl_column.proofs.QuestionLaws.{constant_from_first, not_constant}
+use Rattle.fl_column.proofs.QueryLaws.{constant_from_first, not_constant}
 use Rattle.fl_patches.proofs.Gathers.{covered_values}
 use Rattle.fl_statistics.specs.Differences.{less_references}
 use Rattle.fl_statistics.proofs.Differences.{length-less}

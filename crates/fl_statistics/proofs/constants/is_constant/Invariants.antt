@@ -1,6 +1,6 @@
 use Rattle.std.proofs.Common.{◌≡◌, ℕ, ◌<◌, map, get_or, None, true}
 use Rattle.fl_types.specs.Validities.{items_of}
-use Rattle.fl_column.specs.Questions.{same_item}
+use Rattle.fl_column.specs.Queries.{same_item}
 use Rattle.fl_statistics.specs.Differences.{less_references}
 use Rattle.fl_statistics.proofs.constants.is_constant.Given as goal
 

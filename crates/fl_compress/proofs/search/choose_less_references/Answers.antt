@@ -1,0 +1,15 @@
+use Rattle.std.proofs.Common.{map}
+use Rattle.fl_codec.specs.FoRColumns.{chunked_slots}
+use Rattle.fl_codec.specs.Parts.{items_of_primitive}
+use Rattle.fl_compress.specs.Choices.{part_of}
+use Rattle.fl_compress.proofs.DifferenceLaws.{chunks_held}
+use Rattle.fl_compress.proofs.PartLaws.{part_covers}
+use Rattle.fl_compress.proofs.search.choose_less_references.Goals as goal
+
+pub returns-clause-choice : goal.returns-clause-choice
+returns-clause-choice g c =
+    let p = c.args.array.now in
+    let q = part_of c.args.part p in
+    let value = g.T.Number.value in
+    let references = map value c.args.references.now in
+    c.choose_differences.ensures.choice (chunked_slots q.ptype references (items_of_primitive q)) (chunks_held q references (value c.zero.result) c.zero.ensures (part_covers c.args.part p c.validity-validity.ensures.covers))
