@@ -10,7 +10,7 @@ use Rattle.fl_types.specs.Types.{is_index_type, is_integer}
 use Rattle.fl_types.specs.Values.{ScalarParts}
 use Rattle.fl_column.specs.Columns.{Column, PrimitiveParts, column_of_primitive, integers_in, numbers_of}
 use Rattle.fl_column.specs.Operations.{take_column}
-use Rattle.fl_column.specs.Questions.{scalar_in}
+use Rattle.fl_column.specs.Queries.{scalar_in}
 use Rattle.fl_column.specs.Numbers.{numbers}
 use Rattle.fl_bitpacking.specs.Blocks.{are_blocks, boundary_blocks, global_blocks}
 use Rattle.fl_bitpacking.specs.Columns.{BitPackedParts, block_count, column_of_packed}

@@ -45,3 +45,7 @@ for_validity a v s =
       nullable = s.nullable ∙ ap nullability_in (sym (for_dtype a));
       valid = λ i h. (let l : i < length (column a.encoded).items = rw (← long) h in s.valid i l ∙ sym (there_by a.encoded a.references i l));
     }
+
+-- an item is null where the encoded one is
+pub for_there : (a : FoRArrayParts) (i : ℕ) → i < length (column a.encoded).items → is_some (get_or (column (tree_of_for a)).items i None) ≡ is_some (get_or (column a.encoded).items i None)
+for_there a i h = there_by a.encoded a.references i h

@@ -15,7 +15,7 @@ use Rattle.fl_types.specs.Values.{ScalarParts}
 use Rattle.fl_types.specs.Validities.{nullability_of}
 use Rattle.fl_column.specs.Columns.{Column, ConstantParts, PrimitiveParts, column_of_primitive, integers_in, ptype_of_column}
 use Rattle.fl_column.specs.Operations.{slice_of}
-use Rattle.fl_column.specs.Questions.{scalar_in}
+use Rattle.fl_column.specs.Queries.{scalar_in}
 use Rattle.fl_column.specs.Chunks.{chunk_count}
 use Rattle.fl_codec.specs.FoRColumns.{chunked_for, global_for, plus_reference}
 use Rattle.fl_bitpacking.proofs.SoundParts.{neither, positions, same_ptype_is}

@@ -21,3 +21,4 @@ pub mod DeltaEncoding
 pub mod EmptyChunks
 pub mod PackedFoR
 pub mod DecodedItems
+mod TypedItems

@@ -19,7 +19,7 @@ use Rattle.fl_types.specs.Validities.{covers, is_valid_at, nullability_of, valid
 use Rattle.fl_types.specs.Values.{ScalarParts, scalar_parts}
 use Rattle.fl_column.specs.Columns.{Column, PrimitiveParts, column_of_primitive, integers_in, numbers_of, ptype_of_column}
 use Rattle.fl_column.specs.Operations.{slice_of}
-use Rattle.fl_column.specs.Questions.{scalar_in}
+use Rattle.fl_column.specs.Queries.{scalar_in}
 use Rattle.fl_column.proofs.ItemLaws.{nullability_of-between}
 use Rattle.fl_codec.specs.Parts.{RunParts}
 use Rattle.fl_codec.specs.RunColumns.{chunk_start, run_column, run_item, runs_refusal}

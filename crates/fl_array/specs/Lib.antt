@@ -23,3 +23,4 @@ pub mod EncodedBitPacked
 pub mod BitPackedFields
 pub mod OwnedParts
 pub mod UnpackedBlocks
+pub mod PrimitiveCows

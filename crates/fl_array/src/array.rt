@@ -1,8 +1,10 @@
 //! Arrays of one of a closed set of kinds.
 
 mod counted;
-pub(crate) mod decode_into;
+mod decode_into;
+mod primitive_cow;
 mod ranges;
+mod typed_items;
 
 ghost use Rattle.std.specs.Prelude.{false, ◌≡◌, ◌≤◌, ◌<◌, length, Ok, IfErr, IfOk, IfSome, IsTrue};
 ghost use Rattle.std.specs.Option.{option_copied};
@@ -11,7 +13,7 @@ ghost use Rattle.fl_types.specs.Refusals.{Answers};
 ghost use Rattle.fl_types.specs.Values.{scalar_parts};
 ghost use Rattle.fl_column.specs.Columns.{column_of_bools, column_of_constant, column_of_primitive};
 ghost use Rattle.fl_column.specs.Operations.{slice_of};
-ghost use Rattle.fl_column.specs.Questions.{scalar_in};
+ghost use Rattle.fl_column.specs.Queries.{scalar_in};
 ghost use Rattle.fl_array.specs.Trees.{Tree, column};
 ghost use Rattle.fl_array.specs.Trees as tree;
 ghost use Rattle.fl_array.specs.BitPackedArrays.{bitpacked_in, tree_of_bitpacked};
@@ -33,10 +35,11 @@ use crate::rle::RLEArray;
 use crate::validities::{bool_validity, constant_validity, primitive_validity};
 use fastlanes::Work;
 use fl_column::{
-    BoolArray, ConstantArray, DType, FastLanesError, PrimitiveArray, Scalar, Validity,
+    BoolArray, ConstantArray, DType, FastLanesError, Nullability, PrimitiveArray, Scalar, Validity,
 };
 use std::alloc::Global;
 use std::marker::Model;
+use std::mem::replace;
 use std::ops::Range;
 
 /// An array of one of a closed set of kinds. Contracts see its tree of kinds and parts, and as `column`
@@ -327,6 +330,17 @@ impl ArrayRef {
         }
     }
 
+    /// The boolean array, if this is one; it is not copied.
+    pub fn into_bool(self) -> Option<BoolArray>
+        ensures { result ≡ bools_in self }
+    {
+        let ArrayRef { node } = self;
+        match node {
+            Node::Bool(array) => Some(array),
+            _ => None,
+        }
+    }
+
     /// Which items are null, and whether the column is nullable.
     pub fn validity(&self, alloc: Global) -> Result<Validity, FastLanesError>
         ensures validity { IfOk result (λ v. IsValidityOf v (column self.now)) }
@@ -410,18 +424,30 @@ impl ArrayRef {
             }
             Node::Delta(array) => {
                 array.prove_integers();
-                let bases = array.bases().to_primitive(alloc)?;
-                let deltas = array.deltas().to_primitive(alloc)?;
-                array.decompress(alloc, &bases, &deltas)
+                array.to_primitive(alloc)
             }
             Node::RLE(array) => {
                 array.prove_integers();
-                let values = array.values().to_primitive(alloc)?;
-                let indices = array.indices().to_primitive(alloc)?;
-                let offsets = array.offsets().to_primitive(alloc)?;
-                array.decompress(alloc, &values, &indices, &offsets)
+                array.to_primitive(alloc)
             }
         }
+    }
+
+    /// The same column in a primitive array; an array that is one is not copied.
+    ///
+    /// # Errors
+    /// `NotInteger` if the column is of booleans.
+    pub fn into_primitive(mut self, alloc: Global) -> Result<PrimitiveArray, FastLanesError>
+        ensures { Answers column_of_primitive result (integer_column (column self)) }
+    {
+        if let Node::Primitive(array) = &mut self.node {
+            let empty = PrimitiveArray::without_nulls(
+                Vec::<u8>::new(alloc),
+                Nullability::NonNullable,
+            );
+            return Ok(replace(array, empty));
+        }
+        self.to_primitive(alloc)
     }
 
     /// A copy.

@@ -5,13 +5,14 @@ pub mod bitpack_compress;
 pub mod bitpack_decompress;
 mod compute;
 mod data;
+mod typed_items;
 
 ghost use Rattle.std.specs.Prelude.{◌≡◌, ◌+◌, ◌*◌, ◌/◌, ◌^◌, ◌<◌, ◌≤◌, IfErr, IfOk, IsTrue, None, Ok, OnOk, length, IfSome};
 ghost use Rattle.fl_types.specs.declared.error.FastLanesError.TheVariants.{OutOfMemory};
 ghost use Rattle.fl_types.specs.Refusals.{Answers};
 ghost use Rattle.fl_types.specs.Values.{scalar_parts};
 ghost use Rattle.fl_column.specs.Columns.{column_of_primitive};
-ghost use Rattle.fl_column.specs.Questions.{scalar_in};
+ghost use Rattle.fl_column.specs.Queries.{scalar_in};
 ghost use Rattle.fl_bitpacking.specs.Encoders.{AnswersUnless};
 ghost use Rattle.fl_bitpacking.specs.Parts.{parts_of};
 ghost use Rattle.fl_bitpacking.specs.Refusals.{accepted, blocked_refusal, global_refusal};
@@ -264,7 +265,7 @@ impl BitPacked {
     }
 }
 
-/// Why these parts make no array of blocks of one width, if they make none.
+/// The error of these parts as an array of blocks of one width, if there is one.
 fn refusal_at_width(
     packed: &Bytes,
     ptype: PType,
@@ -313,7 +314,7 @@ fn accept_blocked(
     accept_boundaries(alloc, &parts, boundaries)
 }
 
-/// Why these parts make no array whatever the boundaries are, if they make none.
+/// The first error of these parts that does not depend on the boundaries, if there is one.
 fn refusal_before_boundaries(parts: &PackedColumn, boundaries: &ArrayRef) -> Option<FastLanesError>
     ensures { result ≡ refusal_before_boundaries (parts_of parts.now) (column boundaries.now) }
 {
@@ -504,6 +505,7 @@ impl BitPackedArray {
     }
 
     /// An item, where all blocks have this width.
+    #[inline(always)]
     pub(crate) fn item_global(&self, width: u8, i: usize, work: &mut Work) -> Scalar
         requires same { GlobalWidth width ≡ self.now.widths }
         requires range { i < length (column (tree_of_bitpacked self.now)).items }
@@ -530,6 +532,7 @@ impl BitPackedArray {
     }
 
     /// An item, by the first boundary and the two of its block.
+    #[inline(never)]
     pub(crate) fn item_blocked(
         &self,
         boundaries: &ArrayRef,
@@ -654,6 +657,7 @@ impl BitPackedArray {
 
     /// The item at an index, with the column's type. No block is unpacked, and at most two words are read.
     #[cycle(reading)]
+    #[inline(always)]
     pub(crate) fn scalar_at(
         &self,
         alloc: Global,

@@ -1,6 +1,7 @@
 //! Delta arrays: in each block of 1024 items a base for each lane, and the deltas along the lanes.
 
 mod compute;
+mod decode_into;
 mod decoding;
 mod delta_array_ext;
 mod delta_data;
@@ -11,7 +12,7 @@ ghost use Rattle.fl_types.specs.Refusals.{Answers};
 ghost use Rattle.fl_types.specs.Values.{scalar_parts};
 ghost use Rattle.fl_column.specs.Columns.{column_of_primitive};
 ghost use Rattle.fl_column.specs.Operations.{slice_of};
-ghost use Rattle.fl_column.specs.Questions.{scalar_in};
+ghost use Rattle.fl_column.specs.Queries.{scalar_in};
 ghost use Rattle.fl_codec.specs.DeltaRefusals.{delta_refusal, lanes_of_dtype};
 ghost use Rattle.fl_codec.specs.ChunkSlices.{end_chunk, first_chunk};
 ghost use Rattle.fl_array.specs.Trees.{column, height};
@@ -70,7 +71,7 @@ impl Model for DeltaArray {
 #[derive(Clone, Copy, Debug)]
 pub struct Delta;
 
-/// Why these parts make no delta array, if they make none.
+/// The error of these parts as a delta array, if there is one.
 fn refusal_of(
     bases: &ArrayRef,
     deltas: &ArrayRef,

@@ -8,13 +8,14 @@ mod for_compare;
 mod for_compress;
 mod for_data;
 mod for_decompress;
+mod typed_items;
 
 ghost use Rattle.std.specs.Prelude.{◌≡◌, ◌+◌, ◌*◌, ◌%◌, ◌/◌, ◌<◌, ◌≤◌, IfErr, IfOk, IsTrue, None, Ok, Some, length, option_map};
 ghost use Rattle.fl_types.specs.Refusals.{Answers};
 ghost use Rattle.fl_types.specs.Values.{scalar_parts};
 ghost use Rattle.fl_column.specs.Columns.{column_of_primitive};
 ghost use Rattle.fl_column.specs.Operations.{slice_of};
-ghost use Rattle.fl_column.specs.Questions.{scalar_in};
+ghost use Rattle.fl_column.specs.Queries.{scalar_in};
 ghost use Rattle.fl_codec.specs.ChunkSlices.{end_chunk, first_chunk};
 ghost use Rattle.fl_array.specs.Trees.{column, height};
 ghost use Rattle.fl_array.specs.FoRArrays.{ChunkReferences, FoRArrayParts, GlobalReference, for_chunked_refusal, new_for, new_for_chunked, offset_of_references, reference_count_refusal, reference_refusal, reference_type_refusal, references_of, refusal_of_for, size_of_references, tree_of_for, for_refusal, has_no_constant};

@@ -101,7 +101,7 @@ impl BitPackedArray {
 }
 
 impl FoRArray {
-    /// The array is one that its constructor makes, where there is one reference.
+    /// The array is one that its constructor makes, if there is one reference.
     pub(crate) fn prove_over_reference(&self, reference: &Scalar)
         requires same { GlobalReference (scalar_parts reference.now) ≡ self.now.references }
         requires encoded { IsTrue (is_well_formed self.now.encoded) }

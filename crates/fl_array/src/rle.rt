@@ -2,6 +2,7 @@
 //! its run value.
 
 mod compute;
+mod decode_into;
 mod decoding;
 mod rle_array_ext;
 mod rle_data;
@@ -13,7 +14,7 @@ ghost use Rattle.fl_types.specs.Refusals.{Answers};
 ghost use Rattle.fl_types.specs.Values.{scalar_parts};
 ghost use Rattle.fl_column.specs.Columns.{column_of_primitive, numbers_of};
 ghost use Rattle.fl_column.specs.Operations.{slice_of};
-ghost use Rattle.fl_column.specs.Questions.{scalar_in};
+ghost use Rattle.fl_column.specs.Queries.{scalar_in};
 ghost use Rattle.fl_codec.specs.RunColumns.{are_run_offsets, chunk_start};
 ghost use Rattle.fl_bitpacking.specs.Refusals.{accepted};
 ghost use Rattle.fl_codec.specs.RunRefusals.{kept_values_end, kept_values_start, rle_refusal, rle_types_refusal};
@@ -76,7 +77,7 @@ impl Model for RLEArray {
 #[derive(Clone, Copy, Debug)]
 pub struct RLE;
 
-/// Why these arrays make none by their types and lengths, if they make none.
+/// The error of these arrays by their types and lengths, if there is one.
 fn refusal_by_types(
     values: &ArrayRef,
     indices: &ArrayRef,
@@ -349,7 +350,7 @@ impl RLEArray {
         (offset + i, (offset + i) / FL_CHUNK_SIZE)
     }
 
-    /// The positions of a position's chunk: the first one, and the one behind the last.
+    /// The positions of a position's chunk: the first one, and the one after the last.
     pub(crate) fn chunk_positions(&self, position: usize) -> (usize, usize)
         requires { position / 1024 < length (column self.now.offsets).items }
         ensures start { result.0 ≡ 1024 * (position / 1024) }
@@ -462,7 +463,7 @@ impl RLEArray {
     }
 
     /// Where the run values of the chunks that hold the items from `start` to below `end` start and end, by the first
-    /// run offset of all, that of the first of these chunks, and that of the chunk behind them or the last one.
+    /// run offset of all, that of the first of these chunks, and that of the chunk after them or the last one.
     pub(crate) fn kept_values(
         &self,
         least: Scalar,

@@ -9,7 +9,7 @@ use Rattle.fl_types.specs.declared.error.FastLanesError.{FastLanesError}
 use Rattle.fl_types.specs.Validities.{covers}
 use Rattle.fl_types.specs.Values.{ScalarParts}
 use Rattle.fl_column.specs.Columns.{Column, ConstantParts, PrimitiveParts, column_of_constant, column_of_primitive, new_constant}
-use Rattle.fl_column.specs.Questions.{are_constant, same_item}
+use Rattle.fl_column.specs.Queries.{are_constant, same_item}
 use Rattle.fl_column.proofs.ConstantLaws.{constant_is_constant}
 use Rattle.fl_column.proofs.ItemLaws.{length-items_of}
 use Rattle.fl_column.proofs.ListLaws.{and_first, and_second}

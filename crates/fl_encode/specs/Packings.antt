@@ -3,7 +3,7 @@ use Rattle.std.specs.Prelude.{◌≡◌, ℕ, pos, List, length, Option, Some, N
 use Rattle.fl_types.specs.declared.error.FastLanesError.{FastLanesError}
 use Rattle.fl_types.specs.declared.error.FastLanesError.TheVariants.{CastOutOfRange}
 use Rattle.fl_column.specs.Columns.{ConstantParts, PrimitiveParts, column_of_primitive}
-use Rattle.fl_column.specs.Questions.{are_constant}
+use Rattle.fl_column.specs.Queries.{are_constant}
 use Rattle.fl_bitpacking.specs.Blocks.{boundary_array}
 use Rattle.fl_bitpacking.specs.Columns.{BitPackedParts}
 use Rattle.fl_bitpacking.specs.Encoders.{IsPackedAt, IsPackedInBlocks, best_width_of, best_widths_of, width_refusal, widths_refusal}

@@ -3,7 +3,7 @@
 ghost use Rattle.std.specs.Prelude.{◌≡◌, None, false};
 ghost use Rattle.fl_types.specs.Values.{scalar_parts};
 ghost use Rattle.fl_column.specs.Columns.{column_of_primitive};
-ghost use Rattle.fl_column.specs.Questions.{are_constant};
+ghost use Rattle.fl_column.specs.Queries.{are_constant};
 ghost use Rattle.fl_array.specs.FoRArrays.{ChunkReferences, for_refusal, reference_refusal};
 ghost use Rattle.fl_array.specs.Trees.{FoRChunked, FoRGlobal, Primitive, column};
 ghost use Rattle.fl_encode.specs.Encodings.{EncodesAs, EncodesChildAs, EncodesChunkedForAs, EncodesForAs, HasChunkReferences, HasOneReference, IsChildAs, Makes, child_refusal};

@@ -1,4 +1,4 @@
--- Questions to a column plus references that the column answers.
+-- Queries to a column plus references that the column answers.
 use Rattle.std.proofs.Common.{◌≡◌, ◌∙◌, ℤ, pos, ◌+ℤ◌, Bool, true, false, List, [], ◌∷◌, map, Option, Some, None, Ok, refl, ap, sym, subst}
 use Rattle.std.specs.Prelude.{◌&&◌, ◌-ℤ◌, IfSome, option_and_then, option_map, unwrap_or}
 use Rattle.std.specs.List.{list_all}
@@ -14,7 +14,7 @@ use Rattle.fl_types.specs.Types.{nullability_in}
 use Rattle.fl_types.specs.declared.dtype.PType.TheVariants.{U8}
 use Rattle.fl_types.specs.Values.{bool_number, fits_in}
 use Rattle.fl_column.specs.Columns.{Column, integers_in, option_all, ptype_of_column}
-use Rattle.fl_column.specs.Questions.{is_constant_column, same_item, tested}
+use Rattle.fl_column.specs.Queries.{is_constant_column, same_item, tested}
 use Rattle.fl_column.proofs.ListLaws.{and_first, and_second}
 use Rattle.fl_codec.specs.FoRColumns.{global_for, plus_reference}
 use Rattle.fl_codec.proofs.FoRRoundTrips.{fitting, wrap-wrap_left}

@@ -12,10 +12,10 @@ use Rattle.fl_types.specs.Values.{bool_number}
 use Rattle.fl_column.specs.Columns.{Column}
 use Rattle.fl_column.specs.Operations.{is_in_range, item_named, moved, slice_of, take_column, take_of}
 use Rattle.fl_types.specs.Values.{ScalarParts}
-use Rattle.fl_column.specs.Questions.{holds, tested}
+use Rattle.fl_column.specs.Queries.{holds, tested}
 use Rattle.fl_column.proofs.ColumnAlgebra.{take_of_slice}
 use Rattle.fl_column.proofs.ItemLaws.{length-between}
-use Rattle.fl_ops.specs.Questions.{compare_scalar, integer_in, mapped, nullable_with, negated}
+use Rattle.fl_ops.specs.Queries.{compare_scalar, integer_in, mapped, nullable_with, negated}
 
 negated_number : (b : Bool) → bool_number (int_eq (bool_number b) (pos 0)) ≡ bool_number (not b)
 negated_number true = refl

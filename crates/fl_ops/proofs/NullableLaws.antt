@@ -12,8 +12,8 @@ use Rattle.fl_types.specs.declared.query.BetweenOptions.{BetweenOptions}
 use Rattle.fl_types.specs.declared.query.CompareOperator.{CompareOperator}
 use Rattle.fl_types.specs.Refusals.{Refuses}
 use Rattle.fl_types.proofs.RefusalLaws.{Refuses_map}
-use Rattle.fl_column.specs.Questions.{between_column, compare_column}
-use Rattle.fl_ops.specs.Questions.{between_scalars, compare_scalar, integer_in, mapped, nullable_with}
+use Rattle.fl_column.specs.Queries.{between_column, compare_column}
+use Rattle.fl_ops.specs.Queries.{between_scalars, compare_scalar, integer_in, mapped, nullable_with}
 
 either_not : (n : Nullability) → either_nullable n NonNullable ≡ n
 either_not NonNullable = refl

@@ -11,7 +11,7 @@ use Rattle.fl_types.specs.declared.validity.Validity.TheVariants as valid
 use Rattle.fl_types.specs.Validities.{items_of, masked}
 use Rattle.fl_types.specs.Values.{ScalarParts}
 use Rattle.fl_column.specs.Columns.{Column, ConstantParts, PrimitiveParts, column_of_constant, column_of_primitive, option_all, ptype_of_column}
-use Rattle.fl_column.specs.Questions.{are_sorted, are_strictly_sorted, each_next, is_below, is_sorted_column}
+use Rattle.fl_column.specs.Queries.{are_sorted, are_strictly_sorted, each_next, is_below, is_sorted_column}
 use Rattle.fl_column.proofs.ConstantLaws.{constant_sorted, constant_strict}
 use Rattle.fl_column.proofs.ItemLaws.{map-replicate}
 use Rattle.fl_column.proofs.ListLaws.{and_first, and_second, and_true}

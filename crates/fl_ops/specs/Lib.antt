@@ -1,5 +1,5 @@
 pub mod Operations
-pub mod Questions
+pub mod Queries
 pub mod Normalized
 pub mod Results
 pub mod Selections

@@ -9,13 +9,13 @@ ghost use Rattle.fl_types.specs.Types.{has_ptype, is_integer};
 ghost use Rattle.fl_types.specs.Values.{scalar_parts, integer_of, ptype_of_value};
 ghost use Rattle.fl_column.specs.Columns.{column_of_bools};
 ghost use Rattle.fl_column.specs.Operations.{cast_column, filter_column, ranges_column, ranges_of, take_column, take_of};
-ghost use Rattle.fl_column.specs.Questions.{holds, is_between, is_constant_column, is_sorted_column};
+ghost use Rattle.fl_column.specs.Queries.{holds, is_between, is_constant_column, is_sorted_column};
 ghost use Rattle.fl_array.specs.Trees.{Tree, column};
 ghost use Rattle.fl_ops.specs.Normalized.{SameShown};
 ghost use Rattle.fl_ops.specs.Results.{IsFiltered, cast_to, picked};
 ghost use Rattle.fl_ops.specs.Takes.{has_block_widths};
 ghost use Rattle.fl_ops.specs.Unpacked.{IsTestOfArray};
-ghost use Rattle.fl_ops.specs.Questions.{between_scalars, compare_scalar, integer_in, is_comparable, nullable_with};
+ghost use Rattle.fl_ops.specs.Queries.{between_scalars, compare_scalar, integer_in, is_comparable, nullable_with};
 
 use crate::encoded_tests::{
     between_plain, compare_plain, encoded_between, encoded_comparison, test_packed,

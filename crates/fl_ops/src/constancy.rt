@@ -2,7 +2,7 @@
 
 ghost use Rattle.std.specs.Prelude.{◌≡◌};
 ghost use Rattle.fl_types.specs.Refusals.{Answers};
-ghost use Rattle.fl_column.specs.Questions.{is_constant_column};
+ghost use Rattle.fl_column.specs.Queries.{is_constant_column};
 ghost use Rattle.fl_array.specs.Trees.{column};
 
 use crate::plain_ops;

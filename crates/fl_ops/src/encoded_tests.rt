@@ -10,7 +10,7 @@ ghost use Rattle.fl_types.specs.Refusals.{Answers};
 ghost use Rattle.fl_types.specs.Types.{has_ptype, is_integer};
 ghost use Rattle.fl_types.specs.Values.{integer_of, ptype_of_value, scalar_parts};
 ghost use Rattle.fl_column.specs.Columns.{column_of_bools, ptype_of_column};
-ghost use Rattle.fl_column.specs.Questions.{holds, is_between, tested};
+ghost use Rattle.fl_column.specs.Queries.{holds, is_between, tested};
 ghost use Rattle.fl_bitpacking.specs.RangeTests.{IsTestOf, passes};
 ghost use Rattle.fl_array.specs.BitPackedArrays.{bitpacked_in};
 ghost use Rattle.fl_array.specs.FoRArrays.{GlobalReference, tree_of_for};

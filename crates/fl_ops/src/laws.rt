@@ -6,13 +6,13 @@ ghost use Rattle.fl_types.specs.Refusals.{Answers};
 ghost use Rattle.fl_types.specs.Values.{scalar_parts};
 ghost use Rattle.fl_column.specs.Columns.{Column, column_of_bools, ptype_of_column};
 ghost use Rattle.fl_column.specs.Operations.{cast_column, item_named, moved, slice_of, take_column};
-ghost use Rattle.fl_column.specs.Questions.{is_sorted_column};
+ghost use Rattle.fl_column.specs.Queries.{is_sorted_column};
 ghost use Rattle.fl_codec.specs.FoRColumns.{global_for};
 ghost use Rattle.fl_array.specs.Kinds.{kind};
 ghost use Rattle.fl_array.specs.Trees.{Tree, column};
 ghost use Rattle.fl_ops.specs.Normalized.{SameShown};
 ghost use Rattle.fl_ops.specs.Operations.{Step, and_then, step_column, step_of};
-ghost use Rattle.fl_ops.specs.Questions.{compare_scalar, is_comparable, negated};
+ghost use Rattle.fl_ops.specs.Queries.{compare_scalar, is_comparable, negated};
 ghost use Rattle.fl_ops.specs.Results.{IsResult, result_of};
 ghost use Rattle.fl_ops.specs.Sums.{sums_fit};
 

@@ -8,11 +8,11 @@ mod encoded_tests;
 pub mod laws;
 pub mod operations;
 mod plain_ops;
-pub mod questions;
+pub mod queries;
 mod selection;
 mod sorting;
 mod takes;
 
 pub use crate::array_ops::ArrayOps;
 pub use crate::operations::{Op, apply_all};
-pub use crate::questions::{Answer, Query, ask};
+pub use crate::queries::{Answer, Query, ask};

@@ -8,7 +8,7 @@ ghost use Rattle.fl_types.specs.Types.{has_ptype, is_integer};
 ghost use Rattle.fl_types.specs.Values.{integer_of, ptype_of_value};
 ghost use Rattle.fl_column.specs.Columns.{column_of_bools, column_of_constant, column_of_primitive, ptype_of_column};
 ghost use Rattle.fl_column.specs.Operations.{cast_column, filter_column, ranges_column, take_column};
-ghost use Rattle.fl_column.specs.Questions.{between_column, compare_column, is_constant_column, is_sorted_column, tested};
+ghost use Rattle.fl_column.specs.Queries.{between_column, compare_column, is_constant_column, is_sorted_column, tested};
 ghost use Rattle.fl_bitpacking.specs.RangeTests.{IsTestOf, passes};
 ghost use Rattle.fl_array.specs.BitPackedArrays.{tree_of_bitpacked};
 ghost use Rattle.fl_array.specs.Trees.{column};

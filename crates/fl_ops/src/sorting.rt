@@ -8,7 +8,7 @@ ghost use Rattle.fl_types.specs.Integers.{fits};
 ghost use Rattle.fl_types.specs.Refusals.{Answers};
 ghost use Rattle.fl_types.specs.Values.{integer_of, ptype_of_value, scalar_parts};
 ghost use Rattle.fl_column.specs.Columns.{column_of_primitive};
-ghost use Rattle.fl_column.specs.Questions.{is_sorted_column};
+ghost use Rattle.fl_column.specs.Queries.{is_sorted_column};
 ghost use Rattle.fl_array.specs.FoRArrays.{GlobalReference, tree_of_for};
 ghost use Rattle.fl_array.specs.Trees.{column};
 ghost use Rattle.fl_ops.specs.Sums.{sum_fits};

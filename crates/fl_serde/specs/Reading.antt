@@ -1,4 +1,5 @@
 -- The array that a node is read as, or the first refusal.
+use Rattle.std.specs.List.{remove}
 use Rattle.std.specs.Prelude.{◌-◌, ◌==◌, ◌&&◌, ℕ, ℤ, List, [], ◌∷◌, length, slice_get, Option, Some, None, option_map, unwrap_or, Result, Ok, Err, if◌then◌else◌}
 use Rattle.fl_types.specs.declared.dtype.DType.{DType}
 use Rattle.fl_types.specs.declared.dtype.DType.TheVariants as dtypes
@@ -16,6 +17,7 @@ use Rattle.fl_column.specs.Columns.{PrimitiveParts, new_bools, new_constant, new
 use Rattle.fl_patches.specs.PatchMaps.{PatchesParts, new_patches}
 use Rattle.fl_bitpacking.specs.Columns.{BitPackedParts}
 use Rattle.fl_metadata.specs.Schemas.{◌>>=◌}
+use Rattle.fl_metadata.specs.declared.bit_packed.BitPackedBlockedMetadata.{BitPackedBlockedMetadata}
 use Rattle.fl_metadata.specs.declared.patches.PatchesMetadata.{PatchesMetadata}
 use Rattle.fl_array.specs.Trees.{Tree}
 use Rattle.fl_array.specs.Trees as tree
@@ -63,6 +65,10 @@ abbrev pub validity_over : Head → NodeInfo → List Tree → Validity
 validity_over head m trees =
     if has_validity head m (length trees) then validity_at (length (front_children head m)) trees
     else full_validity (nullability_in head.dtype)
+
+-- the arrays of a node's children but for its validity
+abbrev pub beside_validity : Head → NodeInfo → List Tree → List Tree
+beside_validity head m trees = if has_validity head m (length trees) then remove trees (length (front_children head m)) else trees
 
 -- ---- what is made of them
 -- the array of chunk offsets, which is the first one, where patches have them
@@ -137,6 +143,10 @@ rle_over window (values ∷ indices ∷ offsets ∷ others) = new_rle values ind
 abbrev pub parts_over : Head → PType → Validity → Option PatchesParts → ℕ → BitPackedParts
 parts_over head ptype validity patches offset = record { packed = own_bytes head; ptype = ptype; validity = validity; patches = patches; offset = offset; len = head.len }
 
+-- the array of packed blocks between boundaries over the arrays of its patches
+abbrev pub patched_blocks : Head → PType → BitPackedBlockedMetadata → Validity → List Tree → Option Tree → Result Tree FastLanesError
+patched_blocks head ptype m validity trees boundaries = patches_found head.len m.patches trees >>= λ patches. blocked_over (parts_over head ptype validity patches m.offset) boundaries
+
 -- the array of a node over those of its children: patches first, then what the kind's constructor makes
 abbrev pub made : Head → NodeInfo → List Tree → Result Tree FastLanesError
 made head (infos.Primitive ptype) trees = new_primitive ptype (slots_of_bytes ptype (own_bytes head) head.len) (validity_over head (infos.Primitive ptype) trees) >>= λ p. Ok (tree.Primitive p)
@@ -144,8 +154,7 @@ made head (infos.Constant ptype value) trees = new_constant (scalar_over ptype (
 made head infos.Bool trees = new_bools (bits_of_bytes (own_bytes head) head.len) (validity_over head infos.Bool trees) >>= λ b. Ok (tree.Bool b)
 made head (infos.BitPacked ptype m) trees =
     patches_found head.len m.patches trees >>= λ patches. bitpacked_over (parts_over head ptype (validity_over head (infos.BitPacked ptype m) trees) patches m.offset) (GlobalWidth m.bit_width)
-made head (infos.BitPackedBlocked ptype m) trees =
-    patches_found head.len m.patches trees >>= λ patches. blocked_over (parts_over head ptype (validity_over head (infos.BitPackedBlocked ptype m) trees) patches m.offset) (slice_get trees (length trees - 1))
+made head (infos.BitPackedBlocked ptype m) trees = patched_blocks head ptype m (validity_over head (infos.BitPackedBlocked ptype m) trees) trees (slice_get trees (length trees - 1))
 made head (infos.FoR ptype value) trees = for_over (scalar_over ptype NonNullable value) trees
 made head (infos.FoRChunked ptype m) trees = for_chunked_over m.offset trees
 made head (infos.Delta ptype m) trees = delta_over (record { validity = validity_over head (infos.Delta ptype m) trees; offset = m.offset; len = head.len }) trees

@@ -93,7 +93,7 @@ pub fn front_count(node: &SerializedArray, info: &NodeInfo) -> usize
     }
 }
 
-/// How many children a node has behind its validity.
+/// How many children a node has after its validity.
 fn back_count(node: &SerializedArray, info: &NodeInfo) -> usize
     ensures len { result ≡ length (back_children (head_of node.now) info.now) }
     ensures few { result ≤ 1 }
@@ -250,7 +250,7 @@ fn push_validity(
     Ok(())
 }
 
-/// Adds what is asked of the children behind a node's validity.
+/// Adds what is asked of the children after a node's validity.
 fn push_back(
     expected: &mut Vec<ExpectedChild>,
     node: &SerializedArray,

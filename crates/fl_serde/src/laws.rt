@@ -49,7 +49,7 @@ pub fn node_has_one_column()
 /// the array that is read is of the column for which that node stands, and this is one.
 ///
 /// # Errors
-/// None but `OutOfMemory`.
+/// Only `OutOfMemory`.
 #[tactic(auto, using(crate::proofs::Meanings::answer_column))]
 pub fn round_trip(alloc: Global, array: &ArrayRef) -> Result<ArrayRef, FastLanesError>
     ensures read { Answers (λ a. a) result (Ok (read_back array.now)) }

@@ -12,6 +12,7 @@ ghost use Rattle.fl_serde.specs.EarlyRefusals.{are_integers, early_refusal, have
 ghost use Rattle.fl_serde.specs.Reading.{chunk_offsets_in, decoded_offsets, patches_found, patches_over, plain_patches};
 
 use crate::plain::decoded;
+use crate::reading::first_of;
 use fl_array::ArrayRef;
 use fl_column::{FastLanesError, PType, PrimitiveArray, Scalar, chunk_count};
 use fl_metadata::PatchesMetadata;
@@ -112,25 +113,25 @@ fn early_refusal(
 /// The array of chunk offsets, which is the first one, where patches have them.
 fn chunk_offsets_in(
     ptype: Option<PType>,
-    others: &[ArrayRef],
-) -> Result<Option<&ArrayRef>, FastLanesError>
-    ensures { Answers (λ a. option_copied a) result (chunk_offsets_in ptype others.now) }
+    mut others: Vec<ArrayRef>,
+) -> Result<Option<ArrayRef>, FastLanesError>
+    ensures { Answers (λ a. a) result (chunk_offsets_in ptype others.items) }
 {
     if ptype.is_none() {
         return Ok(None);
     }
-    match others {
-        [] => Err(FastLanesError::ChildCount),
-        [offsets, ..] => Ok(Some(offsets)),
+    match first_of(&mut others) {
+        None => Err(FastLanesError::ChildCount),
+        Some(offsets) => Ok(Some(offsets)),
     }
 }
 
 /// Chunk offsets, held plain.
 fn decoded_offsets(
     alloc: Global,
-    offsets: Option<&ArrayRef>,
+    offsets: Option<ArrayRef>,
 ) -> Result<Option<PrimitiveArray>, FastLanesError>
-    ensures { Answers (λ o. o) result (decoded_offsets (option_copied offsets.entry)) }
+    ensures { Answers (λ o. o) result (decoded_offsets offsets) }
 {
     match offsets {
         None => Ok(None),
@@ -146,11 +147,11 @@ fn decoded_patches(
     alloc: Global,
     len: usize,
     offset: usize,
-    indices: &ArrayRef,
-    values: &ArrayRef,
-    offsets: Option<&ArrayRef>,
+    indices: ArrayRef,
+    values: ArrayRef,
+    offsets: Option<ArrayRef>,
 ) -> Result<Patches, FastLanesError>
-    ensures { Answers (λ p. p) result (plain_patches len offset indices.now values.now (option_copied offsets.entry)) }
+    ensures { Answers (λ p. p) result (plain_patches len offset indices values offsets) }
 {
     let indices = decoded(alloc, indices)?;
     let values = decoded(alloc, values)?;
@@ -164,13 +165,13 @@ fn plain_patches(
     alloc: Global,
     len: usize,
     offset: usize,
-    indices: &ArrayRef,
-    values: &ArrayRef,
-    offsets: Option<&ArrayRef>,
+    indices: ArrayRef,
+    values: ArrayRef,
+    offsets: Option<ArrayRef>,
 ) -> Result<Patches, FastLanesError>
-    ensures { Answers (λ p. p) result (plain_patches len offset indices.now values.now (option_copied offsets.entry)) }
+    ensures { Answers (λ p. p) result (plain_patches len offset indices values offsets) }
 {
-    match early_refusal(alloc, len, indices, values, offsets)? {
+    match early_refusal(alloc, len, &indices, &values, offsets.as_ref())? {
         Some(refusal) => Err(refusal),
         None => decoded_patches(alloc, len, offset, indices, values, offsets),
     }
@@ -181,34 +182,33 @@ fn patches_over(
     alloc: Global,
     len: usize,
     metadata: &PatchesMetadata,
-    trees: &[ArrayRef],
+    mut trees: Vec<ArrayRef>,
 ) -> Result<Patches, FastLanesError>
-    ensures { Answers (λ p. p) result (patches_over len metadata.now trees.now) }
+    ensures { Answers (λ p. p) result (patches_over len metadata.now trees.items) }
 {
-    match trees {
-        [indices, values, others @ ..] => {
-            let offsets = chunk_offsets_in(metadata.chunk_offsets, others)?;
-            plain_patches(
-                alloc,
-                len,
-                metadata.offset as usize,
-                indices,
-                values,
-                offsets,
-            )
-        }
-        _ => Err(FastLanesError::ChildCount),
-    }
+    let (Some(indices), Some(values)) = (first_of(&mut trees), first_of(&mut trees)) else {
+        return Err(FastLanesError::ChildCount);
+    };
+    let offsets = chunk_offsets_in(metadata.chunk_offsets, trees)?;
+    plain_patches(
+        alloc,
+        len,
+        metadata.offset as usize,
+        indices,
+        values,
+        offsets,
+    )
 }
 
-/// The patches of a node over the arrays of its children, where its message names some.
+/// The patches of a node over the arrays of its children, where its message names some. Children that are held
+/// plain become the patches' own.
 pub fn patches_found(
     alloc: Global,
     len: usize,
     metadata: &Option<PatchesMetadata>,
-    trees: &[ArrayRef],
+    trees: Vec<ArrayRef>,
 ) -> Result<Option<Patches>, FastLanesError>
-    ensures { Answers (λ p. p) result (patches_found len metadata.now trees.now) }
+    ensures { Answers (λ p. p) result (patches_found len metadata.now trees.items) }
 {
     match metadata {
         None => Ok(None),

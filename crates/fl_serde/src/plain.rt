@@ -69,13 +69,13 @@ fn plain(alloc: Global, array: PrimitiveArray) -> Result<PrimitiveArray, FastLan
     }
 }
 
-/// An array as a plain one.
+/// An array as a plain one. One that is held plain is not copied.
 ///
 /// # Errors
 /// `NotInteger` if it is of booleans.
-pub fn decoded(alloc: Global, array: &ArrayRef) -> Result<PrimitiveArray, FastLanesError>
-    ensures { Answers (λ a. a) result (decoded array.now) }
+pub fn decoded(alloc: Global, array: ArrayRef) -> Result<PrimitiveArray, FastLanesError>
+    ensures { Answers (λ a. a) result (decoded array) }
 {
-    let array = array.to_primitive(alloc)?;
+    let array = array.into_primitive(alloc)?;
     plain(alloc, array)
 }

@@ -1,6 +1,6 @@
 //! The array that a node is read as.
 
-ghost use Rattle.std.specs.Prelude.{◌≡◌, ◌-◌, ◌++◌, [], IfNone, IfOk, IfSome, Ok, length, nat_lt, slice_get, if◌then◌else◌};
+ghost use Rattle.std.specs.Prelude.{◌≡◌, ◌<◌, ◌++◌, [], IfNone, IfOk, IfSome, Ok, Some, length, nat_lt, if◌then◌else◌};
 ghost use Rattle.std.specs.Option.{option_to_list};
 ghost use Rattle.fl_types.specs.Integers.{FitsIn};
 ghost use Rattle.fl_types.specs.Refusals.{Answers};
@@ -13,7 +13,8 @@ ghost use Rattle.fl_serde.specs.Firsts.{IsFirstTwo};
 ghost use Rattle.fl_serde.specs.NodeColumns.{StandsFor};
 ghost use Rattle.fl_serde.specs.TypeAndLength.{HasTypeAndLength};
 ghost use Rattle.fl_serde.specs.Checks.{IsChecked, own_bytes};
-ghost use Rattle.fl_serde.specs.Reading.{bitpacked_over, delta_over, for_chunked_over, for_over, made, reading, rle_over, scalar_over, validity_at, validity_of, validity_over};
+ghost use Rattle.fl_serde.specs.Children.{expected_children, patch_children};
+ghost use Rattle.fl_serde.specs.Reading.{beside_validity, bitpacked_over, delta_over, for_chunked_over, for_over, made, patched_blocks, reading, rle_over, scalar_over, validity_of, validity_over};
 ghost use Rattle.fl_serde.specs.declared.node_info.NodeInfo.TheVariants as infos;
 
 use crate::bit_bytes::bits_of_bytes;
@@ -37,39 +38,30 @@ use fl_patches::Patches;
 use fl_serialized::SerializedArray;
 use std::alloc::Global;
 
-/// The validity that a boolean array says.
-fn validity_of(alloc: Global, array: &ArrayRef) -> Result<Validity, FastLanesError>
-    ensures { Answers (λ v. v) result (Ok (validity_of array.now)) }
+/// The validity that a boolean array says, which becomes the validity's own.
+fn validity_of(alloc: Global, array: ArrayRef) -> Validity
+    ensures { result ≡ validity_of array }
 {
-    match array.as_bool() {
-        Some(bools) => Ok(Validity::Array(bools.bits().try_clone(alloc)?)),
-        None => Ok(Validity::Array(BitList::new(alloc))),
+    match array.into_bool() {
+        Some(bools) => Validity::Array(bools.into_bits()),
+        None => Validity::Array(BitList::new(alloc)),
     }
 }
 
-/// The validity that the array at a place says.
-fn validity_at(alloc: Global, i: usize, trees: &[ArrayRef]) -> Result<Validity, FastLanesError>
-    ensures { Answers (λ v. v) result (Ok (validity_at i trees.now)) }
-{
-    match trees.get(i) {
-        Some(array) => validity_of(alloc, array),
-        None => Ok(Validity::Array(BitList::new(alloc))),
-    }
-}
-
-/// The validity of a node over the arrays of its children.
-fn validity_over(
+/// Takes the validity of a node out of the arrays of its children.
+fn take_validity(
     alloc: Global,
     node: &SerializedArray,
     info: &NodeInfo,
-    trees: &[ArrayRef],
-) -> Result<Validity, FastLanesError>
-    ensures { Answers (λ v. v) result (Ok (validity_over (head_of node.now) info.now trees.now)) }
+    trees: &mut Vec<ArrayRef>,
+) -> Validity
+    ensures validity { result ≡ validity_over (head_of node.now) info.now trees.old.items }
+    ensures others { trees.new.items ≡ beside_validity (head_of node.now) info.now trees.old.items }
 {
     if has_validity(node, info, trees.len()) {
-        validity_at(alloc, front_count(node, info), trees)
+        validity_of(alloc, trees.remove(front_count(node, info)))
     } else {
-        Ok(Validity::from(node.dtype().nullability()))
+        Validity::from(node.dtype().nullability())
     }
 }
 
@@ -99,12 +91,12 @@ fn make_primitive(
     alloc: Global,
     node: &SerializedArray,
     ptype: PType,
-    trees: &[ArrayRef],
+    mut trees: Vec<ArrayRef>,
 ) -> Result<ArrayRef, FastLanesError>
     requires { length (own_bytes (head_of node.now)) ≡ slots_size ptype (head_of node.now).len }
-    ensures { Answers (λ a. a) result (made (head_of node.now) (infos.Primitive ptype) trees.now) }
+    ensures { Answers (λ a. a) result (made (head_of node.now) (infos.Primitive ptype) trees.items) }
 {
-    let validity = validity_over(alloc, node, &NodeInfo::Primitive(ptype), trees)?;
+    let validity = take_validity(alloc, node, &NodeInfo::Primitive(ptype), &mut trees);
     let array = array_of_bytes(alloc, ptype, own_bytes(node), node.len(), validity)?;
     Ok(array.into_array())
 }
@@ -126,12 +118,12 @@ fn make_constant(
 fn make_bools(
     alloc: Global,
     node: &SerializedArray,
-    trees: &[ArrayRef],
+    mut trees: Vec<ArrayRef>,
 ) -> Result<ArrayRef, FastLanesError>
     requires { length (own_bytes (head_of node.now)) ≡ bits_size (head_of node.now).len }
-    ensures { Answers (λ a. a) result (made (head_of node.now) infos.Bool trees.now) }
+    ensures { Answers (λ a. a) result (made (head_of node.now) infos.Bool trees.items) }
 {
-    let validity = validity_over(alloc, node, &NodeInfo::Bool, trees)?;
+    let validity = take_validity(alloc, node, &NodeInfo::Bool, &mut trees);
     let bits = bits_of_bytes(alloc, own_bytes(node), node.len())?;
     Ok(BoolArray::new(bits, validity)?.into_array())
 }
@@ -177,13 +169,13 @@ fn make_global(
     node: &SerializedArray,
     ptype: PType,
     metadata: &BitPackedMetadata,
-    trees: &[ArrayRef],
+    mut trees: Vec<ArrayRef>,
 ) -> Result<ArrayRef, FastLanesError>
-    ensures { Answers (λ a. a) result (made (head_of node.now) (infos.BitPacked ptype metadata.now) trees.now) }
+    ensures { Answers (λ a. a) result (made (head_of node.now) (infos.BitPacked ptype metadata.now) trees.items) }
 {
     let info = NodeInfo::BitPacked(ptype, *metadata);
+    let validity = take_validity(alloc, node, &info, &mut trees);
     let patches = patches_found(alloc, node.len(), &metadata.patches, trees)?;
-    let validity = validity_over(alloc, node, &info, trees)?;
     let packed = shared_bytes(node)?;
     let (width, offset) = (metadata.bit_width, metadata.offset);
     global_over(packed, ptype, validity, patches, width, offset, node.len())
@@ -209,35 +201,45 @@ fn blocked_over(
     Ok(array.into_array())
 }
 
-/// The last of arrays.
-fn last_of(mut trees: Vec<ArrayRef>) -> Option<ArrayRef>
-    ensures { result ≡ slice_get trees.items (length trees.items - 1) }
+/// The array of a node of packed blocks between boundaries over those of its patches.
+fn patched_blocks(
+    alloc: Global,
+    node: &SerializedArray,
+    ptype: PType,
+    metadata: &BitPackedBlockedMetadata,
+    validity: Validity,
+    trees: Vec<ArrayRef>,
+    boundaries: ArrayRef,
+) -> Result<ArrayRef, FastLanesError>
+    ensures { Answers (λ a. a) result (patched_blocks (head_of node.now) ptype metadata.now validity trees.items (Some boundaries)) }
 {
-    trees.pop()
+    let patches = patches_found(alloc, node.len(), &metadata.patches, trees)?;
+    let packed = shared_bytes(node)?;
+    let (offset, len) = (metadata.offset, node.len());
+    blocked_over(
+        alloc, packed, ptype, validity, patches, boundaries, offset, len,
+    )
 }
 
-/// The array of a node of packed blocks between boundaries over those of its children.
+/// The array of a node of packed blocks between boundaries over those of its children. The boundaries are the last
+/// one, and more children than the patches'.
 fn make_blocked(
     alloc: Global,
     node: &SerializedArray,
     ptype: PType,
     metadata: &BitPackedBlockedMetadata,
-    trees: Vec<ArrayRef>,
+    mut trees: Vec<ArrayRef>,
 ) -> Result<ArrayRef, FastLanesError>
+    requires { length (patch_children (head_of node.now).dtype metadata.now.patches) < length trees.items }
     ensures { Answers (λ a. a) result (made (head_of node.now) (infos.BitPackedBlocked ptype metadata.now) trees.items) }
 {
     let info = NodeInfo::BitPackedBlocked(ptype, *metadata);
-    let patches = patches_found(alloc, node.len(), &metadata.patches, &trees)?;
-    let validity = validity_over(alloc, node, &info, &trees)?;
-    let packed = shared_bytes(node)?;
-    match last_of(trees) {
+    let validity = take_validity(alloc, node, &info, &mut trees);
+    match trees.pop() {
         None => Err(FastLanesError::ChildCount),
-        Some(boundaries) => {
-            let (offset, len) = (metadata.offset, node.len());
-            blocked_over(
-                alloc, packed, ptype, validity, patches, boundaries, offset, len,
-            )
-        }
+        Some(boundaries) => patched_blocks(
+            alloc, node, ptype, metadata, validity, trees, boundaries,
+        ),
     }
 }
 
@@ -304,17 +306,17 @@ fn make_delta(
     node: &SerializedArray,
     ptype: PType,
     metadata: &DeltaMetadata,
-    trees: Vec<ArrayRef>,
+    mut trees: Vec<ArrayRef>,
 ) -> Result<ArrayRef, FastLanesError>
     ensures { Answers (λ a. a) result (made (head_of node.now) (infos.Delta ptype metadata.now) trees.items) }
 {
     let info = NodeInfo::Delta(ptype, *metadata);
-    let validity = validity_over(alloc, node, &info, &trees)?;
+    let validity = take_validity(alloc, node, &info, &mut trees);
     delta_over(alloc, validity, metadata.offset as usize, node.len(), trees)
 }
 
 /// Takes the first of arrays.
-fn first_of(trees: &mut Vec<ArrayRef>) -> Option<ArrayRef>
+pub(crate) fn first_of(trees: &mut Vec<ArrayRef>) -> Option<ArrayRef>
     ensures items { trees.old.items ≡ option_to_list result ++ trees.new.items }
     ensures none { IfNone result (trees.old.items ≡ []) }
 {
@@ -351,14 +353,15 @@ fn make(
     count: usize,
     trees: Vec<ArrayRef>,
 ) -> Result<ArrayRef, FastLanesError>
-    requires { IsChecked (head_of node.now) info.now count }
+    requires checked { IsChecked (head_of node.now) info.now count }
+    requires trees { length trees.items ≡ length (expected_children (head_of node.now) info.now count) }
     ensures { Answers (λ a. a) result (made (head_of node.now) info.now trees.items) }
 {
     match info {
-        NodeInfo::Primitive(ptype) => make_primitive(alloc, node, *ptype, &trees),
+        NodeInfo::Primitive(ptype) => make_primitive(alloc, node, *ptype, trees),
         NodeInfo::Constant(ptype, value) => make_constant(node, *ptype, *value),
-        NodeInfo::Bool => make_bools(alloc, node, &trees),
-        NodeInfo::BitPacked(ptype, metadata) => make_global(alloc, node, *ptype, metadata, &trees),
+        NodeInfo::Bool => make_bools(alloc, node, trees),
+        NodeInfo::BitPacked(ptype, metadata) => make_global(alloc, node, *ptype, metadata, trees),
         NodeInfo::BitPackedBlocked(ptype, metadata) => {
             make_blocked(alloc, node, *ptype, metadata, trees)
         }

@@ -11,12 +11,12 @@ ghost use Rattle.fl_array.specs.Trees.{column};
 use crate::array::{ArrayRef, Node};
 use fastlanes::Work;
 use fl_bitpacking::unpack_iter::BitPacked;
-use fl_column::{ConstantArray, FastLanesError, NativePType, PrimitiveArray};
+use fl_column::{ConstantArray, FastLanesError, NativePType, PhysicalPType, PrimitiveArray};
 use num_traits::WrappingAdd;
 use std::alloc::Global;
 
 /// Copies the integers of a primitive array.
-pub(crate) fn copy_into<T: NativePType>(plain: &PrimitiveArray, values: &mut [T])
+fn copy_into<T: NativePType>(plain: &PrimitiveArray, values: &mut [T])
     requires typed { IsTrue (has_ptype T.PTYPE (column_of_primitive plain.now).dtype) }
     requires long { length values.old ≡ length (column_of_primitive plain.now).items }
     ensures { AreItemsOf (map T.value values.new) (column_of_primitive plain.now) }
@@ -56,33 +56,18 @@ fn fill_with<T: NativePType>(constant: &ConstantArray, values: &mut [T])
 }
 
 impl ArrayRef {
-    /// Writes the items, decoded into a primitive array first.
-    fn decode_and_copy<T: NativePType>(
-        &self,
-        alloc: Global,
-        values: &mut [T],
-    ) -> Result<(), FastLanesError>
-        requires typed { IsTrue (has_ptype T.PTYPE (column self.now).dtype) }
-        requires long { length values.old ≡ length (column self.now).items }
-        ensures answer { Answers (λ u. u) result (Ok tt) }
-        ensures items { OnOk result (AreItemsOf (map T.value values.new) (column self.now)) }
-        ensures unwritten { OnErr result (values.new ≡ values.old) }
-    {
-        let plain = self.to_primitive(alloc)?;
-        copy_into(&plain, values);
-        Ok(())
-    }
-
     /// Writes the items into a slice of as many integers of the column's type. What a null leaves at its index is
     /// not specified; `validity` says which items are null.
     ///
-    /// Primitive, constant and bit-packed arrays, and FoR arrays over bit-packed ones whose blocks are the chunks
-    /// of the references, are decoded straight into the slice, block by block: the memory that is allocated is
-    /// that of the boundaries and of the references. Any other array is decoded first and then copied.
+    /// The items are decoded straight into the slice, those of packed blocks and of delta blocks block by block. The
+    /// memory that is allocated is that of boundaries and references, and of the parts of delta and run-length encoded
+    /// arrays that are not primitive. Of a FoR array over any array but a bit-packed one, or over one whose blocks are
+    /// not the chunks of its references, the encoded items are decoded into the slice and the references are added there.
     ///
     /// # Errors
-    /// None but `OutOfMemory`, after which the slice is unchanged.
-    pub fn decode_into<T: BitPacked + WrappingAdd>(
+    /// Only `OutOfMemory`, after which the slice is unchanged.
+    #[cycle(filling)]
+    pub fn decode_into<T: BitPacked + PhysicalPType + WrappingAdd>(
         &self,
         alloc: Global,
         values: &mut [T],
@@ -104,8 +89,13 @@ impl ArrayRef {
                 Ok(())
             }
             Node::BitPacked(array) => array.decode_into(alloc, None, values, &mut work),
-            Node::FoR(array) => array.decode_into(alloc, values, &mut work),
-            _ => self.decode_and_copy(alloc, values),
+            Node::FoR(array) => {
+                array.prove_smaller();
+                array.decode_into(alloc, values, &mut work)
+            }
+            Node::Delta(array) => array.decode_into(alloc, values),
+            Node::RLE(array) => array.decode_into(alloc, values),
+            Node::Bool(_) => unreachable!(),
         }
     }
 }

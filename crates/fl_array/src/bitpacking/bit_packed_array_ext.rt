@@ -197,7 +197,7 @@ impl PackedSource for BitPackedArray {
     }
 }
 
-/// The positions of patches, where there are some.
+/// The positions of patches, if there are any.
 fn indices_of<'a>(patches: Option<&'a Patches>) -> Option<&'a PrimitiveArray>
     ensures { option_copied result ≡ option_map (λ p. p.indices) (option_copied patches.entry) }
 {
@@ -207,7 +207,7 @@ fn indices_of<'a>(patches: Option<&'a Patches>) -> Option<&'a PrimitiveArray>
     }
 }
 
-/// The values of patches, where there are some.
+/// The values of patches, if there are any.
 fn values_of<'a>(patches: Option<&'a Patches>) -> Option<&'a PrimitiveArray>
     ensures { option_copied result ≡ option_map (λ p. p.values) (option_copied patches.entry) }
 {
@@ -217,7 +217,7 @@ fn values_of<'a>(patches: Option<&'a Patches>) -> Option<&'a PrimitiveArray>
     }
 }
 
-/// The chunk offsets of patches, where there are some.
+/// The chunk offsets of patches, if there are any.
 fn chunk_offsets_of<'a>(patches: Option<&'a Patches>) -> Option<&'a PrimitiveArray>
     ensures { option_copied result ≡ option_and_then (λ p. p.chunk_offsets) (option_copied patches.entry) }
 {
@@ -237,7 +237,7 @@ pub(crate) fn bits_of(validity: &Validity) -> Option<&BitList>
     }
 }
 
-/// The boundaries of the blocks, where there are some.
+/// The boundaries of the blocks, if there are any.
 fn boundaries_of<'a>(widths: BitWidthsView<'a>) -> Option<&'a ArrayRef>
     ensures { option_copied result ≡ boundaries_in (widths_of_view widths.entry) }
 {

@@ -221,7 +221,7 @@ impl PackedSource for BitPackedData {
     }
 }
 
-/// The offset of patches, where there are some.
+/// The offset of patches, if there are any.
 fn offset_of(patches: Option<&Patches>) -> Option<usize>
     ensures { result ≡ option_map (λ p. p.offset) (option_copied patches.entry) }
 {

@@ -17,8 +17,23 @@ use std::alloc::Global;
 pub fn delta_decompress(alloc: Global, array: &DeltaArray) -> Result<PrimitiveArray, FastLanesError>
     ensures { Answers column_of_primitive result (Ok (column (tree_of_delta array.now))) }
 {
-    array.prove_integers();
-    let bases = array.bases().to_primitive(alloc)?;
-    let deltas = array.deltas().to_primitive(alloc)?;
-    array.decompress(alloc, &bases, &deltas)
+    array.to_primitive(alloc)
+}
+
+impl DeltaArray {
+    /// The column in a primitive array. Primitive deltas are read where they are.
+    #[cycle(decoding)]
+    pub(crate) fn to_primitive(&self, alloc: Global) -> Result<PrimitiveArray, FastLanesError>
+        ensures { Answers column_of_primitive result (Ok (column (tree_of_delta self.now))) }
+    {
+        self.prove_integers();
+        let bases = self.bases().to_primitive(alloc)?;
+        match self.deltas().as_primitive() {
+            Some(deltas) => self.decompress(alloc, &bases, deltas),
+            None => {
+                let deltas = self.deltas().to_primitive(alloc)?;
+                self.decompress(alloc, &bases, &deltas)
+            }
+        }
+    }
 }

@@ -3,7 +3,7 @@
 ghost use Rattle.std.specs.Prelude.{◌≡◌, IfOk, Ok};
 ghost use Rattle.fl_types.specs.Refusals.{Answers};
 ghost use Rattle.fl_column.specs.Columns.{column_of_bools, integers_in, ptype_of_column};
-ghost use Rattle.fl_column.specs.Questions.{tested};
+ghost use Rattle.fl_column.specs.Queries.{tested};
 ghost use Rattle.fl_bitpacking.specs.RangeTests.{IsTestOf, passes};
 ghost use Rattle.fl_array.specs.BitPackedArrays.{tree_of_bitpacked};
 ghost use Rattle.fl_array.specs.FoRArrays.{ChunkReferences, offset_of_references, tree_of_for};
@@ -20,7 +20,7 @@ use std::alloc::Global;
 
 impl FoRArray {
     /// The answers of a test for the items, if the blocks of a bit-packed child are the chunks of these references, and
-    /// the work of unpacking them; a null stays a null. Each block is tested with its reference: it is unpacked once if its own width
+    /// the work of unpacking them; nulls stay null. Each block is tested with its reference: it is unpacked once if its own width
     /// does not decide the test of its sums. A reference of the test is an integer of the array's type.
     ///
     /// # Errors

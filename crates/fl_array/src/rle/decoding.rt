@@ -17,9 +17,24 @@ use std::alloc::Global;
 pub fn rle_decompress(alloc: Global, array: &RLEArray) -> Result<PrimitiveArray, FastLanesError>
     ensures { Answers column_of_primitive result (Ok (column (tree_of_rle array.now))) }
 {
-    array.prove_integers();
-    let values = array.values().to_primitive(alloc)?;
-    let indices = array.indices().to_primitive(alloc)?;
-    let offsets = array.offsets().to_primitive(alloc)?;
-    array.decompress(alloc, &values, &indices, &offsets)
+    array.to_primitive(alloc)
+}
+
+impl RLEArray {
+    /// The column in a primitive array. Primitive run indices are read where they are.
+    #[cycle(decoding)]
+    pub(crate) fn to_primitive(&self, alloc: Global) -> Result<PrimitiveArray, FastLanesError>
+        ensures { Answers column_of_primitive result (Ok (column (tree_of_rle self.now))) }
+    {
+        self.prove_integers();
+        let values = self.values().to_primitive(alloc)?;
+        let offsets = self.offsets().to_primitive(alloc)?;
+        match self.indices().as_primitive() {
+            Some(indices) => self.decompress(alloc, &values, indices, &offsets),
+            None => {
+                let indices = self.indices().to_primitive(alloc)?;
+                self.decompress(alloc, &values, &indices, &offsets)
+            }
+        }
+    }
 }

@@ -24,7 +24,7 @@ use std::alloc::Global;
 impl BitPackedArray {
     /// The items have this type if the column does.
     #[tactic(auto, using(crate::proofs::DecodedItems::bitpacked_typed))]
-    fn prove_typed<T: NativePType>(&self)
+    pub(crate) fn prove_typed<T: NativePType>(&self)
         requires { IsTrue (has_ptype T.PTYPE (column (tree_of_bitpacked self.now)).dtype) }
         ensures { self.now.parts.ptype ≡ T.PTYPE }
     {

@@ -5,7 +5,7 @@ ghost use Rattle.std.specs.Option.{option_copied};
 ghost use Rattle.fl_types.specs.Refusals.{Answers};
 ghost use Rattle.fl_types.specs.Values.{integer_of};
 ghost use Rattle.fl_column.specs.Columns.{column_of_bools, column_of_primitive};
-ghost use Rattle.fl_column.specs.Questions.{holds, is_between, tested};
+ghost use Rattle.fl_column.specs.Queries.{holds, is_between, tested};
 ghost use Rattle.fl_codec.specs.FoRColumns.{chunked_for};
 ghost use Rattle.fl_bitpacking.specs.Columns.{block_count};
 ghost use Rattle.fl_bitpacking.specs.Decided.{undecided_by_block};
@@ -73,7 +73,7 @@ impl BitPackedArray {
     }
 
     /// The answers of a test for the items or, if there are references, for the sums of the items and the references of their
-    /// blocks; a null stays a null.
+    /// blocks; nulls stay null.
     fn test(
         &self,
         alloc: Global,
@@ -97,7 +97,7 @@ impl BitPackedArray {
         }
     }
 
-    /// The answers of a test for the items, and what was unpacked of the packed bytes for it; a null stays a null. An array of one
+    /// The answers of a test for the items, and what was unpacked of the packed bytes for it; nulls stay null. An array of one
     /// width unpacks each block once, or none where there is no item or the width decides the test. An array of a width for each
     /// block unpacks those whose own width does not decide it. A reference of the test is an integer of the array's type.
     ///
@@ -119,7 +119,7 @@ impl BitPackedArray {
     }
 
     /// The answers of a test for the sums of the items and the references of their blocks, modulo 2 to the type's bits, and what
-    /// was unpacked of the packed bytes for it; a null stays a null. There is a reference of the array's type for each block. A
+    /// was unpacked of the packed bytes for it; nulls stay null. There is a reference of the array's type for each block. A
     /// block is unpacked once if its own width does not decide the test of its sums.
     ///
     /// # Errors

@@ -4,7 +4,7 @@ ghost use Rattle.std.specs.Prelude.{◌≡◌, ◌+◌, ◌^◌, ◌<◌, ◌≤
 ghost use Rattle.fl_types.specs.Refusals.{Answers};
 ghost use Rattle.fl_types.specs.Values.{scalar_parts};
 ghost use Rattle.fl_column.specs.Operations.{slice_of};
-ghost use Rattle.fl_column.specs.Questions.{scalar_in};
+ghost use Rattle.fl_column.specs.Queries.{scalar_in};
 ghost use Rattle.fl_bitpacking.specs.SlicedParts.{end_block, first_block, sliced_boundaries};
 ghost use Rattle.fl_array.specs.BitPackedArrays.{BlockBoundaries, GlobalWidth, tree_of_bitpacked};
 ghost use Rattle.fl_array.specs.Slices.{slice_tree};

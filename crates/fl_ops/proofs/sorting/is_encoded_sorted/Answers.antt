@@ -3,7 +3,7 @@ use Rattle.std.specs.Prelude.{is_some}
 use Rattle.fl_types.specs.Types.{is_integer}
 use Rattle.fl_types.specs.Values.{scalar_parts}
 use Rattle.fl_column.specs.Columns.{column_of_constant}
-use Rattle.fl_column.specs.Questions.{is_sorted_column}
+use Rattle.fl_column.specs.Queries.{is_sorted_column}
 use Rattle.fl_array.specs.Trees.{column}
 use Rattle.fl_ops.proofs.SortedLaws.{rises_over_constant}
 use Rattle.fl_ops.proofs.sorting.is_encoded_sorted.Goals as goal

@@ -1,7 +1,8 @@
-use Rattle.std.proofs.Common.{◌∙◌, ◌<◌, ◌≤◌, length, sym, subst, arith}
+use Rattle.std.proofs.Common.{◌∙◌, ◌<◌, ◌≤◌, length, sym, ap, subst, arith}
 use Rattle.fl_types.specs.Refusals.{Answers}
+use Rattle.fl_patches.proofs.Parts.{ok_same}
 use Rattle.fl_serde.specs.Reading.{reading}
-use Rattle.fl_serde.proofs.ReadLaws.{all_children, answers_refused, answers_refused_there, fits, fits_not, next_child, refused_check, refused_child, whole}
+use Rattle.fl_serde.proofs.ReadLaws.{all_children, all_read, answers_refused, answers_refused_there, fits, fits_not, next_child, refused_check, refused_child, whole}
 use Rattle.fl_serde.proofs.reading.+read.Goals as goal
 
 pub returns-in_err-info : goal.returns-in_err-info
@@ -48,3 +49,8 @@ returns t c =
     let expected = c.in_ok-expected.expected.items in
     let all = whole node c.in_ok-info.info nodes expected (sym c.in_ok-info.ensures.info) c.children-children.ensures.children c.in_ok-expected.ensures in
     subst (λ m. Answers (λ a. a) c.make.result m) (sym (all_children node c.in_ok-info.info nodes expected c.loop-i.i c.loop-i.trees.items all c.loop-i.invariant done)) c.make.ensures
+
+pub make-requires-clause-trees : goal.make-requires-clause-trees
+make-requires-clause-trees t c =
+    let done : length c.in_ok-expected.expected.items ≤ c.loop-i.i = omega arith in
+    all_read c.children-children.result.now c.in_ok-expected.expected.items c.loop-i.i c.loop-i.trees.items c.loop-i.invariant done ∙ ap length (ok_same _ _ c.in_ok-expected.ensures)

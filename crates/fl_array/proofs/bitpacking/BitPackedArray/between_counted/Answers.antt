@@ -3,7 +3,7 @@ use Rattle.std.specs.Prelude.{IfOk, Ok}
 use Rattle.fl_types.specs.Refusals.{Answers}
 use Rattle.fl_types.specs.Values.{integer_of}
 use Rattle.fl_column.specs.Columns.{column_of_bools}
-use Rattle.fl_column.specs.Questions.{is_between, tested}
+use Rattle.fl_column.specs.Queries.{is_between, tested}
 use Rattle.fl_bitpacking.specs.RangeTests.{passes}
 use Rattle.fl_array.specs.BitPackedArrays.{tree_of_bitpacked}
 use Rattle.fl_array.specs.Trees.{column}

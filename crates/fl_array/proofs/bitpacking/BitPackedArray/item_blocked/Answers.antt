@@ -1,6 +1,6 @@
 use Rattle.std.proofs.Common.{sym, ap, ◌∙◌, arith}
 use Rattle.fl_column.specs.Columns.{Column}
-use Rattle.fl_column.specs.Questions.{scalar_in}
+use Rattle.fl_column.specs.Queries.{scalar_in}
 use Rattle.fl_array.specs.Trees.{column}
 use Rattle.fl_array.proofs.BlockedLaws.{block_read, blocked_column}
 use Rattle.fl_array.proofs.bitpacking.BitPackedArray.item_blocked.Goals as goal

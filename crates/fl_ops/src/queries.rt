@@ -4,10 +4,10 @@ ghost use Rattle.std.specs.Prelude.{◌≡◌, IfErr, IsTrue};
 ghost use Rattle.fl_types.specs.declared.error.FastLanesError.TheVariants.{OutOfMemory};
 ghost use Rattle.fl_types.specs.Refusals.{Answers};
 ghost use Rattle.fl_types.specs.Values.{scalar_parts};
-ghost use Rattle.fl_column.specs.Questions.{scalar_of_column};
+ghost use Rattle.fl_column.specs.Queries.{scalar_of_column};
 ghost use Rattle.fl_array.specs.Kinds.{has_delta, kind};
 ghost use Rattle.fl_array.specs.Trees.{column};
-ghost use Rattle.fl_ops.specs.Questions.{ask_column, may_ask, may_need_memory, reply_of};
+ghost use Rattle.fl_ops.specs.Queries.{ask_column, may_ask, may_need_memory, reply_of};
 
 use crate::array_ops::ArrayOps;
 use fl_array::ArrayRef;
@@ -40,7 +40,7 @@ pub enum Answer {
     Bool(bool),
 }
 
-/// The item at an index, where there is one.
+/// The item at an index, if there is one.
 fn scalar_within(alloc: Global, array: &ArrayRef, i: usize) -> Result<Scalar, FastLanesError>
     ensures item { Answers scalar_parts result (scalar_of_column i (column array.now)) }
     ensures memory { IfErr result (λ e. e ≡ OutOfMemory → IsTrue (has_delta (kind array.now))) }

@@ -1,4 +1,4 @@
--- Questions, and what a column answers.
+-- Queries, and what a column answers.
 use Rattle.std.specs.Prelude.{◌&&◌, ◌||◌, ℤ, pos, Bool, true, not, Result, Ok, Err, is_some, map, option_map, unwrap_or}
 use Rattle.fl_types.specs.declared.error.FastLanesError.{FastLanesError}
 use Rattle.fl_types.specs.declared.query.CompareOperator.{CompareOperator}
@@ -8,12 +8,12 @@ use Rattle.fl_types.specs.Types.{either_nullable, is_integer, nullability_in, sa
 use Rattle.fl_types.specs.Values.{ScalarParts, bool_number, scalar_parts}
 use Rattle.std.specs.Ordering.{int_eq}
 use Rattle.fl_column.specs.Columns.{Column, column_of_bools}
-use Rattle.fl_column.specs.Questions.{between_column, compare_column, is_constant_column, is_sorted_column, scalar_of_column}
+use Rattle.fl_column.specs.Queries.{between_column, compare_column, is_constant_column, is_sorted_column, scalar_of_column}
 use Rattle.fl_array.specs.Kinds.{Kind, has_delta}
-use Rattle.fl_ops.specs.declared.questions.Query.{Query}
-use Rattle.fl_ops.specs.declared.questions.Query.TheVariants.{Between, Compare, IsConstant, IsSorted, ScalarAt}
-use Rattle.fl_ops.specs.declared.questions.Answer.{Answer}
-use Rattle.fl_ops.specs.declared.questions.Answer.TheVariants as answers
+use Rattle.fl_ops.specs.declared.queries.Query.{Query}
+use Rattle.fl_ops.specs.declared.queries.Query.TheVariants.{Between, Compare, IsConstant, IsSorted, ScalarAt}
+use Rattle.fl_ops.specs.declared.queries.Answer.{Answer}
+use Rattle.fl_ops.specs.declared.queries.Answer.TheVariants as answers
 
 -- a result that is changed where it is one
 abbrev pub mapped : {A B : Type 0} → (A → B) → Result A FastLanesError → Result B FastLanesError
@@ -56,7 +56,7 @@ reply_of (answers.Scalar item) = ScalarReply (scalar_parts item)
 reply_of (answers.Bools bools) = BoolsReply (column_of_bools bools)
 reply_of (answers.Bool bool) = BoolReply bool
 
--- a question may be asked of a column: each constant that it compares with is comparable
+-- a query may be asked of a column: each constant that it compares with is comparable
 abbrev pub may_ask : Column → Query → Bool
 may_ask c (ScalarAt i) = true
 may_ask c (Compare operator constant) = is_comparable c (scalar_parts constant)
@@ -64,7 +64,7 @@ may_ask c (Between lower upper options) = is_comparable c (scalar_parts lower) &
 may_ask c IsConstant = true
 may_ask c (IsSorted strict) = true
 
--- whether a question to an array of this kind may need memory: a point read needs some only where differences have to be summed
+-- whether a query to an array of this kind may need memory: a point read needs some only where differences have to be summed
 abbrev pub may_need_memory : Kind → Query → Bool
 may_need_memory k (ScalarAt i) = has_delta k
 may_need_memory k (Compare operator constant) = true
@@ -72,7 +72,7 @@ may_need_memory k (Between lower upper options) = true
 may_need_memory k IsConstant = true
 may_need_memory k (IsSorted strict) = true
 
--- what a column answers to a question, or the refusal
+-- what a column answers to a query, or the refusal
 abbrev pub ask_column : Column → Query → Result Reply FastLanesError
 ask_column c (ScalarAt i) = mapped ScalarReply (scalar_of_column i c)
 ask_column c (Compare operator constant) = mapped BoolsReply (compare_scalar operator (scalar_parts constant) c)

@@ -1,7 +1,7 @@
 use Rattle.std.proofs.Common.{ap, rules}
-use Rattle.fl_ops.specs.Questions.{BoolsReply, mapped}
+use Rattle.fl_ops.specs.Queries.{BoolsReply, mapped}
 use Rattle.fl_ops.proofs.Truths.{first_true, second_true}
-use Rattle.fl_ops.proofs.questions.ask.Goals as goal
+use Rattle.fl_ops.proofs.queries.ask.Goals as goal
 
 pub between-requires-clause-lower : goal.between-requires-clause-lower
 between-requires-clause-lower c = search (rules, first_true)
