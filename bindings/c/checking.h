@@ -23,7 +23,8 @@ enum { MOST = 3000, MOST_BYTES = (MOST + 7) / 8 };
 enum { UNWRITTEN = 0xA5 };
 
 static const char *const SCHEMES[] = {"primitive", "bitpacked", "blocked", "for", "for(bitpacked)", "forc", "forc(blocked,_)",
-                                      "delta", "delta(for(bitpacked),_)", "rle", "rle(for(bitpacked),bitpacked,_)"};
+                                      "forc(delta,_)", "forc(rle,for)", "delta", "delta(for(bitpacked),_)", "rle",
+                                      "rle(for(bitpacked),bitpacked,_)"};
 enum { SCHEME_COUNT = sizeof SCHEMES / sizeof SCHEMES[0] };
 
 static inline int bit(const uint8_t *bits, size_t i) {

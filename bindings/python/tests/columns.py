@@ -5,8 +5,8 @@ import flcol
 
 TYPES = ("u8", "u16", "u32", "u64", "i8", "i16", "i32", "i64")
 SCHEMES = (
-    "primitive", "bitpacked", "blocked", "for", "for(bitpacked)", "forc", "forc(blocked,_)", "delta", "delta(for(bitpacked),_)",
-    "rle", "rle(for(bitpacked),bitpacked,_)",
+    "primitive", "bitpacked", "blocked", "for", "for(bitpacked)", "forc", "forc(blocked,_)", "forc(delta,_)", "forc(rle,for)",
+    "delta", "delta(for(bitpacked),_)", "rle", "rle(for(bitpacked),bitpacked,_)",
 )  # fmt: skip
 LENGTHS = (0, 1, 7, 1023, 1024, 1025, 3000)
 

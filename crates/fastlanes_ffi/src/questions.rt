@@ -2,20 +2,22 @@
 #![tactic(auto)]
 
 ghost use Rattle.std.specs.Prelude.{◌≡◌, IfOk, IsTrue};
+ghost use Rattle.fl_types.specs.Types.{has_ptype};
 ghost use Rattle.fl_types.specs.Values.{scalar_parts, ptype_of_value};
 ghost use Rattle.fl_array.specs.Trees.{column};
-ghost use Rattle.fl_ops.specs.Questions.{is_comparable};
+ghost use Rattle.fl_ops.specs.Queries.{is_comparable};
 
 use fl_array::bitpacking::BitPackedArray;
 use fl_array::bitpacking::bitpack_decompress::unpack_single;
 use fl_array::{ArrayRef, IntoArray};
-use fl_column::PrimitiveArray;
+use fl_column::{PhysicalPType, PrimitiveArray};
 use fl_ops::ArrayOps;
 use fl_serde::{SerializedArray, deserialize, serialize};
 use fl_types::{
     BetweenOptions, BitList, CompareOperator, DType, FastLanesError, Mask, NativePType,
     Nullability, PType, PValue, Scalar, StrictComparison, match_each_integer_ptype,
 };
+use num_traits::WrappingAdd;
 use std::alloc::Global;
 
 /// What an array is asked. Its number is its place here, from 0.
@@ -127,17 +129,32 @@ fn number_of(scalar: Scalar) -> u64 {
     }
 }
 
-fn sum_of_reads(alloc: Global, array: &ArrayRef, places: &[u64]) -> Result<u64, FastLanesError> {
+fn typed_sum_of_reads<T: PhysicalPType + WrappingAdd>(
+    alloc: Global,
+    array: &ArrayRef,
+    places: &[u64],
+) -> Result<u64, FastLanesError>
+    requires { IsTrue (has_ptype T.PTYPE (column array.now).dtype) }
+{
     let mut sum = 0u64;
     for place in places {
         let place = *place as usize;
         if place >= array.len() {
             return Err(FastLanesError::IndexOutOfBounds);
         }
-        let item = array.scalar_at(alloc, place)?;
-        sum = sum.wrapping_add(number_of(item));
+        if let Some(item) = array.get::<T>(alloc, place)? {
+            sum = sum.wrapping_add(item.unsigned_abs());
+        }
     }
     Ok(sum)
+}
+
+/// The sum of the items at these places, which are unsigned, each read in its type.
+fn sum_of_reads(alloc: Global, array: &ArrayRef, places: &[u64]) -> Result<u64, FastLanesError> {
+    let DType::Primitive(ptype, _) = array.dtype() else {
+        return Err(FastLanesError::NotInteger);
+    };
+    match_each_integer_ptype!(ptype, typed_sum_of_reads(alloc, array, places))
 }
 
 fn sum_of_stored_reads(array: &BitPackedArray, places: &[u64]) -> Result<u64, FastLanesError> {

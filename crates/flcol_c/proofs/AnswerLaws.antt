@@ -11,10 +11,11 @@ use Rattle.fl_types.specs.declared.query.BetweenOptions.{BetweenOptions}
 use Rattle.fl_types.specs.Types.{has_ptype, is_integer}
 use Rattle.fl_types.specs.Values.{ScalarParts, bool_number}
 use Rattle.fl_column.specs.Columns.{BoolParts, Column, bools, column_of_bools}
-use Rattle.fl_column.specs.Questions.{holds, is_between, tested}
-use Rattle.fl_ops.specs.Questions.{between_scalars, compare_scalar, integer_in, nullable_with}
+use Rattle.fl_column.specs.Queries.{holds, is_between, tested}
+use Rattle.fl_ops.specs.Queries.{between_scalars, compare_scalar, integer_in, nullable_with}
 use Rattle.flcol_c.specs.Answering.{AreAnswers, compare_fault, operator_of, test_fault}
-use Rattle.flcol_c.specs.Bitmaps.{bitmap_len, bits_in, items_in, room_fault}
+use Rattle.fl_column.specs.Bitmaps.{bitmap_len, bits_in}
+use Rattle.flcol_c.specs.Bitmaps.{items_in, room_fault}
 use Rattle.flcol_c.specs.Reading.{nulls_in}
 use Rattle.flcol_c.proofs.ReadLaws.{integers_of_type, ok_is}
 use Rattle.flcol_c.proofs.ValidityLaws.{one_null, one_value}

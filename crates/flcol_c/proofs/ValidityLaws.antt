@@ -11,7 +11,8 @@ use Rattle.fl_types.specs.Validities.{covers, is_valid_at, items_of, masked}
 use Rattle.fl_types.specs.declared.validity.Validity.{Validity}
 use Rattle.fl_types.specs.declared.validity.Validity.TheVariants as valid
 use Rattle.fl_column.proofs.ItemLaws.{get_or-items_of, length-items_of}
-use Rattle.flcol_c.specs.Bitmaps.{bit_in, bits_in, items_in, null_total, room_fault, validity_in}
+use Rattle.fl_column.specs.Bitmaps.{bit_in, bits_in}
+use Rattle.flcol_c.specs.Bitmaps.{items_in, null_total, room_fault, validity_in}
 
 false_true : false ≡ true → ⊥
 false_true e = cc

@@ -8,7 +8,8 @@ use Rattle.fl_types.specs.declared.query.StrictComparison.{StrictComparison}
 use Rattle.fl_types.specs.declared.query.StrictComparison.TheVariants.{NonStrict, Strict}
 use Rattle.fl_types.specs.Types.{has_ptype}
 use Rattle.fl_column.specs.Columns.{Column}
-use Rattle.flcol_c.specs.Bitmaps.{bitmap_len, bits_in, items_in, room_fault}
+use Rattle.fl_column.specs.Bitmaps.{bitmap_len, bits_in}
+use Rattle.flcol_c.specs.Bitmaps.{items_in, room_fault}
 use Rattle.flcol_c.specs.Reading.{nulls_in}
 use Rattle.flcol_c.specs.declared.fault.Fault.{Fault}
 use Rattle.flcol_c.specs.declared.fault.Fault.TheVariants.{BadOperator, WrongLength, WrongType}

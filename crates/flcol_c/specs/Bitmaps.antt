@@ -1,29 +1,18 @@
--- Bitmaps as Arrow has them: bit i stands in byte i / 8, the lowest bit first. A bitmap of valid items without a byte says that no item may be null.
-use Rattle.std.specs.Prelude.{◌≡◌, ◌≤◌, ◌==◌, ◌+◌, ◌/◌, ◌%◌, ◌*◌, ◌-◌, ℕ, Bool, true, false, not, Option, Some, None, List, [], ◌∷◌, length, slice_index, nat_lt, Result, Ok, Err, if◌then◌else◌}
-use Rattle.fl_types.specs.Bits.{bit_of_word, tabulate, true_count}
+-- Bitmaps of valid items as Arrow has them. A bitmap without a byte says that no item may be null.
+use Rattle.std.specs.Prelude.{◌≡◌, ◌≤◌, ◌==◌, ◌*◌, ◌-◌, ℕ, Bool, false, not, Option, Some, None, List, [], ◌∷◌, length, nat_lt, Result, Ok, Err, if◌then◌else◌}
+use Rattle.fl_types.specs.Bits.{true_count}
 use Rattle.fl_types.specs.declared.validity.Validity.{Validity}
 use Rattle.fl_types.specs.declared.validity.Validity.TheVariants as valid
 use Rattle.fl_types.specs.declared.error.FastLanesError.{FastLanesError}
 use Rattle.fl_types.specs.declared.error.FastLanesError.TheVariants.{ValidityLength}
 use Rattle.fl_types.specs.Validities.{items_of}
+use Rattle.fl_column.specs.Bitmaps.{bit_in, bitmap_len, bits_in}
 use Rattle.flcol_c.specs.declared.fault.Fault.{Fault}
 use Rattle.flcol_c.specs.declared.fault.Fault.TheVariants.{Refused, WrongLength}
-
--- bit i
-unfoldable pub bit_in : List ℕ → ℕ → Bool
-bit_in bitmap i = bit_of_word (slice_index bitmap (i / 8)) (i % 8)
 
 -- no bit from bit n on is set
 abbrev pub IsClearFrom : ℕ → List ℕ → Type 0
 IsClearFrom n bitmap = (i : ℕ) → n ≤ i → bit_in bitmap i ≡ false
-
--- the first n bits
-abbrev pub bits_in : List ℕ → ℕ → List Bool
-bits_in bitmap n = tabulate (bit_in bitmap) n
-
--- how many bytes hold n bits
-abbrev pub bitmap_len : ℕ → ℕ
-bitmap_len n = (n + 7) / 8
 
 -- which of n items are valid
 abbrev pub validity_in : List ℕ → ℕ → Validity

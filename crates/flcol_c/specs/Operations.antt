@@ -14,7 +14,8 @@ use Rattle.fl_array.specs.Trees.{Tree, column}
 use Rattle.fl_ops.specs.Normalized.{SameShown}
 use Rattle.fl_ops.specs.Results.{IsFiltered, cast_to, picked}
 use Rattle.flcol_container.specs.ContainerReading.{dtype_of_byte}
-use Rattle.flcol_c.specs.Bitmaps.{bitmap_len, bits_in, is_short}
+use Rattle.fl_column.specs.Bitmaps.{bitmap_len, bits_in}
+use Rattle.flcol_c.specs.Bitmaps.{is_short}
 use Rattle.flcol_c.specs.declared.fault.Fault.{Fault}
 use Rattle.flcol_c.specs.declared.fault.Fault.TheVariants.{Refused}
 use Rattle.flcol_c.specs.declared.ranges.ItemRange.{ItemRange}

@@ -3,17 +3,18 @@
 ghost use Rattle.std.specs.Prelude.{◌≡◌, IfSome, OnErr, OnOk, count_by, is_none, length};
 ghost use Rattle.fl_array.specs.Trees.{column};
 ghost use Rattle.fl_column.specs.Columns.{bools};
-ghost use Rattle.fl_column.specs.Questions.{holds, is_between};
+ghost use Rattle.fl_column.specs.Queries.{holds, is_between};
 ghost use Rattle.flcol_c.specs.Answering.{AreAnswers, compare_fault, operator_of, options_of, strictness_of, test_fault};
-ghost use Rattle.flcol_c.specs.Bitmaps.{IsClearFrom, bitmap_len, bits_in, items_in, room_fault};
+ghost use Rattle.fl_column.specs.Bitmaps.{bitmap_len, bits_in};
+ghost use Rattle.flcol_c.specs.Bitmaps.{IsClearFrom, items_in, room_fault};
 ghost use Rattle.flcol_c.specs.Statuses.{Gives, fault_in};
 
-use crate::bitmaps::bitmap_len;
 use crate::fault::Fault;
 use crate::reading::is_of;
 use crate::validities::room_fault;
 use crate::values::write_answers;
 use fl_array::ArrayRef;
+use fl_column::bitmaps::bitmap_len;
 use fl_column::{
     BetweenOptions, BoolArray, CompareOperator, NativePType, Nullability, Scalar, StrictComparison,
 };
@@ -67,7 +68,7 @@ fn write_tested(answers: &BoolArray, bits: &mut [u8], validity: &mut [u8]) -> Re
     Ok(())
 }
 
-/// Writes how each item compares with a constant, and which items are valid. Bits behind theirs are not set.
+/// Writes how each item compares with a constant, and which items are valid. Bits after theirs are not set.
 ///
 /// # Errors
 /// `BadOperator`; `WrongType` where the array is not of integers of this type; `WrongLength` where the bytes of the
@@ -102,7 +103,7 @@ pub(crate) fn compare<T: NativePType>(
 }
 
 /// Writes whether each item lies between two bounds, each left out where its number is not 0, and which items are
-/// valid. Bits behind theirs are not set.
+/// valid. Bits after theirs are not set.
 ///
 /// # Errors
 /// As of `compare`, but for the operator.

@@ -6,5 +6,5 @@ pub mod give_back;
 pub mod look;
 pub mod make;
 pub mod operate;
-pub mod questions;
+pub mod queries;
 pub mod read;

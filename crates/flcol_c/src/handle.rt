@@ -19,7 +19,7 @@ pub struct Opaque {
 /// An array on the heap, or none where the word is null: `flcol_array` of the header. C makes one as a null word
 /// and passes its address. Contracts see the array's tree.
 ///
-/// A read takes a `&mut ArrayHandle`, since no export takes a shared borrow of a struct that owns what lies behind
+/// A read takes a `&mut ArrayHandle`, since no export takes a shared borrow of a struct that owns what lies after
 /// a pointer. It is not `Drop`, so that no array is let go without being freed.
 #[repr(C)]
 pub struct ArrayHandle {

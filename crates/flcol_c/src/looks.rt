@@ -2,7 +2,7 @@
 
 ghost use Rattle.std.specs.Prelude.{◌≡◌, None};
 ghost use Rattle.fl_array.specs.Trees.{column};
-ghost use Rattle.fl_column.specs.Questions.{are_constant, is_constant_column, is_sorted_column};
+ghost use Rattle.fl_column.specs.Queries.{are_constant, is_constant_column, is_sorted_column};
 ghost use Rattle.flcol_container.specs.Container.{dtype_byte};
 ghost use Rattle.flcol_c.specs.Looks.{are_in_order};
 ghost use Rattle.flcol_c.specs.Reading.{nulls_in};

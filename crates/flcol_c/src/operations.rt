@@ -9,11 +9,11 @@ ghost use Rattle.flcol_container.specs.ContainerReading.{dtype_numbered, dtype_o
 ghost use Rattle.flcol_c.specs.Operations.{AreTaken, IsCast, IsFilteredBy, IsTaken, cast_fault, filter_fault, pairs_of, take_fault};
 ghost use Rattle.flcol_c.specs.Statuses.{Gives, refusal_in};
 
-use crate::bitmaps::{bitmap_len, bits_of};
 use crate::fault::Fault;
 use crate::making::from_values;
 use crate::ranges::{ItemRange, pairs_of};
 use fl_array::ArrayRef;
+use fl_column::bitmaps::{bitmap_len, bits_of};
 use fl_ops::ArrayOps;
 use fl_types::{DType, FastLanesError, Mask, Nullability, PType};
 use std::alloc::Global;

@@ -13,7 +13,7 @@ use crate::validities::{room_fault, write_validity};
 use crate::values::write_plain;
 use fl_array::ArrayRef;
 use fl_bitpacking::unpack_iter::BitPacked;
-use fl_column::{DType, FastLanesError, NativePType, PrimitiveArray};
+use fl_column::{DType, FastLanesError, NativePType, PhysicalPType, PrimitiveArray};
 use num_traits::WrappingAdd;
 use std::alloc::Global;
 
@@ -58,7 +58,7 @@ fn read_plain<T: NativePType>(
 /// # Errors
 /// `WrongLength` if the bytes are neither those of a bitmap nor none, `ValidityLength` if there is none and an item
 /// is null.
-fn read_encoded<T: BitPacked + WrappingAdd>(
+fn read_encoded<T: BitPacked + PhysicalPType + WrappingAdd>(
     alloc: Global,
     array: &ArrayRef,
     values: &mut [T],
@@ -85,7 +85,7 @@ fn read_encoded<T: BitPacked + WrappingAdd>(
 /// # Errors
 /// `WrongType` if the array is not of integers of this type; `WrongLength` if there are more or fewer values than
 /// items, or the bytes are neither those of a bitmap nor none; `ValidityLength` if there is none and an item is null.
-pub(crate) fn read<T: BitPacked + WrappingAdd>(
+pub(crate) fn read<T: BitPacked + PhysicalPType + WrappingAdd>(
     alloc: Global,
     array: &ArrayRef,
     values: &mut [T],
@@ -111,7 +111,8 @@ pub(crate) fn read<T: BitPacked + WrappingAdd>(
 ///
 /// # Errors
 /// `WrongType` where the array is not of integers of this type, then `IndexOutOfBounds`.
-pub(crate) fn get<T: NativePType>(
+#[inline(always)]
+pub(crate) fn get<T: PhysicalPType + WrappingAdd>(
     alloc: Global,
     array: &ArrayRef,
     index: usize,
@@ -124,18 +125,15 @@ pub(crate) fn get<T: NativePType>(
     if index >= array.len() {
         return Err(Fault::Refused(FastLanesError::IndexOutOfBounds));
     }
-    let item = array.scalar_at(alloc, index)?;
-    match item.as_pvalue() {
-        Some(value) => Ok(T::from_pvalue(value)),
-        None => Ok(None),
-    }
+    Ok(array.get(alloc, index)?)
 }
 
 /// Writes the item at an index, or 0 for a null, and 1 where it is null, else 0.
 ///
 /// # Errors
 /// `WrongType` where the array is not of integers of this type, then `IndexOutOfBounds`.
-pub(crate) fn get_into<T: NativePType>(
+#[inline(always)]
+pub(crate) fn get_into<T: PhysicalPType + WrappingAdd>(
     alloc: Global,
     array: &ArrayRef,
     index: usize,

@@ -2,7 +2,7 @@
 
 ghost use Rattle.std.specs.Prelude.{◌≡◌, ◌≢◌, IfSome, None, Some, length, map, pos, slice_index_or};
 ghost use Rattle.fl_array.specs.Trees.{Constant, Primitive, column};
-ghost use Rattle.fl_column.specs.Questions.{holds, is_between};
+ghost use Rattle.fl_column.specs.Queries.{holds, is_between};
 ghost use Rattle.flcol_c.specs.Answering.{AreAnswers, compare_fault, operator_of, options_of, test_fault};
 ghost use Rattle.flcol_c.specs.Bitmaps.{IsClearFrom, items_in};
 ghost use Rattle.flcol_c.specs.Held.{IsKept, held_fault};
@@ -16,7 +16,7 @@ use crate::handle::ArrayHandle;
 use crate::kept::keep;
 use crate::{answering, making, reading};
 use fl_bitpacking::unpack_iter::BitPacked;
-use fl_column::NativePType;
+use fl_column::{NativePType, PhysicalPType};
 use num_traits::WrappingAdd;
 use std::alloc::Global;
 
@@ -50,7 +50,7 @@ pub(crate) fn constant<T: NativePType>(
 }
 
 /// Writes the values of an array, and which of them are valid.
-pub(crate) fn read<T: BitPacked + WrappingAdd>(
+pub(crate) fn read<T: BitPacked + PhysicalPType + WrappingAdd>(
     alloc: Global,
     array: &mut ArrayHandle,
     values: &mut [T],
@@ -69,7 +69,8 @@ pub(crate) fn read<T: BitPacked + WrappingAdd>(
 }
 
 /// Writes the item at an index, or 0 for a null, and 1 where it is null, else 0.
-pub(crate) fn get<T: NativePType>(
+#[inline(always)]
+pub(crate) fn get<T: PhysicalPType + WrappingAdd>(
     alloc: Global,
     array: &mut ArrayHandle,
     index: usize,

@@ -2,10 +2,12 @@
 
 ghost use Rattle.std.specs.Prelude.{◌≡◌, ◌<◌, ℕ, IsTrue, None, length};
 ghost use Rattle.fl_types.specs.Validities.{covers, is_valid_at};
-ghost use Rattle.flcol_c.specs.Bitmaps.{IsClearFrom, bit_in, bitmap_len, null_total, room_fault, validity_in};
+ghost use Rattle.fl_column.specs.Bitmaps.{bit_in, bitmap_len};
+ghost use Rattle.flcol_c.specs.Bitmaps.{IsClearFrom, null_total, room_fault, validity_in};
 
-use crate::bitmaps::{bitmap_len, write_bits, write_run};
+use crate::bitmaps::write_run;
 use crate::fault::Fault;
+use fl_column::bitmaps::{bitmap_len, write_bits};
 use fl_types::{FastLanesError, Validity};
 
 /// How many of `len` items are null.
@@ -38,7 +40,7 @@ pub(crate) fn room_fault(bytes: usize, validity: &Validity, len: usize) -> Optio
     Some(Fault::Refused(FastLanesError::ValidityLength))
 }
 
-/// Writes which of `len` items are valid, a bit each. Bits behind theirs are not set.
+/// Writes which of `len` items are valid, a bit each. Bits after theirs are not set.
 fn write_bitmap(bitmap: &mut [u8], validity: &Validity, len: usize)
     requires covers { IsTrue (covers validity.now len) }
     requires room { length bitmap.old ≡ bitmap_len len }
@@ -52,7 +54,7 @@ fn write_bitmap(bitmap: &mut [u8], validity: &Validity, len: usize)
     }
 }
 
-/// Writes which of `len` items are valid, or nothing where there is no byte. Bits behind theirs are not set.
+/// Writes which of `len` items are valid, or nothing where there is no byte. Bits after theirs are not set.
 pub(crate) fn write_validity(bitmap: &mut [u8], validity: &Validity, len: usize)
     requires covers { IsTrue (covers validity.now len) }
     requires room { room_fault (length bitmap.old) len (null_total validity.now len) ≡ None }

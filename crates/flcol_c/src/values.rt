@@ -3,11 +3,13 @@
 ghost use Rattle.std.specs.Prelude.{◌≡◌, None, length, map};
 ghost use Rattle.fl_types.specs.Refusals.{Answers};
 ghost use Rattle.fl_column.specs.Columns.{bools, column_of_primitive};
-ghost use Rattle.flcol_c.specs.Bitmaps.{IsClearFrom, bitmap_len, bits_in, items_in, null_total, room_fault};
+ghost use Rattle.fl_column.specs.Bitmaps.{bitmap_len, bits_in};
+ghost use Rattle.flcol_c.specs.Bitmaps.{IsClearFrom, items_in, null_total, room_fault};
 ghost use Rattle.flcol_c.specs.Values.{from_values};
 
-use crate::bitmaps::{validity_of, write_bits};
+use crate::bitmaps::validity_of;
 use crate::validities::write_validity;
+use fl_column::bitmaps::write_bits;
 use fl_column::{BoolArray, FastLanesError, NativePType, PrimitiveArray};
 use std::alloc::Global;
 

@@ -3,7 +3,7 @@
 ghost use Rattle.std.specs.Prelude.{◌≡◌, ◌≢◌, ◌==◌, ◌-◌, ◌^◌, IfSome, None, length, min, not, pos};
 ghost use Rattle.fastlanes.specs.Layout.{bit_value};
 ghost use Rattle.fl_array.specs.Trees.{column};
-ghost use Rattle.fl_column.specs.Questions.{are_constant, is_constant_column, is_sorted_column};
+ghost use Rattle.fl_column.specs.Queries.{are_constant, is_constant_column, is_sorted_column};
 ghost use Rattle.fl_serde.specs.ByteCounts.{tree_bytes};
 ghost use Rattle.flcol_container.specs.Container.{dtype_byte};
 ghost use Rattle.flcol_c.specs.Held.{IsKept, held_fault};

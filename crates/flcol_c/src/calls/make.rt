@@ -11,7 +11,7 @@ use crate::handle::ArrayHandle;
 use crate::typed;
 use std::alloc::Global;
 
-/// Makes a plain array of these values. Those are valid whose bits are set; without a bitmap all are, and the type is
+/// Makes a plain array of these values. The valid ones are those whose bits are set; without a bitmap all are, and the type is
 /// not nullable.
 #[unsafe(no_mangle)]
 pub extern "C" fn flcol_from_u8(
@@ -27,7 +27,7 @@ pub extern "C" fn flcol_from_u8(
     typed::from_values(alloc, values, validity, out)
 }
 
-/// Makes a plain array of these values. Those are valid whose bits are set; without a bitmap all are, and the type is
+/// Makes a plain array of these values. The valid ones are those whose bits are set; without a bitmap all are, and the type is
 /// not nullable.
 #[unsafe(no_mangle)]
 pub extern "C" fn flcol_from_u16(
@@ -43,7 +43,7 @@ pub extern "C" fn flcol_from_u16(
     typed::from_values(alloc, values, validity, out)
 }
 
-/// Makes a plain array of these values. Those are valid whose bits are set; without a bitmap all are, and the type is
+/// Makes a plain array of these values. The valid ones are those whose bits are set; without a bitmap all are, and the type is
 /// not nullable.
 #[unsafe(no_mangle)]
 pub extern "C" fn flcol_from_u32(
@@ -59,7 +59,7 @@ pub extern "C" fn flcol_from_u32(
     typed::from_values(alloc, values, validity, out)
 }
 
-/// Makes a plain array of these values. Those are valid whose bits are set; without a bitmap all are, and the type is
+/// Makes a plain array of these values. The valid ones are those whose bits are set; without a bitmap all are, and the type is
 /// not nullable.
 #[unsafe(no_mangle)]
 pub extern "C" fn flcol_from_u64(
@@ -75,7 +75,7 @@ pub extern "C" fn flcol_from_u64(
     typed::from_values(alloc, values, validity, out)
 }
 
-/// Makes a plain array of these values. Those are valid whose bits are set; without a bitmap all are, and the type is
+/// Makes a plain array of these values. The valid ones are those whose bits are set; without a bitmap all are, and the type is
 /// not nullable.
 #[unsafe(no_mangle)]
 pub extern "C" fn flcol_from_i8(
@@ -91,7 +91,7 @@ pub extern "C" fn flcol_from_i8(
     typed::from_values(alloc, values, validity, out)
 }
 
-/// Makes a plain array of these values. Those are valid whose bits are set; without a bitmap all are, and the type is
+/// Makes a plain array of these values. The valid ones are those whose bits are set; without a bitmap all are, and the type is
 /// not nullable.
 #[unsafe(no_mangle)]
 pub extern "C" fn flcol_from_i16(
@@ -107,7 +107,7 @@ pub extern "C" fn flcol_from_i16(
     typed::from_values(alloc, values, validity, out)
 }
 
-/// Makes a plain array of these values. Those are valid whose bits are set; without a bitmap all are, and the type is
+/// Makes a plain array of these values. The valid ones are those whose bits are set; without a bitmap all are, and the type is
 /// not nullable.
 #[unsafe(no_mangle)]
 pub extern "C" fn flcol_from_i32(
@@ -123,7 +123,7 @@ pub extern "C" fn flcol_from_i32(
     typed::from_values(alloc, values, validity, out)
 }
 
-/// Makes a plain array of these values. Those are valid whose bits are set; without a bitmap all are, and the type is
+/// Makes a plain array of these values. The valid ones are those whose bits are set; without a bitmap all are, and the type is
 /// not nullable.
 #[unsafe(no_mangle)]
 pub extern "C" fn flcol_from_i64(

@@ -6,10 +6,11 @@ use Rattle.fl_types.specs.Values.{scalar_parts}
 use Rattle.fl_types.specs.declared.query.CompareOperator.{CompareOperator}
 use Rattle.fl_array.specs.Trees.{column}
 use Rattle.fl_column.specs.Columns.{bools}
-use Rattle.fl_column.specs.Questions.{holds, is_between}
-use Rattle.fl_ops.specs.Questions.{integer_in}
+use Rattle.fl_column.specs.Queries.{holds, is_between}
+use Rattle.fl_ops.specs.Queries.{integer_in}
 use Rattle.flcol_c.specs.Answering.{AreAnswers, compare_fault, operator_of, options_of, test_fault}
-use Rattle.flcol_c.specs.Bitmaps.{IsClearFrom, bitmap_len}
+use Rattle.fl_column.specs.Bitmaps.{bitmap_len}
+use Rattle.flcol_c.specs.Bitmaps.{IsClearFrom}
 use Rattle.flcol_c.proofs.AnswerLaws.{answered, answers_counted, compare_room, compared, lies_between, nulls_answered, test_room}
 use Rattle.flcol_c.proofs.StatusLaws.{gives_by_fault}
 use Rattle.flcol_c.proofs.answering.between.Goals as goal

@@ -1,6 +1,7 @@
 use Rattle.std.proofs.Common.{rules, ◌≡◌, ◌≢◌, ℕ, ◌<◌, ◌≤◌, ◌+◌, ◌/◌, ◌%◌, ◌*◌, length, true, false, sym, ◌∙◌, arith}
 use Rattle.std.specs.Prelude.{slice_index}
-use Rattle.flcol_c.proofs.BitmapLaws.{all_set, no_bit_behind, none_set, run_clear, run_set}
+use Rattle.fl_column.proofs.BitmapLaws.{no_bit_behind}
+use Rattle.flcol_c.proofs.BitmapLaws.{all_set, none_set, run_clear, run_set}
 use Rattle.flcol_c.proofs.bitmaps.write_run.Goals as goal
 
 pub returns-then-not-on-clause-bits : goal.returns-then-not-on-clause-bits

@@ -1,6 +1,6 @@
 use Rattle.std.proofs.Common.{◌≡◌, ◌∙◌, length, ap, sym}
 use Rattle.std.proofs.lemmas.List.FromFn.{length-map-range_with_len}
-use Rattle.flcol_c.specs.Bitmaps.{bit_in, bits_in}
+use Rattle.fl_column.specs.Bitmaps.{bit_in, bits_in}
 use Rattle.flcol_c.proofs.operations.filter.Goals as goal
 
 pub filter-requires : goal.filter-requires

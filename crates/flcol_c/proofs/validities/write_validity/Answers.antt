@@ -1,5 +1,5 @@
 use Rattle.std.proofs.Common.{◌≡◌, ◌≢◌, length, arith, rules}
-use Rattle.flcol_c.proofs.BitmapLaws.{no_bit_behind}
+use Rattle.fl_column.proofs.BitmapLaws.{no_bit_behind}
 use Rattle.flcol_c.proofs.ValidityLaws.{marked_valid, unmarked_valid}
 use Rattle.flcol_c.proofs.validities.write_validity.Goals as goal
 

@@ -1,5 +1,5 @@
 use Rattle.std.proofs.Common.{rules, ◌≡◌, length}
-use Rattle.flcol_c.specs.Bitmaps.{bits_in}
+use Rattle.fl_column.specs.Bitmaps.{bits_in}
 use Rattle.flcol_c.proofs.BitmapLaws.{bits_read}
 use Rattle.flcol_c.proofs.ValidityLaws.{items_marked}
 use Rattle.flcol_c.proofs.values.write_answers.Goals as goal

@@ -3,7 +3,7 @@
 ghost use Rattle.std.specs.Prelude.{◌≡◌, ◌≢◌, IfSome, length, pos};
 ghost use Rattle.fl_types.specs.declared.dtype.PType.TheVariants.{I16, I32, I64, I8, U16, U32, U64, U8};
 ghost use Rattle.fl_array.specs.Trees.{column};
-ghost use Rattle.fl_column.specs.Questions.{holds, is_between};
+ghost use Rattle.fl_column.specs.Queries.{holds, is_between};
 ghost use Rattle.flcol_c.specs.Answering.{AreAnswers, compare_fault, operator_of, options_of, test_fault};
 ghost use Rattle.flcol_c.specs.Bitmaps.{IsClearFrom};
 ghost use Rattle.flcol_c.specs.Held.{IsKept, held_fault};
