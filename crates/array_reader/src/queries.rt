@@ -3,7 +3,7 @@
 ghost use Rattle.std.specs.Prelude.{IsTrue};
 ghost use Rattle.fl_types.specs.Values.{scalar_parts};
 ghost use Rattle.fl_array.specs.Trees.{column};
-ghost use Rattle.fl_ops.specs.Questions.{is_comparable};
+ghost use Rattle.fl_ops.specs.Queries.{is_comparable};
 
 use column_rows::types;
 use fl_array::ArrayRef;

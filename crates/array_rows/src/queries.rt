@@ -2,7 +2,7 @@
 
 ghost use Rattle.std.specs.Prelude.{IsTrue};
 ghost use Rattle.fl_array.specs.Trees.{column};
-ghost use Rattle.fl_ops.specs.Questions.{may_ask};
+ghost use Rattle.fl_ops.specs.Queries.{may_ask};
 
 use crate::{beside, counted};
 use array_reader::queries::{answered, constant, operator, options};

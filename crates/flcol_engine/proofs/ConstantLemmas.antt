@@ -14,7 +14,7 @@ use Rattle.fl_types.specs.Refusals.{Answers}
 use Rattle.fl_types.specs.Types.{is_integer, same_type}
 use Rattle.fl_types.specs.Values.{ScalarParts, scalar_parts}
 use Rattle.fl_column.specs.Columns.{Column}
-use Rattle.fl_ops.specs.Questions.{is_comparable}
+use Rattle.fl_ops.specs.Queries.{is_comparable}
 use Rattle.flcol_engine.specs.Replies.{constant_of_type}
 
 same : (p : PType) → same_ptype p p ≡ true

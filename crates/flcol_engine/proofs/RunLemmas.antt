@@ -11,8 +11,8 @@ use Rattle.fl_ops.specs.Operations.{Step, and_then, run_columns}
 use Rattle.fl_ops.specs.Results.{IsResult}
 use Rattle.flcol_engine.specs.declared.commands.Encode.{Encode}
 use Rattle.flcol_engine.specs.declared.commands.Encoding.{Encoding}
-use Rattle.flcol_engine.specs.declared.commands.Question.{Question}
-use Rattle.flcol_engine.specs.declared.commands.Question.TheVariants as questions
+use Rattle.flcol_engine.specs.declared.commands.Query.{Query}
+use Rattle.flcol_engine.specs.declared.commands.Query.TheVariants as queries
 use Rattle.flcol_engine.specs.declared.fault.Fault.{Fault}
 use Rattle.flcol_engine.specs.declared.fault.Fault.TheVariants as faults
 use Rattle.flcol_engine.specs.Command.{CommandParts, EncodeParts, IsCommandOutcome, IsRun, OfRun, PackParts}
@@ -37,14 +37,14 @@ result_fault Is steps t (Err error) never e = cc
 id_fault : (text : List ℕ) → ◌≡◌ {A = Result (List ℕ) Fault} (Err faults.WriteFault) (Ok text) → ⊥
 id_fault text e = cc
 
-answer_fault : (question : Question) (steps : List Step) (t : Tree) → IsAnswer question steps t (Err faults.WriteFault) → ⊥
-answer_fault (questions.Column question) steps t e = library_fault _ e
-answer_fault questions.Id steps t e = result_fault (λ last text. text ≡ Ok (line (id_of last))) steps t (run_columns (column t) steps) (λ last is. id_fault (line (id_of last)) is) e
-answer_fault questions.Store steps t e = result_fault IsStored steps t (run_columns (column t) steps) (λ last is. is) e
-answer_fault questions.Migrate steps t e = result_fault (λ last container. IsStored (to_blocked_tree last) container) steps t (run_columns (column t) steps) (λ last is. is) e
+answer_fault : (query : Query) (steps : List Step) (t : Tree) → IsAnswer query steps t (Err faults.WriteFault) → ⊥
+answer_fault (queries.Column query) steps t e = library_fault _ e
+answer_fault queries.Id steps t e = result_fault (λ last text. text ≡ Ok (line (id_of last))) steps t (run_columns (column t) steps) (λ last is. id_fault (line (id_of last)) is) e
+answer_fault queries.Store steps t e = result_fault IsStored steps t (run_columns (column t) steps) (λ last is. is) e
+answer_fault queries.Migrate steps t e = result_fault (λ last container. IsStored (to_blocked_tree last) container) steps t (run_columns (column t) steps) (λ last is. is) e
 
 output_fault : (run : RunParts) (bytes : List ℕ) → IsRunOutput run bytes (Err faults.WriteFault) → ⊥
-output_fault run bytes (Ok t, is, answer) = answer_fault run.question run.operations t answer
+output_fault run bytes (Ok t, is, answer) = answer_fault run.query run.operations t answer
 output_fault run bytes (Err faults.WriteFault, is, same) = is
 output_fault run bytes (Err faults.ReadFault, is, same) = is
 output_fault run bytes (Err faults.BadColumn, is, same) = is
@@ -89,15 +89,15 @@ stored_column view command text p t r said made is = with_column view (IsEncoded
 of_last : (Is : Tree → Result (List ℕ) Fault → Type 0) (steps : List Step) (t last : Tree) (output : Result (List ℕ) Fault) → run_columns (column t) steps ≡ Ok (column last) → IsResult t steps last → IsOfResult Is [] last output → IsOfResult Is steps t output
 of_last Is steps t last output same made (other, is_last, is) = rw same (last, made, subst (λ x. Is x output) is_last is)
 
-answer_of_last : (question : Question) (steps : List Step) (t last : Tree) (output : Result (List ℕ) Fault) → run_columns (column t) steps ≡ Ok (column last) → IsResult t steps last → IsAnswer question [] last output → IsAnswer question steps t output
-answer_of_last (questions.Column question) steps t last output same made is = rw same is
-answer_of_last questions.Id steps t last output same made is = of_last (λ last text. text ≡ Ok (line (id_of last))) steps t last output same made is
-answer_of_last questions.Store steps t last output same made is = of_last IsStored steps t last output same made is
-answer_of_last questions.Migrate steps t last output same made is = of_last (λ last container. IsStored (to_blocked_tree last) container) steps t last output same made is
+answer_of_last : (query : Query) (steps : List Step) (t last : Tree) (output : Result (List ℕ) Fault) → run_columns (column t) steps ≡ Ok (column last) → IsResult t steps last → IsAnswer query [] last output → IsAnswer query steps t output
+answer_of_last (queries.Column query) steps t last output same made is = rw same is
+answer_of_last queries.Id steps t last output same made is = of_last (λ last text. text ≡ Ok (line (id_of last))) steps t last output same made is
+answer_of_last queries.Store steps t last output same made is = of_last IsStored steps t last output same made is
+answer_of_last queries.Migrate steps t last output same made is = of_last (λ last container. IsStored (to_blocked_tree last) container) steps t last output same made is
 
-pub after_operations : {X : Type 0} (view : X → List ℕ) (question : Question) (steps : List Step) (t last : Tree) (r : Result X Fault) → run_columns (column t) steps ≡ Ok (column last) → IsResult t steps last → Meets view (IsAnswer question [] last) r → Meets view (IsAnswer question steps t) r
-after_operations view question steps t last (Ok x) same made is = answer_of_last question steps t last (Ok (view x)) same made is
-after_operations view question steps t last (Err f) same made is = λ ne. answer_of_last question steps t last (Err f) same made (is ne)
+pub after_operations : {X : Type 0} (view : X → List ℕ) (query : Query) (steps : List Step) (t last : Tree) (r : Result X Fault) → run_columns (column t) steps ≡ Ok (column last) → IsResult t steps last → Meets view (IsAnswer query [] last) r → Meets view (IsAnswer query steps t) r
+after_operations view query steps t last (Ok x) same made is = answer_of_last query steps t last (Ok (view x)) same made is
+after_operations view query steps t last (Err f) same made is = λ ne. answer_of_last query steps t last (Err f) same made (is ne)
 
 -- ---- a command is refused before anything is written
 refused_outcome : (Is : Result (List ℕ) Fault → Type 0) (old new : Option (List ℕ)) (e : Fault) → (Is (Err faults.WriteFault) → ⊥) → (e ≢ out_of_memory → Is (Err e)) → IsOutcomeOf Is (Err e) old new

@@ -15,7 +15,7 @@ use Rattle.flcol_engine.specs.Engine.{IsPackOutcome, ReadsAll, IsSilent}
 use Rattle.flcol_engine.specs.Words.{RunParts, both, column_type_in_word, encoding_in_word, run_in_words, width_in_word}
 
 -- ---- commands
--- a command: packing a text column at a width, encoding one, or operations on the column of a container and a question
+-- a command: packing a text column at a width, encoding one, or operations on the column of a container and a query
 pub data CommandParts : Type 0 where
   PackParts : Pack → CommandParts
   EncodeParts : Encode → CommandParts
@@ -23,7 +23,7 @@ pub data CommandParts : Type 0 where
 
 -- a run, as contracts see its parts
 abbrev pub parts_of_run : Run → RunParts
-parts_of_run run = record { operations = map step_of run.ops.items; question = run.question }
+parts_of_run run = record { operations = map step_of run.ops.items; query = run.query }
 
 -- a command, as contracts see its parts
 abbrev pub parts_of_command : Command → CommandParts

@@ -14,8 +14,8 @@ use Rattle.fl_ops.specs.Operations.{Step, and_then, run_columns}
 use Rattle.fl_ops.specs.Results.{IsResult}
 use Rattle.flcol_engine.specs.declared.commands.Encode.{Encode}
 use Rattle.flcol_engine.specs.declared.commands.Encoding.{Encoding}
-use Rattle.flcol_engine.specs.declared.commands.Question.{Question}
-use Rattle.flcol_engine.specs.declared.commands.Question.TheVariants as questions
+use Rattle.flcol_engine.specs.declared.commands.Query.{Query}
+use Rattle.flcol_engine.specs.declared.commands.Query.TheVariants as queries
 use Rattle.flcol_engine.specs.declared.fault.Fault.{Fault}
 use Rattle.flcol_engine.specs.declared.fault.Fault.TheVariants as faults
 use Rattle.flcol_engine.specs.Encodings.{EncodesAs}
@@ -65,16 +65,16 @@ IsStored t (Err faults.WriteFault) = ⊥
 abbrev pub IsOfResult : (Tree → Result (List ℕ) Fault → Type 0) → List Step → Tree → Result (List ℕ) Fault → Type 0
 IsOfResult Is steps t output = MatchResult (run_columns (column t) steps) (λ _. (last : Tree) × IsResult t steps last × Is last output) (λ error. output ≡ Err (faults.Refused error))
 
--- the answer to a question after operations on an array: its column's, the id of its encoding, or the container of the array or of its blocked form
-abbrev pub IsAnswer : Question → List Step → Tree → Result (List ℕ) Fault → Type 0
-IsAnswer (questions.Column question) steps t output = output ≡ of_library (and_then (run_columns (column t) steps) (reply question))
-IsAnswer questions.Id steps t output = IsOfResult (λ last text. text ≡ Ok (line (id_of last))) steps t output
-IsAnswer questions.Store steps t output = IsOfResult IsStored steps t output
-IsAnswer questions.Migrate steps t output = IsOfResult (λ last container. IsStored (to_blocked_tree last) container) steps t output
+-- the answer to a query after operations on an array: its column's, the id of its encoding, or the container of the array or of its blocked form
+abbrev pub IsAnswer : Query → List Step → Tree → Result (List ℕ) Fault → Type 0
+IsAnswer (queries.Column query) steps t output = output ≡ of_library (and_then (run_columns (column t) steps) (reply query))
+IsAnswer queries.Id steps t output = IsOfResult (λ last text. text ≡ Ok (line (id_of last))) steps t output
+IsAnswer queries.Store steps t output = IsOfResult IsStored steps t output
+IsAnswer queries.Migrate steps t output = IsOfResult (λ last container. IsStored (to_blocked_tree last) container) steps t output
 
 -- what a run writes for these bytes, or why it writes nothing
 abbrev pub IsRunOutput : RunParts → List ℕ → Result (List ℕ) Fault → Type 0
-IsRunOutput run bytes output = (array : Result Tree Fault) × IsArray bytes array × GoesWith (IsAnswer run.question run.operations) array output
+IsRunOutput run bytes output = (array : Result Tree Fault) × IsArray bytes array × GoesWith (IsAnswer run.query run.operations) array output
 
 -- ---- encode
 -- the container of an array that is never too deep

@@ -1,4 +1,4 @@
--- Words: types, encodings, operations and questions.
+-- Words: types, encodings, operations and queries.
 use Rattle.std.specs.Prelude.{◌≡◌, ◌&&◌, ◌||◌, ◌==◌, ◌-◌, ◌^◌, ℕ, ℤ, pos, Bool, true, false, List, [], ◌∷◌, map, length, take, codes, bytes_eq, Option, Some, None, option_map, option_and_then, is_some, nat_lt, unsigned_abs, unwrap_or, slice_index, slice_index_or, if◌then◌else◌}
 use Rattle.std.specs.List.{list_all}
 use Rattle.std.specs.Option.{option_map_or}
@@ -22,10 +22,10 @@ use Rattle.fl_encode.specs.declared.scheme.Packing.{Packing}
 use Rattle.fl_encode.specs.declared.scheme.Packing.TheVariants.{BestWidth, BestWidths, Width}
 use Rattle.flcol_engine.specs.declared.commands.Encoding.{Encoding}
 use Rattle.flcol_engine.specs.declared.commands.Encoding.TheVariants as encodings
-use Rattle.flcol_engine.specs.declared.commands.ColumnQuestion.{ColumnQuestion}
-use Rattle.flcol_engine.specs.declared.commands.ColumnQuestion.TheVariants as asked
-use Rattle.flcol_engine.specs.declared.commands.Question.{Question}
-use Rattle.flcol_engine.specs.declared.commands.Question.TheVariants as questions
+use Rattle.flcol_engine.specs.declared.commands.ColumnQuery.{ColumnQuery}
+use Rattle.flcol_engine.specs.declared.commands.ColumnQuery.TheVariants as asked
+use Rattle.flcol_engine.specs.declared.commands.Query.{Query}
+use Rattle.flcol_engine.specs.declared.commands.Query.TheVariants as queries
 use Rattle.flcol_engine.specs.Text.{integer_in_text, number_up_to, on_first_line}
 
 -- ---- parts of words
@@ -145,7 +145,7 @@ named_operation name text =
 abbrev pub operation_in_word : List ℕ → Option Step
 operation_in_word w = option_and_then (λ h. named_operation h.0 h.1) (halves_at 58 w)
 
--- ---- questions
+-- ---- queries
 -- how items are compared by a name
 abbrev pub operator_in_word : List ℕ → Option CompareOperator
 operator_in_word w =
@@ -178,39 +178,39 @@ abbrev pub bounds_in_text : List ℕ → Option (Option ℤ × Option ℤ)
 bounds_in_text text = option_and_then (λ h. both (λ lower upper. (lower, upper)) (constant_in_text h.0) (constant_in_text h.1)) (halves_at 58 text)
 
 -- the range test that a text says: how the bounds are meant, a colon, and the bounds
-abbrev pub between_in_text : List ℕ → Option ColumnQuestion
+abbrev pub between_in_text : List ℕ → Option ColumnQuery
 between_in_text text = option_and_then (λ h. both (λ options bounds. asked.Between options bounds.0 bounds.1) (mode_in_text h.0) (bounds_in_text h.1)) (halves_at 58 text)
 
--- the question that is a name alone
-abbrev pub plain_question : List ℕ → Option Question
-plain_question w =
-    if bytes_eq w (codes "decode") then Some (questions.Column asked.Decode) else
-    if bytes_eq w (codes "constant") then Some (questions.Column asked.IsConstant) else
-    if bytes_eq w (codes "sorted") then Some (questions.Column (asked.IsSorted false)) else
-    if bytes_eq w (codes "strict") then Some (questions.Column (asked.IsSorted true)) else
-    if bytes_eq w (codes "id") then Some questions.Id else
-    if bytes_eq w (codes "store") then Some questions.Store else
-    if bytes_eq w (codes "migrate") then Some questions.Migrate else None
+-- the query that is a name alone
+abbrev pub plain_query : List ℕ → Option Query
+plain_query w =
+    if bytes_eq w (codes "decode") then Some (queries.Column asked.Decode) else
+    if bytes_eq w (codes "constant") then Some (queries.Column asked.IsConstant) else
+    if bytes_eq w (codes "sorted") then Some (queries.Column (asked.IsSorted false)) else
+    if bytes_eq w (codes "strict") then Some (queries.Column (asked.IsSorted true)) else
+    if bytes_eq w (codes "id") then Some queries.Id else
+    if bytes_eq w (codes "store") then Some queries.Store else
+    if bytes_eq w (codes "migrate") then Some queries.Migrate else None
 
--- the question that a name and the text behind it say
-abbrev pub named_question : List ℕ → List ℕ → Option ColumnQuestion
-named_question name text =
+-- the query that a name and the text behind it say
+abbrev pub named_query : List ℕ → List ℕ → Option ColumnQuery
+named_query name text =
     if bytes_eq name (codes "at") then option_map (λ i. asked.At i) (number_in_word text) else
     if bytes_eq name (codes "between") then between_in_text text else
     both (λ operator constant. asked.Compare operator constant) (operator_in_word name) (constant_in_text text)
 
--- the question that a word says: a name, and where it needs more a colon and a text
-abbrev pub question_in_word : List ℕ → Option Question
-question_in_word w = option_map_or (λ h. option_map (λ question. questions.Column question) (named_question h.0 h.1)) (halves_at 58 w) (plain_question w)
+-- the query that a word says: a name, and where it needs more a colon and a text
+abbrev pub query_in_word : List ℕ → Option Query
+query_in_word w = option_map_or (λ h. option_map (λ query. queries.Column query) (named_query h.0 h.1)) (halves_at 58 w) (plain_query w)
 
 -- ---- runs
--- operations, and the question to their result
+-- operations, and the query to their result
 pub record RunParts : Type 0 where
   pub operations : List Step
-  pub question : Question
+  pub query : Query
 
--- what the words of a run say: the last is the question, and those before it are the operations
+-- what the words of a run say: the last is the query, and those before it are the operations
 abbrev pub run_in_words : List (List ℕ) → Option RunParts
 run_in_words words =
-    both (λ operations question. record { operations = operations; question = question })
-    (each_says operation_in_word (take (length words - 1) words)) (question_in_word (slice_index_or words (length words - 1) []))
+    both (λ operations query. record { operations = operations; query = query })
+    (each_says operation_in_word (take (length words - 1) words)) (query_in_word (slice_index_or words (length words - 1) []))

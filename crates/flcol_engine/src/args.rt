@@ -2,11 +2,11 @@
 
 ghost use Rattle.std.specs.Prelude.{◌≡◌, IfErr, IsTrue, Ok, map, option_map, string_bytes};
 ghost use Rattle.fl_types.specs.Refusals.{Answers};
-ghost use Rattle.flcol_engine.specs.Words.{between_in_text, bound_in_letter, bounds_in_text, column_type_in_word, constant_in_text, encoding_in_word, mode_in_text, named_question, nested_encoding, operator_in_word, packing_in_word, plain_question, ptype_in_word, question_in_word, run_in_words, single_encoding, width_in_word};
+ghost use Rattle.flcol_engine.specs.Words.{between_in_text, bound_in_letter, bounds_in_text, column_type_in_word, constant_in_text, encoding_in_word, mode_in_text, named_query, nested_encoding, operator_in_word, packing_in_word, plain_query, ptype_in_word, query_in_word, run_in_words, single_encoding, width_in_word};
 ghost use Rattle.flcol_engine.specs.Command.{column_command, column_command_of, command_of, encode_in_words, is_run_line, pack_in_words, parts_of_command, parts_of_run, usage_line};
 
 use crate::arg_parts::{number, split_once};
-use crate::commands::{ColumnQuestion, Command, Encode, Encoding, Pack, Packing, Question, Run};
+use crate::commands::{ColumnQuery, Command, Encode, Encoding, Pack, Packing, Query, Run};
 use crate::operations::operations;
 use crate::text;
 use fl_column::{
@@ -190,77 +190,77 @@ fn bounds(text: &[u8]) -> Option<(Option<i128>, Option<i128>)>
 }
 
 /// The range test that a text says: how the bounds are meant, a colon, and the bounds.
-fn between(text: &[u8]) -> Option<ColumnQuestion>
+fn between(text: &[u8]) -> Option<ColumnQuery>
     ensures { result ≡ between_in_text text.now }
 {
     let (letters, rest) = split_once(text, b':')?;
     let options = mode(letters)?;
     let (lower, upper) = bounds(rest)?;
-    Some(ColumnQuestion::Between(options, lower, upper))
+    Some(ColumnQuery::Between(options, lower, upper))
 }
 
-/// The question that is a name alone.
-fn plain(word: &[u8]) -> Option<Question>
-    ensures { result ≡ plain_question word.now }
+/// The query that is a name alone.
+fn plain(word: &[u8]) -> Option<Query>
+    ensures { result ≡ plain_query word.now }
 {
     if word == b"decode".as_slice() {
-        Some(Question::Column(ColumnQuestion::Decode))
+        Some(Query::Column(ColumnQuery::Decode))
     } else if word == b"constant".as_slice() {
-        Some(Question::Column(ColumnQuestion::IsConstant))
+        Some(Query::Column(ColumnQuery::IsConstant))
     } else if word == b"sorted".as_slice() {
-        Some(Question::Column(ColumnQuestion::IsSorted(false)))
+        Some(Query::Column(ColumnQuery::IsSorted(false)))
     } else if word == b"strict".as_slice() {
-        Some(Question::Column(ColumnQuestion::IsSorted(true)))
+        Some(Query::Column(ColumnQuery::IsSorted(true)))
     } else if word == b"id".as_slice() {
-        Some(Question::Id)
+        Some(Query::Id)
     } else if word == b"store".as_slice() {
-        Some(Question::Store)
+        Some(Query::Store)
     } else if word == b"migrate".as_slice() {
-        Some(Question::Migrate)
+        Some(Query::Migrate)
     } else {
         None
     }
 }
 
-/// The question that a name and the text behind it say.
-fn named(name: &[u8], text: &[u8]) -> Option<ColumnQuestion>
-    ensures { result ≡ named_question name.now text.now }
+/// The query that a name and the text behind it say.
+fn named(name: &[u8], text: &[u8]) -> Option<ColumnQuery>
+    ensures { result ≡ named_query name.now text.now }
 {
     if name == b"at".as_slice() {
-        return Some(ColumnQuestion::At(number(text)?));
+        return Some(ColumnQuery::At(number(text)?));
     }
     if name == b"between".as_slice() {
         return between(text);
     }
     let operator = operator(name)?;
     let constant = constant(text)?;
-    Some(ColumnQuestion::Compare(operator, constant))
+    Some(ColumnQuery::Compare(operator, constant))
 }
 
-/// The question that a word says: a name, and where it needs more a colon and a text.
-fn question(word: &[u8]) -> Option<Question>
-    ensures { result ≡ question_in_word word.now }
+/// The query that a word says: a name, and where it needs more a colon and a text.
+fn query(word: &[u8]) -> Option<Query>
+    ensures { result ≡ query_in_word word.now }
 {
     match split_once(word, b':') {
-        Some((name, text)) => Some(Question::Column(named(name, text)?)),
+        Some((name, text)) => Some(Query::Column(named(name, text)?)),
         None => plain(word),
     }
 }
 
-/// What the words of a run say: the last is the question, and those before it are the operations.
+/// What the words of a run say: the last is the query, and those before it are the operations.
 fn run(alloc: Global, words: &[String]) -> Result<Option<Run>, FastLanesError>
     ensures { Answers (option_map parts_of_run) result (Ok (run_in_words (map string_bytes words.now))) }
 {
     let [words @ .., last] = words else {
         return Ok(None);
     };
-    let Some(question) = question(last.as_bytes()) else {
+    let Some(query) = query(last.as_bytes()) else {
         return Ok(None);
     };
     let Some(ops) = operations(alloc, words)? else {
         return Ok(None);
     };
-    Ok(Some(Run { ops, question }))
+    Ok(Some(Run { ops, query }))
 }
 
 /// What the words of `pack` say.

@@ -44,10 +44,10 @@ pub struct Encode {
     pub encoding: Encoding,
 }
 
-/// A question to a column. Compared constants are integers; one that lies outside of every type is
+/// A query to a column. Compared constants are integers; one that lies outside of every type is
 /// `None`.
 #[derive(Clone, Copy, Debug, PartialEq, Eq)]
-pub enum ColumnQuestion {
+pub enum ColumnQuery {
     /// All items.
     Decode,
     /// The item at an index.
@@ -62,11 +62,11 @@ pub enum ColumnQuestion {
     IsSorted(bool),
 }
 
-/// A question to an array.
+/// A query to an array.
 #[derive(Clone, Copy, Debug, PartialEq, Eq)]
-pub enum Question {
+pub enum Query {
     /// One to its column.
-    Column(ColumnQuestion),
+    Column(ColumnQuery),
     /// The id of its encoding.
     Id,
     /// The array itself, as a container.
@@ -75,13 +75,13 @@ pub enum Question {
     Migrate,
 }
 
-/// The command `run`: operations, and the question to their result.
+/// The command `run`: operations, and the query to their result.
 #[derive(Drop)]
 pub struct Run {
     /// The operations, in order.
     pub ops: Vec<Op>,
-    /// The question.
-    pub question: Question,
+    /// The query.
+    pub query: Query,
 }
 
 /// A command of the program.
@@ -91,6 +91,6 @@ pub enum Command {
     Pack(Pack),
     /// Encodes a column of text, as a container.
     Encode(Encode),
-    /// Answers a question to the column of a container.
+    /// Answers a query to the column of a container.
     Run(Run),
 }

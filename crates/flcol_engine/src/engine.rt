@@ -93,11 +93,11 @@ pub fn encode<S: Source, K: Sink>(
     Ok(())
 }
 
-/// Reads a container to the source's end, and writes the answer to the question on what the operations
+/// Reads a container to the source's end, and writes the answer to the query on what the operations
 /// make of its array, and nothing else.
 ///
 /// Refused in this order: `ReadFault`; `BadContainer`; what the container's array is refused with; the
-/// first refusal of the operations in order; the question's; `WriteFault`; and anywhere `OutOfMemory`.
+/// first refusal of the operations in order; the query's; `WriteFault`; and anywhere `OutOfMemory`.
 pub fn run<S: Source, K: Sink>(
     alloc: Global,
     command: &Run,
@@ -108,7 +108,7 @@ pub fn run<S: Source, K: Sink>(
     requires source_unmarked { S.has_failed source.old ≡ false }
     requires sink_unmarked { K.has_failed sink.old ≡ false }
 
-    // The bytes written are the answer to the question on the column, or the array, of the container read.
+    // The bytes written are the answer to the query on the column, or the array, of the container read.
     ensures answer { IfSome (S.left source.old) (λ input.
         IsOutcomeOf (IsRunOutput (parts_of_run command.now) input) result (K.written sink.old) (K.written sink.new)) }
 

@@ -1,4 +1,4 @@
-//! Answers to questions on the arrays of containers.
+//! Answers to queries on the arrays of containers.
 
 ghost use Rattle.std.specs.Prelude.{◌≡◌, [], Ok};
 ghost use Rattle.fl_types.specs.Refusals.{Answers};
@@ -8,10 +8,10 @@ ghost use Rattle.flcol_engine.specs.Command.{parts_of_run};
 ghost use Rattle.flcol_engine.specs.Outputs.{IsAnswer, IsArray, IsRunOutput, IsStored, Meets};
 ghost use Rattle.flcol_engine.specs.Printing.{line};
 
-use crate::commands::{Question, Run};
+use crate::commands::{Query, Run};
 use crate::fault::Fault;
 use crate::printing::print_line;
-use crate::questions::reply;
+use crate::queries::reply;
 use bytes::Bytes;
 use fl_array::ArrayRef;
 use fl_column::FastLanesError;
@@ -63,35 +63,35 @@ fn id_line(alloc: Global, array: &ArrayRef) -> Result<Vec<u8>, FastLanesError>
     print_line(alloc, node_kind(array).id())
 }
 
-/// The answer to a question on an array.
-fn answer_to(alloc: Global, array: &ArrayRef, question: Question) -> Result<Vec<u8>, Fault>
-    ensures { Meets (λ text. text.items) (IsAnswer question [] array.now) result }
+/// The answer to a query on an array.
+fn answer_to(alloc: Global, array: &ArrayRef, query: Query) -> Result<Vec<u8>, Fault>
+    ensures { Meets (λ text. text.items) (IsAnswer query [] array.now) result }
 {
-    match question {
-        Question::Column(question) => Ok(reply(alloc, array, question)?),
-        Question::Id => Ok(id_line(alloc, array)?),
-        Question::Store => store(alloc, array),
-        Question::Migrate => migrate(alloc, array),
+    match query {
+        Query::Column(query) => Ok(reply(alloc, array, query)?),
+        Query::Id => Ok(id_line(alloc, array)?),
+        Query::Store => store(alloc, array),
+        Query::Migrate => migrate(alloc, array),
     }
 }
 
-/// The answer to the question on what the operations make of an array. Without an operation nothing is copied.
+/// The answer to the query on what the operations make of an array. Without an operation nothing is copied.
 #[tactic(auto, using(crate::proofs::RunLemmas::after_operations))]
 fn answer(alloc: Global, array: &ArrayRef, run: &Run) -> Result<Vec<u8>, Fault>
-    ensures { Meets (λ text. text.items) (IsAnswer (parts_of_run run.now).question (parts_of_run run.now).operations array.now) result }
+    ensures { Meets (λ text. text.items) (IsAnswer (parts_of_run run.now).query (parts_of_run run.now).operations array.now) result }
 {
     if run.ops.len() == 0 {
-        return answer_to(alloc, array, run.question);
+        return answer_to(alloc, array, run.query);
     }
     let last = apply_all(alloc, array, &run.ops)?;
-    answer_to(alloc, &last, run.question)
+    answer_to(alloc, &last, run.query)
 }
 
-/// The answer to the question on what the operations make of a container's array.
+/// The answer to the query on what the operations make of a container's array.
 ///
 /// # Errors
 /// The first that holds: `BadContainer`; what the array's node is refused with; the first refusal of
-/// the operations in order; the question's.
+/// the operations in order; the query's.
 pub fn run(alloc: Global, run: &Run, bytes: Vec<u8>) -> Result<Vec<u8>, Fault>
     ensures { Meets (λ text. text.items) (IsRunOutput (parts_of_run run.now) bytes.items) result }
 {

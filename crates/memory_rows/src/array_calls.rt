@@ -1,7 +1,7 @@
 //! Calls on arrays of every kind.
 
 ghost use Rattle.std.specs.Prelude.{IsTrue};
-ghost use Rattle.fl_ops.specs.Questions.{may_ask};
+ghost use Rattle.fl_ops.specs.Queries.{may_ask};
 ghost use Rattle.fl_array.specs.Trees.{column};
 
 use crate::inputs::Inputs;

@@ -20,7 +20,7 @@ pub use Rattle.fl_column.specs.Chunks
 pub use Rattle.fl_column.specs.Columns
 pub use Rattle.fl_column.specs.Numbers
 pub use Rattle.fl_column.specs.Operations
-pub use Rattle.fl_column.specs.Questions
+pub use Rattle.fl_column.specs.Queries
 pub use Rattle.fl_column.specs.Selections
 pub use Rattle.fl_patches.specs.Costs
 pub use Rattle.fl_patches.specs.Exceptions
@@ -107,7 +107,7 @@ pub use Rattle.fl_encode.specs.Texts
 pub use Rattle.fl_ops.specs.CastForms
 pub use Rattle.fl_ops.specs.Normalized
 pub use Rattle.fl_ops.specs.Operations as ArrayOperations
-pub use Rattle.fl_ops.specs.Questions as ArrayQuestions
+pub use Rattle.fl_ops.specs.Queries as ArrayQueries
 pub use Rattle.fl_ops.specs.Results
 pub use Rattle.fl_ops.specs.Selections as ArraySelections
 pub use Rattle.fl_ops.specs.Sums

@@ -1,4 +1,4 @@
-//! Arrays of each plain kind: lists of operations on them, and questions to them.
+//! Arrays of each plain kind: lists of operations on them, and queries to them.
 
 use std::alloc::Global;
 use vortex_fastlanes::array::*;

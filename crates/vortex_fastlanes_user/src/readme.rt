@@ -1,7 +1,7 @@
 //! The example of the README.
 
 ghost use Rattle.std.specs.Prelude.{◌≡◌, ◌≤◌, Ok, IfOk, IsTrue, length};
-ghost use Rattle.vortex_fastlanes.specs.ArrayQuestions.{compare_scalar, is_comparable};
+ghost use Rattle.vortex_fastlanes.specs.ArrayQueries.{compare_scalar, is_comparable};
 ghost use Rattle.vortex_fastlanes.specs.Columns.{column_of_bools, column_of_primitive};
 ghost use Rattle.vortex_fastlanes.specs.Operations.{slice_of};
 ghost use Rattle.vortex_fastlanes.specs.Values.{scalar_parts};

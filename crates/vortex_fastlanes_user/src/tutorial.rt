@@ -1,7 +1,7 @@
 //! The steps of the tutorial, one function each.
 
 ghost use Rattle.std.specs.Prelude.{◌≡◌, ◌≤◌, IfOk, IsTrue, Ok, Some, length, pos};
-ghost use Rattle.vortex_fastlanes.specs.ArrayQuestions.{compare_scalar};
+ghost use Rattle.vortex_fastlanes.specs.ArrayQueries.{compare_scalar};
 ghost use Rattle.vortex_fastlanes.specs.Columns.{column_of_bools, column_of_primitive};
 ghost use Rattle.vortex_fastlanes.specs.NodeColumns.{StandsFor};
 ghost use Rattle.vortex_fastlanes.specs.Operations.{slice_of};

@@ -11,7 +11,7 @@ use Rattle.fl_types.specs.declared.validity.Validity.TheVariants as valid
 use Rattle.fl_types.specs.Integers.{fits, pattern_of, read_as}
 use Rattle.fl_column.specs.Columns.{Column, column_of_primitive, is_column}
 use Rattle.fl_column.specs.Operations.{cast_column, filter_column, ranges_column, slice_column, take_column}
-use Rattle.fl_column.specs.Questions.{are_constant, are_sorted, are_strictly_sorted, between_column, compare_column}
+use Rattle.fl_column.specs.Queries.{are_constant, are_sorted, are_strictly_sorted, between_column, compare_column}
 
 abbrev bytes : List (Option ℤ) → Column
 bytes items = record { dtype = dtypes.Primitive U8 Nullable; items = items }

@@ -1,4 +1,4 @@
-//! Questions to columns, and their answers as text.
+//! Queries to columns, and their answers as text.
 
 ghost use Rattle.std.specs.Prelude.{◌≡◌, Err, IfOk, IfSome, IsTrue, None, Ok, Some, if◌then◌else◌, option_map};
 ghost use Rattle.fl_types.specs.declared.error.FastLanesError.TheVariants.{IndexOutOfBounds};
@@ -6,14 +6,14 @@ ghost use Rattle.fl_types.specs.Integers.{fits};
 ghost use Rattle.fl_types.specs.Refusals.{Answers};
 ghost use Rattle.fl_types.specs.Values.{integer_of, ptype_of_value, scalar_parts};
 ghost use Rattle.fl_column.specs.Columns.{column_of_bools};
-ghost use Rattle.fl_column.specs.Questions.{scalar_of_column};
+ghost use Rattle.fl_column.specs.Queries.{scalar_of_column};
 ghost use Rattle.fl_array.specs.Trees.{column};
-ghost use Rattle.fl_ops.specs.Questions.{is_comparable, mapped};
-ghost use Rattle.flcol_engine.specs.declared.commands.ColumnQuestion.TheVariants.{Between, Compare};
+ghost use Rattle.fl_ops.specs.Queries.{is_comparable, mapped};
+ghost use Rattle.flcol_engine.specs.declared.commands.ColumnQuery.TheVariants.{Between, Compare};
 ghost use Rattle.flcol_engine.specs.Printing.{column_text, scalar_text};
 ghost use Rattle.flcol_engine.specs.Replies.{constant_of_type, reply};
 
-use crate::commands::ColumnQuestion;
+use crate::commands::ColumnQuery;
 use crate::printing::{print_bools, print_integers, print_scalar, print_truth};
 use fl_array::ArrayRef;
 use fl_column::{
@@ -129,27 +129,23 @@ fn between(
     print_bools(alloc, &bools)
 }
 
-/// The answer of an array's column to a question, as text: a line for each item, or one line.
+/// The answer of an array's column to a query, as text: a line for each item, or one line.
 ///
 /// # Errors
 /// `NotInteger` where a column of booleans is compared, or asked for its order or whether it is
 /// constant; `TypeMismatch` for a constant that the column's type doesn't have; `IndexOutOfBounds` for
 /// an item beyond the length.
-pub fn reply(
-    alloc: Global,
-    array: &ArrayRef,
-    question: ColumnQuestion,
-) -> Result<Vec<u8>, FastLanesError>
-    ensures { Answers (λ text. text.items) result (reply question (column array.now)) }
+pub fn reply(alloc: Global, array: &ArrayRef, query: ColumnQuery) -> Result<Vec<u8>, FastLanesError>
+    ensures { Answers (λ text. text.items) result (reply query (column array.now)) }
 {
-    match question {
-        ColumnQuestion::Decode => decode(alloc, array),
-        ColumnQuestion::At(i) => item_at(alloc, array, i),
-        ColumnQuestion::Compare(operator, constant) => compare(alloc, array, operator, constant),
-        ColumnQuestion::Between(options, lower, upper) => {
+    match query {
+        ColumnQuery::Decode => decode(alloc, array),
+        ColumnQuery::At(i) => item_at(alloc, array, i),
+        ColumnQuery::Compare(operator, constant) => compare(alloc, array, operator, constant),
+        ColumnQuery::Between(options, lower, upper) => {
             between(alloc, array, options, lower, upper)
         }
-        ColumnQuestion::IsConstant => print_truth(alloc, array.is_constant(alloc)?),
-        ColumnQuestion::IsSorted(strict) => print_truth(alloc, array.is_sorted(alloc, strict)?),
+        ColumnQuery::IsConstant => print_truth(alloc, array.is_constant(alloc)?),
+        ColumnQuery::IsSorted(strict) => print_truth(alloc, array.is_sorted(alloc, strict)?),
     }
 }
