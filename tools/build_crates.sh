@@ -37,7 +37,7 @@ begin() {
     mkdir -p "$room/crates/$1" && [ -d "$at/out" ] && { flock 8 && mv "$at/out" "$room/crates/$1/"; } 8<"$at"
     (shopt -s nullglob && cd "$here" && cp -al --parents crates.txt crates/*/{src,specs,proofs,out/rlib} "$room")
     command=(lib) at=$room/crates/$1
-    ((share[$1] < $(nproc))) && command+=(--jobs "${share[$1]}")
+    command+=(--jobs "${share[$1]}")
   fi
   (cd "$at" && exec rt "${command[@]}" </dev/null >"$rooms/$1.log" 2>&1) &
   crate_of[$!]=$1 begun[$1]=$SECONDS && say "proving $1"
@@ -56,16 +56,20 @@ end() {
   local room && for room in "$rooms"/*/; do leave "$(basename "$room")"; done && rm -rf "$rooms"
 }
 
-# Proves all. As a check keeps two thirds of its jobs busy, there are half as many again as processors, each in 2.5 GB.
+# Proves all. As a check keeps two thirds of its jobs busy, a crate gets at most half as many again as there are
+# processors. All crates together get two for each processor, as a crate keeps the jobs that it began with when others
+# end. A job takes up to 2.5 GB.
 build() {
-  local most free crate ready at pid status
-  most=$(($(nproc) * 3 / 2)) free=$(($(sed -n 's/^MemAvailable: *\([0-9]*\).*/\1/p' /proc/meminfo) / 2500000))
+  local most each free crate ready at pid status
+  most=$(($(nproc) * 2)) each=$(($(nproc) * 3 / 2))
+  free=$(($(sed -n 's/^MemAvailable: *\([0-9]*\).*/\1/p' /proc/meminfo) / 2500000))
   ((free = free < 1 ? 1 : free < most ? free : most))
   end && mkdir -p "$rooms" && trap end EXIT && trap 'exit 129' HUP && trap 'exit 130' INT && trap 'exit 143' TERM
   while ((${#proved[@]} < ${#crates[@]})); do
     ready=() && for crate in "${crates[@]}"; do is_ready "$crate" && ((${#ready[@]} < free)) && ready+=("$crate"); done
     for at in "${!ready[@]}"; do
       crate=${ready[at]} share[${ready[at]}]=$((free / (${#ready[@]} - at)))
+      ((share[$crate] = share[$crate] < each ? share[$crate] : each))
       begin "$crate" && ((free -= share[$crate]))
     done
     wait -n -p pid
