@@ -87,6 +87,19 @@ widest _ _ t bits_64 e not_8 not_16 not_32 = refl
 pub has_64_rows : (T lanes t : ℕ) → IsWordWidth T lanes → t ≡ T → (t ≡ 8 → ⊥) → (t ≡ 16 → ⊥) → (t ≡ 32 → ⊥) → 64 ≤ T
 has_64_rows T lanes t shape e not_8 not_16 not_32 = let wide = widest T lanes t shape e not_8 not_16 not_32 in omega arith
 
+-- the rows of a word of more than 8 bits are parts of sixteen
+pub whole_parts : (T lanes t : ℕ) → IsWordWidth T lanes → t ≡ T → (t ≡ 8 → ⊥) → 16 * (t / 16) ≡ T
+whole_parts _ _ t bits_8 e not_8 = absurd (not_8 e)
+whole_parts _ _ t bits_16 e not_8 = rw e refl
+whole_parts _ _ t bits_32 e not_8 = rw e refl
+whole_parts _ _ t bits_64 e not_8 = rw e refl
+
+pub has_four_parts : (T lanes part : ℕ) → IsWordWidth T lanes → 16 * part + 16 ≤ T → part < 4
+has_four_parts _ _ part bits_8 h = omega arith
+has_four_parts _ _ part bits_16 h = omega arith
+has_four_parts _ _ part bits_32 h = omega arith
+has_four_parts _ _ part bits_64 h = omega arith
+
 pub written_all : (rows lanes : ℕ) (at value : ℕ → ℕ → ℕ) (g to : ℕ) (old new : ℕ → ℕ) → to ≡ rows → WritesRows rows lanes at value g 0 to old new → WritesRows rows lanes at value g 0 rows old new
 written_all rows lanes at value g to old new e written = rw e at written
 

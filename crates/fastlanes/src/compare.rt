@@ -119,50 +119,36 @@ fn compare_16<
     compare_8::<W, S, F>(width, words, cmp, rhs, FROM + 8, g, answers)
 }
 
-/// The answers for the 32 rows of the lanes of group `g`.
-fn compare_32<
+/// Adds the answers for rows `16 * part` to `16 * part + 15` of the lanes of group `g` to those for the rows below.
+#[inline(always)]
+#[tactic(auto, using(crate::proofs::RowWrites::has_four_parts))]
+fn compare_part<
     W: FastLanes,
     S: Storage<W>,
     F: Fn(W, W) -> bool,
     const WIDTH_BASE: usize,
     const WIDTH_STEP: usize,
->(width: usize, words: &[S::Unit], cmp: &F, rhs: W, g: usize, answers: Simd<W, 16>) -> Simd<W, 16>
-    requires row { 32 ≤ W.T }
+>(
+    part: usize,
+    width: usize,
+    words: &[S::Unit],
+    cmp: &F,
+    rhs: W,
+    g: usize,
+    answers: Simd<W, 16>,
+) -> Simd<W, 16>
+    requires rows { 16 * part + 16 ≤ W.T }
     requires group { IsGroup W.T W.LANES width (S.count (length words.now)) g }
     requires callable { F.IsAlwaysCallable cmp.now }
-    requires answers { Compares W.pattern (F.post cmp.now) rhs (item_of_row W.T W.LANES width (S.word words.now)) g 0 (W.lane answers) }
-    ensures answers { Compares W.pattern (F.post cmp.now) rhs (item_of_row W.T W.LANES width (S.word words.now)) g 32 (W.lane result) }
+    requires answers { Compares W.pattern (F.post cmp.now) rhs (item_of_row W.T W.LANES width (S.word words.now)) g (16 * part) (W.lane answers) }
+    ensures answers { Compares W.pattern (F.post cmp.now) rhs (item_of_row W.T W.LANES width (S.word words.now)) g (16 * (part + 1)) (W.lane result) }
 {
-    let answers = compare_16::<W, S, F, WIDTH_BASE, WIDTH_STEP, 0>(
-        width, words, cmp, rhs, g, answers,
-    );
-    compare_16::<W, S, F, WIDTH_BASE, WIDTH_STEP, 16>(width, words, cmp, rhs, g, answers)
-}
-
-/// The answers for the 64 rows of the lanes of group `g`.
-fn compare_64<
-    W: FastLanes,
-    S: Storage<W>,
-    F: Fn(W, W) -> bool,
-    const WIDTH_BASE: usize,
-    const WIDTH_STEP: usize,
->(width: usize, words: &[S::Unit], cmp: &F, rhs: W, g: usize, answers: Simd<W, 16>) -> Simd<W, 16>
-    requires row { 64 ≤ W.T }
-    requires group { IsGroup W.T W.LANES width (S.count (length words.now)) g }
-    requires callable { F.IsAlwaysCallable cmp.now }
-    requires answers { Compares W.pattern (F.post cmp.now) rhs (item_of_row W.T W.LANES width (S.word words.now)) g 0 (W.lane answers) }
-    ensures answers { Compares W.pattern (F.post cmp.now) rhs (item_of_row W.T W.LANES width (S.word words.now)) g 64 (W.lane result) }
-{
-    let answers = compare_16::<W, S, F, WIDTH_BASE, WIDTH_STEP, 0>(
-        width, words, cmp, rhs, g, answers,
-    );
-    let answers = compare_16::<W, S, F, WIDTH_BASE, WIDTH_STEP, 16>(
-        width, words, cmp, rhs, g, answers,
-    );
-    let answers = compare_16::<W, S, F, WIDTH_BASE, WIDTH_STEP, 32>(
-        width, words, cmp, rhs, g, answers,
-    );
-    compare_16::<W, S, F, WIDTH_BASE, WIDTH_STEP, 48>(width, words, cmp, rhs, g, answers)
+    match part {
+        0 => compare_16::<W, S, F, WIDTH_BASE, WIDTH_STEP, 0>(width, words, cmp, rhs, g, answers),
+        1 => compare_16::<W, S, F, WIDTH_BASE, WIDTH_STEP, 16>(width, words, cmp, rhs, g, answers),
+        2 => compare_16::<W, S, F, WIDTH_BASE, WIDTH_STEP, 32>(width, words, cmp, rhs, g, answers),
+        _ => compare_16::<W, S, F, WIDTH_BASE, WIDTH_STEP, 48>(width, words, cmp, rhs, g, answers),
+    }
 }
 
 /// No answer yet.
@@ -174,6 +160,8 @@ fn no_answers<W: FastLanes>() -> Simd<W, 16>
 }
 
 /// The answers for all rows of the lanes of group `g`.
+///
+/// The loop keeps sixteen rows apart from the next ones, as the compiler takes twice as long for all of them together.
 #[inline(always)]
 #[tactic(auto, using(crate::proofs::ComparedBits::answers_none))]
 fn compare_group<
@@ -187,17 +175,16 @@ fn compare_group<
     requires callable { F.IsAlwaysCallable cmp.now }
     ensures answers { Compares W.pattern (F.post cmp.now) rhs (item_of_row W.T W.LANES width (S.word words.now)) g W.T (W.lane result) }
 {
-    let answers = no_answers::<W>();
-    let t = bits::<W>();
-    if t == 8 {
-        compare_8::<W, S, F>(width, words, cmp, rhs, 0, g, answers)
-    } else if t == 16 {
-        compare_16::<W, S, F, WIDTH_BASE, WIDTH_STEP, 0>(width, words, cmp, rhs, g, answers)
-    } else if t == 32 {
-        compare_32::<W, S, F, WIDTH_BASE, WIDTH_STEP>(width, words, cmp, rhs, g, answers)
-    } else {
-        compare_64::<W, S, F, WIDTH_BASE, WIDTH_STEP>(width, words, cmp, rhs, g, answers)
+    let mut answers = no_answers::<W>();
+    if bits::<W>() == 8 {
+        return compare_8::<W, S, F>(width, words, cmp, rhs, 0, g, answers);
     }
+    for part in 0..bits::<W>() / 16 {
+        answers = compare_part::<W, S, F, WIDTH_BASE, WIDTH_STEP>(
+            part, width, words, cmp, rhs, g, answers,
+        );
+    }
+    answers
 }
 
 /// Writes the words of the lanes of group `g`, the low byte first.

@@ -122,53 +122,49 @@ fn unpack_16<
     unpack_8::<W, S, ADDS_REFERENCE>(width, words, reference, FROM + 8, g, items);
 }
 
-/// Writes the items at the 32 rows of the lanes of group `g`, plus the reference.
-fn unpack_32<
+/// Writes the items at rows `16 * part` to `16 * part + 15` of the lanes of group `g`, plus the reference.
+#[inline(always)]
+#[tactic(auto, using(crate::proofs::RowWrites::has_four_parts))]
+fn unpack_part<
     W: FastLanes,
     S: Storage<W>,
     const ADDS_REFERENCE: bool,
     const WIDTH_BASE: usize,
     const WIDTH_STEP: usize,
->(width: usize, words: &[S::Unit], reference: Simd<W, 16>, g: usize, items: &mut [W; FL_CHUNK_SIZE])
+>(
+    part: usize,
+    width: usize,
+    words: &[S::Unit],
+    reference: Simd<W, 16>,
+    g: usize,
+    items: &mut [W; FL_CHUNK_SIZE],
+)
     requires reference { IsReference ADDS_REFERENCE (W.lane reference) }
-    requires row { 32 ≤ W.T }
+    requires rows { 16 * part + 16 ≤ W.T }
     requires group { IsGroup W.T W.LANES width (S.count (length words.now)) g }
-    ensures written { WritesRows W.T W.LANES place (item_with_reference W.T W.LANES width (S.word words.now) (W.lane reference)) g 0 32 (pattern_at W.pattern items.old) (pattern_at W.pattern items.new) }
+    ensures written { WritesRows W.T W.LANES place (item_with_reference W.T W.LANES width (S.word words.now) (W.lane reference)) g (16 * part) (16 * (part + 1)) (pattern_at W.pattern items.old) (pattern_at W.pattern items.new) }
 {
-    unpack_16::<W, S, ADDS_REFERENCE, WIDTH_BASE, WIDTH_STEP, 0>(width, words, reference, g, items);
-    unpack_16::<W, S, ADDS_REFERENCE, WIDTH_BASE, WIDTH_STEP, 16>(
-        width, words, reference, g, items,
-    );
-}
-
-/// Writes the items at the 64 rows of the lanes of group `g`, plus the reference.
-fn unpack_64<
-    W: FastLanes,
-    S: Storage<W>,
-    const ADDS_REFERENCE: bool,
-    const WIDTH_BASE: usize,
-    const WIDTH_STEP: usize,
->(width: usize, words: &[S::Unit], reference: Simd<W, 16>, g: usize, items: &mut [W; FL_CHUNK_SIZE])
-    requires reference { IsReference ADDS_REFERENCE (W.lane reference) }
-    requires row { 64 ≤ W.T }
-    requires group { IsGroup W.T W.LANES width (S.count (length words.now)) g }
-    ensures written { WritesRows W.T W.LANES place (item_with_reference W.T W.LANES width (S.word words.now) (W.lane reference)) g 0 64 (pattern_at W.pattern items.old) (pattern_at W.pattern items.new) }
-{
-    unpack_16::<W, S, ADDS_REFERENCE, WIDTH_BASE, WIDTH_STEP, 0>(width, words, reference, g, items);
-    unpack_16::<W, S, ADDS_REFERENCE, WIDTH_BASE, WIDTH_STEP, 16>(
-        width, words, reference, g, items,
-    );
-    unpack_16::<W, S, ADDS_REFERENCE, WIDTH_BASE, WIDTH_STEP, 32>(
-        width, words, reference, g, items,
-    );
-    unpack_16::<W, S, ADDS_REFERENCE, WIDTH_BASE, WIDTH_STEP, 48>(
-        width, words, reference, g, items,
-    );
+    match part {
+        0 => unpack_16::<W, S, ADDS_REFERENCE, WIDTH_BASE, WIDTH_STEP, 0>(
+            width, words, reference, g, items,
+        ),
+        1 => unpack_16::<W, S, ADDS_REFERENCE, WIDTH_BASE, WIDTH_STEP, 16>(
+            width, words, reference, g, items,
+        ),
+        2 => unpack_16::<W, S, ADDS_REFERENCE, WIDTH_BASE, WIDTH_STEP, 32>(
+            width, words, reference, g, items,
+        ),
+        _ => unpack_16::<W, S, ADDS_REFERENCE, WIDTH_BASE, WIDTH_STEP, 48>(
+            width, words, reference, g, items,
+        ),
+    }
 }
 
 /// Writes the items at all rows of the lanes of group `g`, plus the reference.
+///
+/// The loop keeps sixteen rows apart from the next ones, as the compiler takes twice as long for all of them together.
 #[inline(always)]
-#[tactic(auto, using(crate::proofs::RowWrites::has_64_rows))]
+#[tactic(auto, using(crate::proofs::RowWrites::whole_parts))]
 fn unpack_group<
     W: FastLanes,
     S: Storage<W>,
@@ -180,20 +176,13 @@ fn unpack_group<
     requires group { IsGroup W.T W.LANES width (S.count (length words.now)) g }
     ensures written { WritesRows W.T W.LANES place (item_with_reference W.T W.LANES width (S.word words.now) (W.lane reference)) g 0 W.T (pattern_at W.pattern items.old) (pattern_at W.pattern items.new) }
 {
-    let t = bits::<W>();
-    if t == 8 {
+    if bits::<W>() == 8 {
         unpack_8::<W, S, ADDS_REFERENCE>(width, words, reference, 0, g, items);
-    } else if t == 16 {
-        unpack_16::<W, S, ADDS_REFERENCE, WIDTH_BASE, WIDTH_STEP, 0>(
-            width, words, reference, g, items,
-        );
-    } else if t == 32 {
-        unpack_32::<W, S, ADDS_REFERENCE, WIDTH_BASE, WIDTH_STEP>(
-            width, words, reference, g, items,
-        );
-    } else {
-        unpack_64::<W, S, ADDS_REFERENCE, WIDTH_BASE, WIDTH_STEP>(
-            width, words, reference, g, items,
+        return;
+    }
+    for part in 0..bits::<W>() / 16 {
+        unpack_part::<W, S, ADDS_REFERENCE, WIDTH_BASE, WIDTH_STEP>(
+            part, width, words, reference, g, items,
         );
     }
 }
