@@ -6,7 +6,7 @@
 newer=x86-64-v3 newer_has=(avx2 bmi1 bmi2 fma f16c movbe abm)
 
 rooms=$here/out/rooms crates=()
-declare -A below=() begun=() share=() crate_of=() proved=()
+declare -A below=() niceness=() begun=() share=() crate_of=() proved=()
 
 # Adds the crates of this repository that one stands on, lowest first, and itself.
 add_crate() {
@@ -15,6 +15,23 @@ add_crate() {
   below[$1]=$(sed -n "s/^$1\( [^:]*\)\{0,1\}://p" "$here/crates.txt")
   for dep in ${below[$1]}; do add_crate "$dep"; done
   crates+=("$1")
+}
+
+# Sets the priority of each crate: those of the longest chains go first, as all else waits for them.
+measure_chains() {
+  local at dep crate
+  local -A depth=() above=()
+  for at in "${crates[@]}"; do
+    depth[$at]=1
+    for dep in ${below[$at]}; do ((depth[$at] = depth[$at] > ${depth[$dep]-0} ? depth[$at] : depth[$dep] + 1)); done
+  done
+  for ((at = ${#crates[@]} - 1; at >= 0; at--)); do
+    crate=${crates[at]}
+    for dep in ${below[$crate]}; do
+      ((above[$dep] = ${above[$dep]-0} > ${above[$crate]-0} ? above[$dep] : ${above[$crate]-0} + 1))
+    done
+    niceness[$crate]=$((depth[$crate] + ${above[$crate]-0} < depth[$target] ? 10 : 0))
+  done
 }
 
 # Whether the product is there, and newer than all that its crates are made of.
@@ -39,7 +56,7 @@ begin() {
     command=(lib) at=$room/crates/$1
     command+=(--jobs "${share[$1]}")
   fi
-  (cd "$at" && exec rt "${command[@]}" </dev/null >"$rooms/$1.log" 2>&1) &
+  (cd "$at" && exec nice -n "${niceness[$1]}" rt "${command[@]}" </dev/null >"$rooms/$1.log" 2>&1) &
   crate_of[$!]=$1 begun[$1]=$SECONDS && say "proving $1"
 }
 
@@ -58,19 +75,24 @@ end() {
 
 # Proves all. As a check keeps two thirds of its jobs busy, a crate gets at most half as many again as there are
 # processors. All crates together get two for each processor, as a crate keeps the jobs that it began with when others
-# end. A job takes up to 2.5 GB.
+# end. A crate that is on no longest chain gets at most half as many as there are processors. A job takes up to 2.5 GB.
 build() {
-  local most each free crate ready at pid status
-  most=$(($(nproc) * 2)) each=$(($(nproc) * 3 / 2))
+  local most each free nice crate ready at pid status
+  most=$(($(nproc) * 2))
   free=$(($(sed -n 's/^MemAvailable: *\([0-9]*\).*/\1/p' /proc/meminfo) / 2500000))
   ((free = free < 1 ? 1 : free < most ? free : most))
   end && mkdir -p "$rooms" && trap end EXIT && trap 'exit 129' HUP && trap 'exit 130' INT && trap 'exit 143' TERM
   while ((${#proved[@]} < ${#crates[@]})); do
-    ready=() && for crate in "${crates[@]}"; do is_ready "$crate" && ((${#ready[@]} < free)) && ready+=("$crate"); done
-    for at in "${!ready[@]}"; do
-      crate=${ready[at]} share[${ready[at]}]=$((free / (${#ready[@]} - at)))
-      ((share[$crate] = share[$crate] < each ? share[$crate] : each))
-      begin "$crate" && ((free -= share[$crate]))
+    for nice in 0 10; do
+      each=$((nice ? ($(nproc) + 1) / 2 : $(nproc) * 3 / 2))
+      ready=() && for crate in "${crates[@]}"; do
+        ((niceness[$crate] == nice && ${#ready[@]} < free)) && is_ready "$crate" && ready+=("$crate")
+      done
+      for at in "${!ready[@]}"; do
+        crate=${ready[at]} share[${ready[at]}]=$((free / (${#ready[@]} - at)))
+        ((share[$crate] = share[$crate] < each ? share[$crate] : each))
+        begin "$crate" && ((free -= share[$crate]))
+      done
     done
     wait -n -p pid
     status=$? crate=${crate_of[$pid]} && unset "crate_of[$pid]"
@@ -98,5 +120,6 @@ processor() {
 make_current() {
   target=$1 product=$2 words=("${@:3}")
   add_crate "$target"
+  measure_chains
   is_current || { flock 9 && { is_current || build; }; } 9<"$here/crates" >&2
 }
