@@ -22,10 +22,9 @@ ghost use Rattle.fl_codec.specs.Runs.{indices_to, offsets_to, run_validity, valu
 
 use crate::chunks::chunk_count;
 use crate::plain::{non_nullable, with_validity};
-use crate::rle::blocks::write_runs;
+use crate::rle::blocks::push_chunk;
 pub use crate::rle::decoding::{decode, decode_into};
 use fastlanes::{FL_CHUNK_SIZE, FastLanes};
-use fl_column::patterns::push_values;
 use fl_column::{PhysicalPType, PrimitiveArray};
 use fl_types::{BitList, FastLanesError, PValue, Validity, match_each_integer_ptype};
 use std::alloc::{AllocError, Global};
@@ -59,10 +58,8 @@ fn push_runs<T: PhysicalPType>(
     ensures values { OnOk result (map T.value values.new.items ≡ values_to (items_of_primitive array.now) (k + 1)) }
     ensures indices { OnOk result (indices.new.items ≡ indices_to (items_of_primitive array.now) (k + 1)) }
 {
-    let words = write_runs::<T>(array, k, block, rle, positions);
-    push_values(words, values)?;
-    indices.extend_from_slice(&positions[..])?;
-    Ok(())
+    push_chunk(array, k, block, rle, positions, values)?;
+    indices.extend_from_slice(&positions[..])
 }
 
 /// These bits, and after them as many that are not set as make this many of them.

@@ -60,8 +60,8 @@ pub fn write_indices(array: &PrimitiveArray, k: usize, positions: &mut [u16; FL_
     match_each_integer_ptype!(array.ptype(), write_indices_typed(array, k, positions))
 }
 
-/// Appends the run values of chunk `k`.
-fn push_chunk<T: PhysicalPType>(
+/// Appends the run values of chunk `k`, which starts new runs, and writes the run index of each of its positions.
+pub(crate) fn push_chunk<T: PhysicalPType>(
     array: &PrimitiveArray,
     k: usize,
     block: &mut [T::Physical; FL_CHUNK_SIZE],
@@ -72,7 +72,8 @@ fn push_chunk<T: PhysicalPType>(
     requires same { array.now.ptype ≡ T.PTYPE }
     requires chunk { 1024 * k ≤ length array.now.slots }
     requires values { map T.value values.old.items ≡ values_to (items_of_primitive array.now) k }
-    ensures { OnOk result (map T.value values.new.items ≡ values_to (items_of_primitive array.now) (k + 1)) }
+    ensures values { OnOk result (map T.value values.new.items ≡ values_to (items_of_primitive array.now) (k + 1)) }
+    ensures indices { indices_to (items_of_primitive array.now) k ++ positions.new ≡ indices_to (items_of_primitive array.now) (k + 1) }
 {
     let words = write_runs::<T>(array, k, block, rle, positions);
     push_values(words, values)

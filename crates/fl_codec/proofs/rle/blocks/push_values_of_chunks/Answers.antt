@@ -13,7 +13,7 @@ loop-k-preserved g c =
     let k = c.loop-k.k in
     let count : length c.as_slice.result.now ≡ length (values_to items k) = ap length c.as_slice.ensures.value ∙ (sym (length-map c.loop-k.values.items value) ∙ ap length c.loop-k.invariant.values) in
     record {
-      values = c.in_ok-push_chunk.ensures;
+      values = c.in_ok-push_chunk.ensures.values;
       offsets = c.in_ok-push.ensures.items ∙ (ap (λ xs. xs ++ length c.as_slice.result.now ∷ []) c.loop-k.invariant.offsets ∙ (ap (λ n. offsets_to items k ++ n ∷ []) count ∙ sym (table_more (λ j. length (values_to items j)) k)));
     }
 
