@@ -20,10 +20,10 @@ use Rattle.fl_column.specs.Chunks.{chunk_count}
 use Rattle.fl_codec.specs.FoRColumns.{chunked_for, global_for, plus_reference}
 use Rattle.fl_bitpacking.proofs.SoundParts.{neither, positions, same_ptype_is}
 use Rattle.fl_codec.proofs.FoRSlices.{scalar_plus, integers_of-slice, item_of_chunked, item_of_global, slice_of_chunked, slice_of_global, non_nullable_slots}
-use Rattle.fl_bitpacking.specs.Refusals.{positions_refusal}
+use Rattle.fl_bitpacking.specs.Refusals.{otherwise, positions_refusal}
 use Rattle.fl_codec.specs.ChunkSlices.{end_chunk, first_chunk}
 use Rattle.fl_array.proofs.FoRLaws.{for_dtype}
-use Rattle.fl_array.specs.FoRArrays.{ChunkReferences, FoRArrayParts, FoRReferencesParts, GlobalReference, for_refusal, for_tree, has_no_constant, reference_count_refusal, reference_refusal, reference_type_refusal, references_of, refusal_of_for, tree_of_for}
+use Rattle.fl_array.specs.FoRArrays.{ChunkReferences, FoRArrayParts, FoRReferencesParts, GlobalReference, for_chunked_refusal, for_refusal, for_tree, has_no_constant, reference_count_refusal, reference_refusal, reference_type_refusal, references_of, refusal_of_for, tree_of_for}
 use Rattle.fl_array.specs.Reads.{constant_in, integer_column}
 use Rattle.fl_array.specs.Trees.{Tree, Primitive, Constant, BitPackedGlobal, BitPackedBlocked, FoRGlobal, FoRChunked, Delta, RLE, column}
 use Rattle.fl_array.specs.Trees as tree
@@ -228,3 +228,16 @@ pub held_some : (t : Tree) (offset : ℕ) (scalar : ScalarParts) → (let some :
 held_some t offset scalar h = let there = scalar_there (constant_in t) scalar h in some_constant t offset there.0 there.1 ∙ ap GlobalReference there.2
 
 pub ruleset references_by_constant = (held_none, held_some)
+
+-- why items and the references of their chunks make no array, by what was read of the references
+pub refused_by_count : (encoded : Column) (references : Tree) (offset : ℕ) (r : Option FastLanesError) (e : FastLanesError) → r ≡ reference_count_refusal offset (length encoded.items) encoded.dtype (length (column references).items) → r ≡ Some e → Some e ≡ for_chunked_refusal encoded references offset
+refused_by_count encoded references offset r e counted is = ap (λ (x : Option FastLanesError). otherwise x (for_refusal encoded (references_of references offset))) (sym is ∙ counted)
+
+pub refused_as_one : (encoded : Column) (references : Tree) (offset : ℕ) (reference : ScalarParts) (r : Option FastLanesError) → r ≡ reference_count_refusal offset (length encoded.items) encoded.dtype (length (column references).items) → r ≡ None → references_of references offset ≡ GlobalReference reference → reference_refusal encoded.dtype reference ≡ for_chunked_refusal encoded references offset
+refused_as_one encoded references offset reference r counted is one =
+    sym (ap (λ (x : Option FastLanesError). otherwise x (for_refusal encoded (references_of references offset))) (sym counted ∙ is) ∙ ap (for_refusal encoded) one)
+
+pub refused_by_type : (encoded : Column) (references : Tree) (offset : ℕ) (r : Option FastLanesError) → r ≡ reference_count_refusal offset (length encoded.items) encoded.dtype (length (column references).items) → r ≡ None → references_of references offset ≡ ChunkReferences references offset → reference_type_refusal encoded.dtype (column references).dtype ≡ for_chunked_refusal encoded references offset
+refused_by_type encoded references offset r counted is chunks =
+    let none = sym counted ∙ is in
+    sym (ap (λ (x : Option FastLanesError). otherwise x (for_refusal encoded (references_of references offset))) none ∙ (ap (for_refusal encoded) chunks ∙ ap (λ (x : Option FastLanesError). otherwise x (reference_type_refusal encoded.dtype (column references).dtype)) none))

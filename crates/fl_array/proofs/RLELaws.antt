@@ -1,6 +1,7 @@
 -- Run-length encoded arrays: their column, items and slices.
 use Rattle.std.proofs.Common.{◌≡◌, ℕ, ℤ, pos, ◌+◌, ◌-◌, ◌*◌, ◌/◌, ◌%◌, ◌<◌, ◌≤◌, List, length, get_or, refl, ap, subst, sym, ◌∙◌, true, false, None, Some, Ok, Err, IsTrue, arith}
 use Rattle.std.specs.Prelude.{IfOk, Option, Result, is_none, is_some, option_map, unsigned_abs, unwrap_or}
+use Rattle.std.proofs.lemmas.Bool.{le-ltb, lt-ltb}
 use Rattle.std.proofs.lemmas.List.{get_or-map}
 use Rattle.fl_types.specs.declared.dtype.DType.{DType}
 use Rattle.fl_types.specs.declared.dtype.DType.TheVariants as dtypes
@@ -250,6 +251,53 @@ kept_by_slice a start end h order room =
       within = values_within (length (column a.values).items) (column a.indices).items (numbers_of (column a.offsets)) (first_chunk a.window.offset start) (end_chunk a.window.offset end) sound.numbers (omega arith);
       shown = omega arith;
     }
+
+-- where the run values that a slice keeps start and end, as it was read
+pub record IsKept (a : RLEArrayParts) (start end low high : ℕ) : Type 0 where
+  pub from : low ≡ kept_values_start (numbers_of (column a.offsets)) (first_chunk a.window.offset start) (end_chunk a.window.offset end)
+  pub to : high ≡ kept_values_end (numbers_of (column a.offsets)) (length (column a.values).items) (first_chunk a.window.offset start) (end_chunk a.window.offset end)
+  pub order : low ≤ high
+  pub within : high ≤ length (column a.values).items
+
+start_of_some : (offsets : List ℕ) (first last : ℕ) → first < last → chunk_start offsets first ≡ kept_values_start offsets first last
+start_of_some offsets first last some = rw (lt-ltb first last some) refl
+
+end_before : (offsets : List ℕ) (count first last : ℕ) → first < last → last < length offsets → chunk_start offsets last ≡ kept_values_end offsets count first last
+end_before offsets count first last some more =
+    let behind : last - 1 + 1 ≡ last = omega arith in
+    rw (lt-ltb first last some, behind, lt-ltb last (length offsets) more) refl
+
+end_of_all : (offsets : List ℕ) (count first last : ℕ) → first < last → length offsets ≤ last → count ≡ kept_values_end offsets count first last
+end_of_all offsets count first last some all =
+    let behind : last - 1 + 1 ≡ last = omega arith in
+    rw (lt-ltb first last some, behind, le-ltb last (length offsets) all) refl
+
+kept_as : (a : RLEArrayParts) (start end low high : ℕ) → KeepsRuns a start end
+    → low ≡ kept_values_start (numbers_of (column a.offsets)) (first_chunk a.window.offset start) (end_chunk a.window.offset end)
+    → high ≡ kept_values_end (numbers_of (column a.offsets)) (length (column a.values).items) (first_chunk a.window.offset start) (end_chunk a.window.offset end)
+    → IsKept a start end low high
+kept_as a start end low high keeps e f = record { from = e; to = f; order = rw (e, f) keeps.order; within = rw f keeps.within }
+
+-- up to the chunk behind those that are kept
+pub kept_before : (a : RLEArrayParts) (start end first last low high : ℕ) → refusal_of_rle a ≡ None → start ≤ end → end ≤ length (column (tree_of_rle a)).items
+    → first ≡ first_chunk a.window.offset start → last ≡ end_chunk a.window.offset end → first_chunk a.window.offset start < end_chunk a.window.offset end → last < length (column a.offsets).items
+    → low ≡ chunk_start (numbers_of (column a.offsets)) first → high ≡ chunk_start (numbers_of (column a.offsets)) last → IsKept a start end low high
+kept_before a start end first last low high h order range f g some more e k =
+    let long = (sound_rle a h).long in
+    let more_numbers : last < length (numbers_of (column a.offsets)) = rw long more in
+    let low_is = ap (chunk_start (numbers_of (column a.offsets))) f ∙ start_of_some (numbers_of (column a.offsets)) _ _ some in
+    let high_is = ap (chunk_start (numbers_of (column a.offsets))) g ∙ end_before (numbers_of (column a.offsets)) (length (column a.values).items) _ _ some (rw g at more_numbers) in
+    kept_as a start end low high (kept_by_slice a start end h order (rw (rle_len a) at range)) (e ∙ low_is) (k ∙ high_is)
+
+-- and to the end of all
+pub kept_to_end : (a : RLEArrayParts) (start end first last low high : ℕ) → refusal_of_rle a ≡ None → start ≤ end → end ≤ length (column (tree_of_rle a)).items
+    → first ≡ first_chunk a.window.offset start → last ≡ end_chunk a.window.offset end → first_chunk a.window.offset start < end_chunk a.window.offset end → length (column a.offsets).items ≤ last
+    → low ≡ chunk_start (numbers_of (column a.offsets)) first → high ≡ length (column a.values).items → IsKept a start end low high
+kept_to_end a start end first last low high h order range f g some all e k =
+    let long = (sound_rle a h).long in
+    let all_numbers : length (numbers_of (column a.offsets)) ≤ last = rw long all in
+    let low_is = ap (chunk_start (numbers_of (column a.offsets))) f ∙ start_of_some (numbers_of (column a.offsets)) _ _ some in
+    kept_as a start end low high (kept_by_slice a start end h order (rw (rle_len a) at range)) (e ∙ low_is) (k ∙ end_of_all (numbers_of (column a.offsets)) (length (column a.values).items) _ _ some (rw g at all_numbers))
 
 -- run offsets that were read are unsigned
 pub offsets_unsigned : (a : RLEArrayParts) (p : PrimitiveParts) → refusal_of_rle a ≡ None → column_of_primitive p ≡ column a.offsets → is_unsigned p.ptype ≡ true

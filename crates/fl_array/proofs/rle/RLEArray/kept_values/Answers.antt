@@ -1,37 +1,42 @@
-use Rattle.std.proofs.Common.{◌≡◌, length, arith}
-use Rattle.std.proofs.lemmas.Grind.{common_steps}
-use Rattle.fl_column.specs.Columns.{numbers_of}
-use Rattle.fl_codec.specs.ChunkSlices.{end_chunk, first_chunk}
-use Rattle.fl_codec.specs.RunRefusals.{kept_values_end, kept_values_start}
-use Rattle.fl_array.specs.Trees.{column}
-use Rattle.fl_array.proofs.RLELaws.{kept_by_slice}
+use Rattle.std.proofs.Common.{◌≡◌, ℕ, ◌-◌, ◌<◌, ◌≤◌, arith}
+use Rattle.std.specs.Prelude.{min}
+use Rattle.fl_array.proofs.RLELaws.{kept_before, kept_to_end}
 use Rattle.fl_array.proofs.rle.RLEArray.kept_values.Goals as goal
 
-pub returns-then-kept-len-clause-order : goal.returns-then-kept-len-clause-order
-returns-then-kept-len-clause-order c =
-    let a = c.args.self.now in
-    let len = c.len-len.ensures.len in
-    let items = c.len-len.ensures.items in
-    let range = c.requires.range in
-    let from : c.start_from-first.result ≡ kept_values_start (numbers_of (column a.offsets)) (first_chunk a.window.offset c.args.start) (end_chunk a.window.offset c.args.end) = grind (arith, common_steps) in
-    let to : c.start_from-last.result ≡ kept_values_end (numbers_of (column a.offsets)) (length (column a.values).items) (first_chunk a.window.offset c.args.start) (end_chunk a.window.offset c.args.end) = grind (arith, common_steps) in
-    rw (from, to) (kept_by_slice a c.args.start c.args.end c.prove_well_formed.ensures c.requires.order (omega arith)).order
+among : (first last f l chunks : ℕ) → first ≡ f → last ≡ l → f < l → last ≤ chunks → first < chunks
+among first last f l chunks is ends some range = omega arith
 
-pub returns-then-kept-len-clause-range : goal.returns-then-kept-len-clause-range
-returns-then-kept-len-clause-range c =
-    let a = c.args.self.now in
-    let len = c.len-len.ensures.len in
-    let items = c.len-len.ensures.items in
-    let range = c.requires.range in
-    let to : c.start_from-last.result ≡ kept_values_end (numbers_of (column a.offsets)) (length (column a.values).items) (first_chunk a.window.offset c.args.start) (end_chunk a.window.offset c.args.end) = grind (arith, common_steps) in
-    rw to (kept_by_slice a c.args.start c.args.end c.prove_well_formed.ensures c.requires.order (omega arith)).within
+behind_is : (last l chunks : ℕ) → last ≡ l → last < chunks → min l (chunks - 1) ≡ last
+behind_is last l chunks ends more = omega arith
 
-pub returns-else-kept-len-clause-order : goal.returns-else-kept-len-clause-order
-returns-else-kept-len-clause-order c =
-    let a = c.args.self.now in
-    let len = c.len-len.ensures.len in
-    let items = c.len-len.ensures.items in
-    let range = c.requires.range in
-    let from : c.start_from-first.result ≡ kept_values_start (numbers_of (column a.offsets)) (first_chunk a.window.offset c.args.start) (end_chunk a.window.offset c.args.end) = grind (arith, common_steps) in
-    let to : c.len-last.result ≡ kept_values_end (numbers_of (column a.offsets)) (length (column a.values).items) (first_chunk a.window.offset c.args.start) (end_chunk a.window.offset c.args.end) = grind (arith, common_steps) in
-    rw (from, to) (kept_by_slice a c.args.start c.args.end c.prove_well_formed.ensures c.requires.order (omega arith)).order
+pub start_from-first-requires : goal.start_from-first-requires
+start_from-first-requires c =
+    let chunks = c.chunk_ranges-kept.ensures in
+    record {
+      range = among _ _ _ _ _ chunks.first chunks.last c.requires.some chunks.chunk_range;
+      first = c.requires.least;
+      start = rw chunks.first c.requires.from;
+    }
+
+pub start_from-last-requires : goal.start_from-last-requires
+start_from-last-requires c =
+    let more = rw (c.len.ensures, c.offsets.ensures) at c.if-kept-len.true in
+    record {
+      range = more;
+      first = c.requires.least;
+      start = rw (behind_is _ _ _ c.chunk_ranges-kept.ensures.last more) at c.requires.to;
+    }
+
+pub returns-then-kept-len : goal.returns-then-kept-len
+returns-then-kept-len c =
+    let chunks = c.chunk_ranges-kept.ensures in
+    let more = rw (c.len.ensures, c.offsets.ensures) at c.if-kept-len.true in
+    let kept = kept_before c.args.self.now c.args.start c.args.end _ _ _ _ c.prove_well_formed.ensures c.requires.order c.requires.range chunks.first chunks.last c.requires.some more c.start_from-first.ensures c.start_from-last.ensures in
+    record { from = kept.from; to = kept.to; order = kept.order; range = kept.within }
+
+pub returns-else-kept-len : goal.returns-else-kept-len
+returns-else-kept-len c =
+    let chunks = c.chunk_ranges-kept.ensures in
+    let all = rw (c.len.ensures, c.offsets.ensures) at c.if-kept-len.false in
+    let kept = kept_to_end c.args.self.now c.args.start c.args.end _ _ _ _ c.prove_well_formed.ensures c.requires.order c.requires.range chunks.first chunks.last c.requires.some all c.start_from-first.ensures (rw c.values.ensures at c.len-last.ensures) in
+    record { from = kept.from; to = kept.to; order = kept.order; range = kept.within }
