@@ -163,7 +163,7 @@ encoded_validity a v s =
     }
 
 -- a column of integers of a type
-typed_column : (d : DType) (ptype : PType) → has_ptype ptype d ≡ true → unwrap_or (integer_type d) U8 ≡ ptype
+pub typed_column : (d : DType) (ptype : PType) → has_ptype ptype d ≡ true → unwrap_or (integer_type d) U8 ≡ ptype
 typed_column (dtypes.Primitive p n) ptype h = sym (same_ptype_is ptype p h)
 typed_column (dtypes.Bool n) ptype h = cc
 
