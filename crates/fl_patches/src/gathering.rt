@@ -16,7 +16,7 @@ use crate::patterns::bit_count;
 use crate::widths::Widths;
 use fastlanes::FastLanes;
 use fl_column::{PhysicalPType, PrimitiveArray, chunk_bounds, chunk_count, index_array};
-use fl_types::{FastLanesError, Validity, match_each_integer_ptype};
+use fl_types::{FastLanesError, NativePType, Validity, match_each_integer_ptype};
 use std::alloc::{AllocError, Global};
 
 /// How many items are marked in a word.
@@ -31,7 +31,7 @@ pub struct Exceptions<T> {
     pub values: Vec<T>,
 }
 
-impl<T: PhysicalPType> Exceptions<T> {
+impl<T: NativePType> Exceptions<T> {
     /// None yet, with room for this many.
     fn with_capacity(alloc: Global, count: usize) -> Result<Exceptions<T>, AllocError>
         ensures { IfOk result (λ f. AreGathered f.places.items (map T.value f.values.items) []) }
@@ -50,7 +50,9 @@ impl<T: PhysicalPType> Exceptions<T> {
         self.values.push(value)?;
         Ok(())
     }
+}
 
+impl<T: PhysicalPType> Exceptions<T> {
     /// Appends the items at the set bits of a word, of which bit `j` is that of item `start + j`.
     fn push_marked(&mut self, items: &[T], marks: u64, start: usize) -> Result<(), AllocError>
         requires { (j : ℕ) → bit_of_word marks j ≡ true → start + j < length items.now }

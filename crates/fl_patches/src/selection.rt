@@ -24,7 +24,10 @@ fn rank_at<I: NativePType>(indices: &[I], offset: usize, position: Option<usize>
     requires { IsTrue (is_rising (numbers_by I.value indices.now)) }
     ensures { result ≡ option_and_then (λ i. rank_of (offset + i) (numbers_by I.value indices.now)) position }
 {
-    rank_typed(indices, offset as u128 + position? as u128)
+    match position {
+        Some(position) => rank_typed(indices, offset as u128 + position as u128),
+        None => None,
+    }
 }
 
 /// The patches at these positions.
