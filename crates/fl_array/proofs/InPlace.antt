@@ -1,5 +1,5 @@
 -- Arrays in which the integer type stays, and nulls may stand or not.
-use Rattle.std.proofs.Common.{◌≡◌, ◌∙◌, ℕ, ◌+◌, ◌*◌, ◌==◌, true, false, cond, not, List, length, Option, Some, None, Result, Ok, refl, ap, sym, subst}
+use Rattle.std.proofs.Common.{◌≡◌, ◌∙◌, ℕ, ◌+◌, ◌*◌, ◌==◌, true, false, cond, not, List, length, Option, Some, None, Result, Ok, Err, IsErrAnd, refl, ap, sym, subst}
 use Rattle.std.specs.Prelude.{◌||◌, ℤ, is_none, nat_lt, if◌then◌else◌}
 use Rattle.std.specs.List.{list_any}
 use Rattle.fl_types.specs.declared.dtype.DType.{DType}
@@ -11,9 +11,11 @@ use Rattle.fl_types.specs.declared.error.FastLanesError.TheVariants.{PackedLengt
 use Rattle.fl_types.specs.declared.validity.Validity.{Validity}
 use Rattle.fl_types.specs.declared.validity.Validity.TheVariants as valid
 use Rattle.fl_types.specs.Integers.{bits_of_type}
+use Rattle.fl_types.specs.Refusals.{Answers, Refuses}
 use Rattle.fl_types.specs.Types.{can_be_null, integer_type, is_integer, is_nullable}
 use Rattle.fl_types.specs.Validities.{is_valid_at, nullability_of}
 use Rattle.fl_types.proofs.BitLists.{same_tables}
+use Rattle.fl_types.proofs.RefusalLaws.{Refuses_map}
 use Rattle.fl_column.specs.Columns.{Column, integers_in, ptype_of_column}
 use Rattle.fl_column.specs.Selections.{any_null}
 use Rattle.fl_codec.specs.DeltaRefusals.{delta_children_refusal, delta_refusal}
@@ -84,6 +86,20 @@ delta_cast n a h =
     (λ i below. ap (λ b. cond b (Some (integer i)) None) (valid_cast n a.parts.validity i (all_valid n a.parts.validity i h))) in
     ap (λ m. record { dtype = dtypes.Primitive p m; items = (column (Delta a.bases a.deltas (cast_delta n a.parts))).items }) (nullability_cast n a.parts.validity)
     ∙ ap (λ (xs : List (Option ℤ)). record { dtype = dtypes.Primitive p n; items = xs }) items
+
+-- the parts of the cast make an array
+pub cast_accepted : (n : Nullability) (a : DeltaArrayParts) (bases ds : Tree) (v : Validity) (offset len : ℕ) → refusal_of_delta a ≡ None → bases ≡ a.bases → ds ≡ a.deltas → v ≡ cast_validity n a.parts.validity → offset ≡ a.parts.offset → len ≡ a.parts.len
+    → delta_refusal (column bases) (column ds) v offset len ≡ None
+cast_accepted n a bases ds v offset len h e f g o l = rw (e, f, g, o, l) (delta_refusal_cast n a h)
+
+pub cast_made : (n : Nullability) (a : DeltaArrayParts) (bases ds : Tree) (v : Validity) (offset len : ℕ) → bases ≡ a.bases → ds ≡ a.deltas → v ≡ cast_validity n a.parts.validity → offset ≡ a.parts.offset → len ≡ a.parts.len
+    → (let wanted : Result DeltaArrayParts FastLanesError = Ok (record { bases = a.bases; deltas = a.deltas; parts = cast_delta n a.parts }) in wanted) ≡ Ok (record { bases = bases; deltas = ds; parts = record { validity = v; offset = offset; len = len } })
+cast_made n a bases ds v offset len e f g o l = rw (e, f, g, o, l) refl
+
+-- what a call did not make for lack of memory, no call over it makes
+pub refused_over : {A B C : Type 0} (view : B → C) (x : A) (y : C) (r : Result B FastLanesError) (e : FastLanesError) → IsErrAnd r (λ f. f ≡ e) → (let made : Result A FastLanesError = Ok x in Refuses e made) → Answers view r (Ok y)
+refused_over view x y (Ok z) e h m = absurd h
+refused_over view x y (Err f) e h m = rw h (Refuses_map e (Ok x) (Ok y) (λ g. cc) m)
 
 -- ---- runs
 index_type_by : (d e : DType) → integer_type d ≡ integer_type e → is_run_index_dtype d ≡ is_run_index_dtype e

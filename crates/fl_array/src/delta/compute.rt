@@ -10,6 +10,7 @@ ghost use Rattle.fl_array.specs.DeltaArrays.{tree_of_delta};
 ghost use Rattle.fl_array.specs.DeltaCasts.{cast_delta};
 ghost use Rattle.fl_array.specs.Trees.{column};
 
+use crate::array::ArrayRef;
 use crate::delta::DeltaArray;
 use fl_bitpacking::compute::cast::cast_validity;
 use fl_column::{FastLanesError, Nullability};
@@ -30,11 +31,28 @@ impl DeltaArray {
         ensures column { Answers (λ a. column (tree_of_delta a)) result (Ok (record { dtype = Primitive (ptype_of_column (column self.now.bases)) nullability; items = (column (tree_of_delta self.now)).items })) }
         ensures parts { IfOk result (λ a. a ≡ record { bases = self.now.bases; deltas = self.now.deltas; parts = cast_delta nullability self.now.parts }) }
     {
+        let bases = self.bases().try_clone(alloc)?;
+        let deltas = self.deltas().try_clone(alloc)?;
+        self.cast_with(alloc, bases, deltas, nullability)
+    }
+
+    /// The same integers over these copies of the bases and the deltas, where nulls may stand or not.
+    fn cast_with(
+        &self,
+        alloc: Global,
+        bases: ArrayRef,
+        deltas: ArrayRef,
+        nullability: Nullability,
+    ) -> Result<DeltaArray, FastLanesError>
+        requires bases { bases ≡ self.now.bases }
+        requires deltas { deltas ≡ self.now.deltas }
+        ensures { Answers (λ a. a) result (Ok (record { bases = self.now.bases; deltas = self.now.deltas; parts = cast_delta nullability self.now.parts })) }
+    {
         self.prove_well_formed();
         let validity = cast_validity(self.validity(), alloc, nullability)?;
         let (offset, len) = (self.offset(), self.len());
-        let bases = Box::new(alloc, self.bases().try_clone(alloc)?)?;
-        let deltas = Box::new(alloc, self.deltas().try_clone(alloc)?)?;
+        let bases = Box::new(alloc, bases)?;
+        let deltas = Box::new(alloc, deltas)?;
         Ok(DeltaArray {
             bases,
             deltas,

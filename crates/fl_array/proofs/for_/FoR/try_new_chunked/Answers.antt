@@ -1,11 +1,10 @@
 use Rattle.std.proofs.Common.{◌≡◌, ℕ, IsTrue, None, Ok, Option, Some, refl, sym, ◌∙◌}
-use Rattle.std.specs.Prelude.{Result}
 use Rattle.fl_types.specs.declared.error.FastLanesError.{FastLanesError}
 use Rattle.fl_types.specs.Refusals.{Refuses}
 use Rattle.fl_patches.proofs.Parts.{ok_same}
 use Rattle.fl_bitpacking.specs.Refusals.{accepted}
 use Rattle.fl_bitpacking.proofs.SoundParts.{neither}
-use Rattle.fl_array.specs.FoRArrays.{FoRArrayParts, FoRReferencesParts, for_chunked_refusal, for_refusal, has_no_constant, new_for_chunked, reference_count_refusal, references_of}
+use Rattle.fl_array.specs.FoRArrays.{FoRArrayParts, FoRReferencesParts, for_chunked_refusal, for_refusal, has_no_constant, new_for_chunked, references_of}
 use Rattle.fl_array.specs.Trees.{Tree, column}
 use Rattle.fl_array.proofs.FoRSound.{no_constant_kept}
 use Rattle.fl_array.proofs.Refused.{Refuses_same, accepted_is, refused_there}

@@ -8,7 +8,7 @@ use Rattle.fl_column.specs.Columns.{Column, PrimitiveParts, column_of_primitive}
 use Rattle.fl_column.specs.Chunks.{chunk_count}
 use Rattle.fl_array.specs.FoRArrays.{FoRArrayParts, offset_of_references, tree_of_for}
 use Rattle.fl_array.specs.Reads.{integer_column}
-use Rattle.fl_array.specs.Trees.{Tree, column}
+use Rattle.fl_array.specs.Trees.{column}
 use Rattle.fl_array.proofs.DecodedItems.{references_added, typed_column}
 use Rattle.fl_array.proofs.FoRLaws.{for_dtype}
 use Rattle.fl_array.proofs.FoRSound.{HasReferences, answered_column, has_references}
