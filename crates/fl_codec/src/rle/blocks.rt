@@ -97,7 +97,7 @@ fn push_values_of_chunks<T: PhysicalPType>(
     let mut rle = [T::Physical::zero(); FL_CHUNK_SIZE];
     let mut positions = [0u16; FL_CHUNK_SIZE];
     for k in 0..chunks {
-        offsets.push(values.as_slice().len() as u64)?;
+        offsets.push(values.len() as u64)?;
         push_chunk(array, k, &mut block, &mut rle, &mut positions, values)?;
     }
     Ok(())

@@ -11,10 +11,11 @@ loop-k-preserved g c =
     let value = g.T.Number.value in
     let items = items_of_primitive c.args.array.now in
     let k = c.loop-k.k in
-    let count : length c.as_slice.result.now ≡ length (values_to items k) = ap length c.as_slice.ensures.value ∙ (sym (length-map c.loop-k.values.items value) ∙ ap length c.loop-k.invariant.values) in
+    let stored : c.len.result ≡ length c.loop-k.values.items = omega (arith, c.len.ensures, c.loop-k.values.ok) in
+    let count : c.len.result ≡ length (values_to items k) = stored ∙ (sym (length-map c.loop-k.values.items value) ∙ ap length c.loop-k.invariant.values) in
     record {
       values = c.in_ok-push_chunk.ensures.values;
-      offsets = c.in_ok-push.ensures.items ∙ (ap (λ xs. xs ++ length c.as_slice.result.now ∷ []) c.loop-k.invariant.offsets ∙ (ap (λ n. offsets_to items k ++ n ∷ []) count ∙ sym (table_more (λ j. length (values_to items j)) k)));
+      offsets = c.in_ok-push.ensures.items ∙ (ap (λ xs. xs ++ c.len.result ∷ []) c.loop-k.invariant.offsets ∙ (ap (λ n. offsets_to items k ++ n ∷ []) count ∙ sym (table_more (λ j. length (values_to items j)) k)));
     }
 
 pub returns-in_err-push_chunk-clause-values : goal.returns-in_err-push_chunk-clause-values
