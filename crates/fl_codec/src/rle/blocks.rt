@@ -79,6 +79,30 @@ pub(crate) fn push_chunk<T: PhysicalPType>(
     push_values(words, values)
 }
 
+/// Appends the run values and the run offsets of all chunks, whose runs are made in these blocks.
+fn push_values_in<T: PhysicalPType>(
+    array: &PrimitiveArray,
+    chunks: usize,
+    block: &mut [T::Physical; FL_CHUNK_SIZE],
+    rle: &mut [T::Physical; FL_CHUNK_SIZE],
+    positions: &mut [u16; FL_CHUNK_SIZE],
+    values: &mut Vec<T>,
+    offsets: &mut Vec<u64>,
+) -> Result<(), AllocError>
+    requires same { array.now.ptype ≡ T.PTYPE }
+    requires chunks { chunks ≡ chunks_of (length array.now.slots) }
+    requires no_values { values.old.items ≡ [] }
+    requires no_offsets { offsets.old.items ≡ [] }
+    ensures values { OnOk result (map T.value values.new.items ≡ values_to (items_of_primitive array.now) chunks) }
+    ensures offsets { OnOk result (offsets.new.items ≡ offsets_to (items_of_primitive array.now) chunks) }
+{
+    for k in 0..chunks {
+        offsets.push(values.len() as u64)?;
+        push_chunk(array, k, block, rle, positions, values)?;
+    }
+    Ok(())
+}
+
 /// Appends the run values and the run offsets of all chunks.
 fn push_values_of_chunks<T: PhysicalPType>(
     array: &PrimitiveArray,
@@ -96,11 +120,15 @@ fn push_values_of_chunks<T: PhysicalPType>(
     let mut block = [T::Physical::zero(); FL_CHUNK_SIZE];
     let mut rle = [T::Physical::zero(); FL_CHUNK_SIZE];
     let mut positions = [0u16; FL_CHUNK_SIZE];
-    for k in 0..chunks {
-        offsets.push(values.len() as u64)?;
-        push_chunk(array, k, &mut block, &mut rle, &mut positions, values)?;
-    }
-    Ok(())
+    push_values_in(
+        array,
+        chunks,
+        &mut block,
+        &mut rle,
+        &mut positions,
+        values,
+        offsets,
+    )
 }
 
 fn values_typed<T: PhysicalPType>(

@@ -1,7 +1,7 @@
 use Rattle.std.proofs.Common.{◌≡◌, map}
 use Rattle.fl_codec.specs.Parts.{items_of_primitive}
 use Rattle.fl_codec.specs.Runs.{offsets_to, values_to}
-use Rattle.fl_codec.proofs.rle.blocks.push_values_of_chunks.Given as goal
+use Rattle.fl_codec.proofs.rle.blocks.push_values_in.Given as goal
 
 -- the chunks so far
 abbrev pub invariant-loop-k : goal.invariant-loop-k

@@ -4,7 +4,7 @@ use Rattle.std.proofs.lemmas.Result.{err_from_is_err_and}
 use Rattle.fl_codec.specs.Parts.{items_of_primitive}
 use Rattle.fl_codec.specs.Runs.{offsets_to, values_to}
 use Rattle.fl_codec.proofs.ReferenceLaws.{table_more}
-use Rattle.fl_codec.proofs.rle.blocks.push_values_of_chunks.Goals as goal
+use Rattle.fl_codec.proofs.rle.blocks.push_values_in.Goals as goal
 
 pub loop-k-preserved : goal.loop-k-preserved
 loop-k-preserved g c =
