@@ -1,11 +1,14 @@
 -- Items that are taken one by one.
-use Rattle.std.proofs.Common.{◌≡◌, ◌∙◌, ℕ, ℤ, ◌<◌, ◌||◌, ◌&&◌, Bool, true, false, List, [], ◌∷◌, ◌++◌, length, map, get_or, Option, None, Some, Ok, IsTrue, is_none, is_some, not, option_map, unsigned_abs, refl, sym}
+use Rattle.std.proofs.Common.{◌≡◌, ◌∙◌, ℕ, ℤ, ◌<◌, ◌||◌, ◌&&◌, Bool, true, false, List, [], ◌∷◌, ◌++◌, length, map, get_or, Option, None, Some, Ok, IsTrue, is_none, is_some, not, option_map, unsigned_abs, refl, sym, Result, Err}
+use Rattle.std.specs.Prelude.{IsErrAnd}
 use Rattle.std.specs.List.{list_all}
 use Rattle.fl_types.specs.declared.dtype.DType.{DType}
 use Rattle.fl_types.specs.declared.dtype.DType.TheVariants as dtypes
 use Rattle.fl_types.specs.declared.dtype.Nullability.{Nullability}
 use Rattle.fl_types.specs.declared.dtype.Nullability.TheVariants.{NonNullable, Nullable}
 use Rattle.fl_types.specs.declared.dtype.PType.{PType}
+use Rattle.fl_types.specs.declared.error.FastLanesError.{FastLanesError}
+use Rattle.fl_types.specs.declared.error.FastLanesError.TheVariants.{OutOfMemory}
 use Rattle.fl_types.specs.declared.validity.Validity.{Validity}
 use Rattle.fl_types.specs.declared.validity.Validity.TheVariants as valid
 use Rattle.fl_types.specs.Refusals.{Answers}
@@ -17,9 +20,15 @@ use Rattle.fl_column.specs.Selections.{are_below_length, items_at, positions_in}
 use Rattle.fl_column.proofs.ListLaws.{all_at, and_first, and_second, and_true, list_all-append}
 use Rattle.fl_column.proofs.SelectionLaws.{ok_positions, taken_below, taken_named}
 
--- the value of an answer is the model's
-pub answered_value : {A : Type 0} (x y : A) → Answers (λ z. z) (Ok x) (Ok y) → x ≡ y
-answered_value x y h = cc
+-- memory ran out on the way to an answer
+pub out_of_memory : {X Z : Type 0} (view : X → Z) (r : Result X FastLanesError) (answer : Result Z FastLanesError) (e : FastLanesError) → IsErrAnd r (λ f. f ≡ e) → e ≡ OutOfMemory → Answers view r answer
+out_of_memory view (Ok x) answer e h memory = absurd h
+out_of_memory view (Err f) answer e h memory = rw (h, memory) tt
+
+-- no items, of which none is null
+pub no_nulls_yet : (n : Nullability) (items : List (Option ℤ)) → items ≡ [] → IsTrue (can_be_null n || list_all is_some items)
+no_nulls_yet NonNullable items none = rw none refl
+no_nulls_yet Nullable items none = refl
 
 -- an item at a position of a column without nulls
 item_there : (nullable : Bool) (position : Option ℕ) (y : Option ℤ) → not nullable ≡ true → is_some position ≡ true → IsTrue (nullable || (is_none position || is_some y)) → is_some y ≡ true

@@ -1,11 +1,12 @@
 //! Takes that read each item by itself, for a few items of a long array that would else be decoded whole.
 
-ghost use Rattle.std.specs.Prelude.{◌≡◌, ◌&&◌, ◌||◌, IfOk, IsTrue, Ok, Some, is_none, is_some, length, not, option_map};
+ghost use Rattle.std.specs.Prelude.{◌≡◌, ◌&&◌, ◌||◌, ◌++◌, ◌∷◌, [], IfErr, IsTrue, Ok, OnOk, Some, is_none, is_some, length, not, option_map};
 ghost use Rattle.std.specs.List.{list_all};
 ghost use Rattle.fl_types.specs.Refusals.{Answers};
 ghost use Rattle.fl_types.specs.Types.{can_be_null, integer_type, is_nullable};
 ghost use Rattle.fl_types.specs.Values.{scalar_parts};
 ghost use Rattle.fl_types.specs.declared.dtype.DType.TheVariants.{Primitive};
+ghost use Rattle.fl_types.specs.declared.error.FastLanesError.TheVariants.{OutOfMemory};
 ghost use Rattle.fl_column.specs.Columns.{column_of_primitive};
 ghost use Rattle.fl_column.specs.Operations.{take_column};
 ghost use Rattle.fl_column.specs.Selections.{are_below_length, is_below_length, item_at_position, items_at};
@@ -28,21 +29,24 @@ fn integer_of_item<T: NativePType>(item: Scalar) -> Option<T>
     T::from_pvalue(item.as_pvalue()?)
 }
 
-/// The item at a position, or `None` where there is no position or a null.
-fn item_at_position<T: NativePType>(
+/// Adds the item at a position, null where there is no position.
+fn push_item<T: NativePType>(
+    taken: &mut PrimitiveBuilder<T>,
     alloc: Global,
     array: &ArrayRef,
     position: Option<usize>,
-) -> Result<Option<T>, FastLanesError>
+) -> Result<(), FastLanesError>
     requires typed { integer_type (column array.now).dtype ≡ Some T.PTYPE }
     requires below { IsTrue (is_below_length (length (column array.now).items) position) }
-    ensures item { Answers (λ y. option_map T.value y) result (Ok (item_at_position (column array.now).items position)) }
-    ensures null { IfOk result (λ y. IsTrue (is_nullable (column array.now).dtype || (is_none position || is_some y))) }
+    ensures item { OnOk result (taken.new ≡ taken.old ++ item_at_position (column array.now).items position ∷ []) }
+    ensures null { OnOk result (IsTrue (is_nullable (column array.now).dtype || (is_none position || is_some (item_at_position (column array.now).items position)))) }
+    ensures memory { IfErr result (λ e. e ≡ OutOfMemory) }
 {
-    match position {
-        Some(i) => Ok(integer_of_item(array.scalar_at(alloc, i)?)),
-        None => Ok(None),
-    }
+    let item = match position {
+        Some(i) => integer_of_item(array.scalar_at(alloc, i)?),
+        None => None,
+    };
+    taken.push(alloc, item)
 }
 
 /// The items at these positions, null where there is none.
@@ -57,9 +61,9 @@ fn items_typed<T: NativePType>(
     requires nulls { IsTrue (can_be_null nullability || (not (is_nullable (column array.now).dtype) && list_all is_some positions.now)) }
     ensures { Answers column_of_primitive result (Ok (record { dtype = Primitive T.PTYPE nullability; items = items_at (column array.now).items positions.now })) }
 {
-    let mut taken = PrimitiveBuilder::with_capacity(alloc, positions.len())?;
+    let mut taken = PrimitiveBuilder::<T>::with_capacity(alloc, positions.len())?;
     for position in positions {
-        taken.push(alloc, item_at_position::<T>(alloc, array, *position)?)?;
+        push_item(&mut taken, alloc, array, *position)?;
     }
     Ok(taken.finish(nullability))
 }
