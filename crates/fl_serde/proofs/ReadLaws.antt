@@ -10,7 +10,7 @@ use Rattle.std.proofs.lemmas.List.{drop_all, drop_more, get_or-map, length-appen
 use Rattle.fl_types.specs.declared.dtype.DType.{DType}
 use Rattle.fl_types.specs.declared.dtype.PType.{PType}
 use Rattle.fl_types.specs.declared.error.FastLanesError.{FastLanesError}
-use Rattle.fl_types.specs.declared.error.FastLanesError.TheVariants.{ChildCount, ChildMismatch}
+use Rattle.fl_types.specs.declared.error.FastLanesError.TheVariants.{ChildCount, ChildMismatch, OutOfMemory}
 use Rattle.fl_types.specs.Refusals.{Answers, Refuses}
 use Rattle.fl_types.proofs.RefusalLaws.{Refuses_map}
 use Rattle.fl_array.proofs.Refused.{Refuses_same}
@@ -125,6 +125,14 @@ refused_child node m nodes expected i asked child trees e all so_far here there 
     let within : i < length (map child_of nodes) = rw (length-map nodes child_of) there in
     let at : child_of child ≡ get_or (map child_of nodes) i (child_of child) = ap child_of found ∙ sym (get_or-map child_of nodes i child (child_of child) there) in
     all ∙ rw (so_far ∙ remaining_refused expected (map child_of nodes) i asked (child_of child) trees e here within is at fit) refl
+
+-- a node is refused for too few children
+pub refused_short : (node : Node) (m : NodeInfo) (nodes : List Node) (expected : List ExpectedChild) (i : ℕ) (trees : List Tree)
+    → reading node ≡ (read_children expected (map child_of nodes) >>= made (head_of node) m) → read_children expected (map child_of nodes) ≡ remaining expected (map child_of nodes) i trees
+    → i < length expected → length nodes ≤ i → reading node ≡ Err ChildCount
+refused_short node m nodes expected i trees all so_far here short =
+    let none : length (map child_of nodes) ≤ i = rw (length-map nodes child_of) short in
+    all ∙ rw (so_far ∙ remaining_short expected (map child_of nodes) i trees here none) refl
 
 -- a child at a place is read
 pub next_child : (nodes : List Node) (expected : List ExpectedChild) (i : ℕ) (asked : ExpectedChild) (child : Node) (trees more : List Tree) (tree : Tree)
@@ -253,6 +261,11 @@ made_delta head ptype m parts trees = by_count (has_validity head (infos.Delta p
 pub answers_refused : {Y : Type 0} (r : Result Y FastLanesError) (m : Result Y FastLanesError) (e : FastLanesError) → IsErrAnd r (λ f. f ≡ e) → m ≡ Err e → Answers (λ y. y) r m
 answers_refused (Ok x) m e h is = absurd h
 answers_refused {Y} (Err f) m e h is = rw (is, h) (Refuses_same Y e)
+
+-- memory ran out
+pub answers_memory : {Y : Type 0} (r : Result Y FastLanesError) (m : Result Y FastLanesError) → IsErrAnd r (λ f. f ≡ OutOfMemory) → Answers (λ y. y) r m
+answers_memory (Ok x) m h = absurd h
+answers_memory (Err f) m h = rw h tt
 
 -- a call answers the refusal of another, which the model has where that one's model has it
 pub answers_refused_there : {Y Z : Type 0} (r : Result Y FastLanesError) (m : Result Y FastLanesError) (n : Result Z FastLanesError) (e : FastLanesError) → IsErrAnd r (λ f. f ≡ e) → Refuses e n → (n ≡ Err e → m ≡ Err e) → Answers (λ y. y) r m
