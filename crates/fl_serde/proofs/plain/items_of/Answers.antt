@@ -25,6 +25,6 @@ returns g c =
 
 pub item_at-requires : goal.item_at-requires
 item_at-requires g c = record {
-    typed = c.requires;
-    range = subst (λ n. c.loop-i.i < n) c.len-i-end.ensures.slots c.loop-i-test.true
+  typed = c.requires;
+  range = subst (λ n. c.loop-i.i < n) c.len-i-end.ensures.slots c.loop-i-test.true;
 }

@@ -1,4 +1,4 @@
-use Rattle.std.proofs.Common.{◌≡◌, ◌∙◌, ap, map}
+use Rattle.std.proofs.Common.{◌∙◌, ap, map}
 use Rattle.std.proofs.lemmas.List.{take_all}
 use Rattle.fl_serde.specs.Leaves.{bytes_of_slots}
 use Rattle.fl_serde.proofs.LeafLaws.{slots_more}
