@@ -161,7 +161,7 @@ fn no_answers<W: FastLanes>() -> Simd<W, 16>
 
 /// The answers for all rows of the lanes of group `g`.
 ///
-/// The loop keeps sixteen rows apart from the next ones, as the compiler takes twice as long for all of them together.
+/// The loop keeps sixteen rows apart from the next ones: the compiler takes longer for all of them in one piece.
 #[inline(always)]
 #[tactic(auto, using(crate::proofs::ComparedBits::answers_none))]
 fn compare_group<

@@ -162,7 +162,7 @@ fn unpack_part<
 
 /// Writes the items at all rows of the lanes of group `g`, plus the reference.
 ///
-/// The loop keeps sixteen rows apart from the next ones, as the compiler takes twice as long for all of them together.
+/// The loop keeps sixteen rows apart from the next ones: the compiler takes longer for all of them in one piece.
 #[inline(always)]
 #[tactic(auto, using(crate::proofs::RowWrites::whole_parts))]
 fn unpack_group<
