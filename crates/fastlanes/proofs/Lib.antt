@@ -14,6 +14,7 @@ pub mod RowBits
 pub mod Sixteen
 pub mod Steps
 pub mod ByteBits
+pub mod SameBytes
 pub mod ComparedBits
 pub mod Packings
 pub mod RowWrites

@@ -4,7 +4,7 @@
 pub mod kernels;
 pub mod round_trips;
 
-ghost use Rattle.std.specs.Prelude.{◌≡◌, ◌≢◌, ℕ, ◌+◌, ◌-◌, ◌*◌, ◌/◌, ◌%◌, ◌^◌, ◌<◌, ◌≤◌, length};
+ghost use Rattle.std.specs.Prelude.{◌≡◌, ◌≢◌, ℕ, ◌+◌, ◌-◌, ◌*◌, ◌/◌, ◌%◌, ◌^◌, ◌<◌, ◌≤◌, List, length, slice_index};
 ghost use Rattle.fastlanes.specs.Layout.{place, row_of, lane_of, segment, segment_row, segment_lane, Packed, pattern_at, word_at, unpacked_item};
 
 use crate::words::FastLanes;
@@ -80,4 +80,11 @@ pub fn one_unpacking<W: FastLanes>(width: usize)
     requires { width ≤ W.T }
     ensures { (item word : ℕ → ℕ) → Packed W.T W.LANES width item word
         → (i : ℕ) → i < 1024 → item i % 2 ^ width ≡ unpacked_item W.T W.LANES width word i }
+{}
+
+/// Bytes of whole words are determined by the words. So the items of a packed block determine its bytes.
+pub fn one_list_of_bytes<W: FastLanes>()
+    ensures { (bytes others : List ℕ) (count : ℕ) → length bytes ≡ count * (W.T / 8) → length others ≡ count * (W.T / 8)
+        → ((i : ℕ) → (slice_index bytes i < 256) × (slice_index others i < 256))
+        → ((m : ℕ) → m < count → word_at W.T bytes m ≡ word_at W.T others m) → bytes ≡ others }
 {}

@@ -48,8 +48,8 @@ pub trait ArrayOps {
         ensures column { Answers column result (take_column (column indices.now) (column (tree self.now))) }
         ensures tree { IfOk result (λ a. SameShown a (picked (take_of (column indices.now)) (tree self.now))) };
 
-    /// As `take`, and what was read of packed bytes for it, if this is a bit-packed array; nothing is
-    /// counted for any other. Where each block has a width of its own, a block is unpacked for seventeen
+    /// As `take`, and what was read of packed bytes for it, if this is a bit-packed array; of any other
+    /// the count says nothing. Where each block has a width of its own, a block is unpacked for seventeen
     /// indices at least, and at most two words are read for an index.
     ///
     /// # Errors

@@ -1,6 +1,7 @@
 pub mod Bits
 pub mod Integers
 pub mod Masks
+pub mod RefusalNames
 pub mod Refusals
 pub mod Buffers
 pub mod Types

@@ -1,7 +1,8 @@
 //! Errors.
 
-ghost use Rattle.std.specs.Prelude.{◌≡◌};
+ghost use Rattle.std.specs.Prelude.{◌≡◌, Some};
 ghost use Rattle.fl_types.specs.declared.error.FastLanesError.TheVariants.{OutOfMemory};
+ghost use Rattle.fl_types.specs.RefusalNames.{refusal_name};
 ghost use Rattle.fl_types.specs.Refusals.{number_of};
 
 use std::alloc::{AllocError, AllocFailed};
@@ -95,9 +96,35 @@ pub enum FastLanesError {
 
 /// The name of the error.
 impl fmt::Display for FastLanesError {
+    ghost output = { λ e. Some (refusal_name e) };
+
     fn fmt<W: fmt::Write>(&self, f: &mut fmt::Formatter<W>) -> Result<(), fmt::Error> {
-        fmt::Debug::fmt(self, f)
+        f.write_str(name(*self))
     }
+}
+
+/// The names of these errors.
+macro_rules! names {
+    ($error:expr; $($name:ident)*) => {
+        match $error {
+            $(FastLanesError::$name => stringify!($name),)*
+        }
+    };
+}
+
+/// The name of an error.
+fn name(error: FastLanesError) -> &'static str
+    ensures { result.now ≡ refusal_name error }
+{
+    names!(error;
+        OutOfMemory NotInteger NegativeValue WidthTooLarge AllBlocksNative BlockCount
+        OffsetTooLarge LengthOverflow ValidityLength PatchType PatchLength PatchContent
+        PackedLength BlockOffsetsType BlockOffsetsCount BlockBoundary BlockSpan TypeMismatch
+        NullReference ReferenceCount NoMinimum ChildNullable ChildLength RangeBeyondChild
+        RunIndexType RunOffsets RunIndex TooManyWidths NotGlobal IndexOutOfBounds RangeOutOfBounds
+        MaskLength CastNull CastOutOfRange UnknownId BadMetadata UnknownType BufferCount ChildCount
+        ChildMismatch
+    )
 }
 
 impl FastLanesError {

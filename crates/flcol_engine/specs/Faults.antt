@@ -1,7 +1,8 @@
 -- Why a run is refused: numbers, names, and the line that says both.
 use Rattle.std.specs.Prelude.{◌≡◌, ◌≢◌, IsOkAnd, Result, Ok, Err, ℕ, ◌+◌, ◌/◌, ◌%◌, List, ◌++◌, ◌∷◌, [], codes, if◌then◌else◌, nat_lt}
 use Rattle.fl_types.specs.declared.error.FastLanesError.{FastLanesError}
-use Rattle.fl_types.specs.declared.error.FastLanesError.TheVariants.{OutOfMemory, NotInteger, NegativeValue, WidthTooLarge, AllBlocksNative, BlockCount, OffsetTooLarge, LengthOverflow, ValidityLength, PatchType, PatchLength, PatchContent, PackedLength, BlockOffsetsType, BlockOffsetsCount, BlockBoundary, BlockSpan, TypeMismatch, NullReference, ReferenceCount, NoMinimum, ChildNullable, ChildLength, RangeBeyondChild, RunIndexType, RunOffsets, RunIndex, TooManyWidths, NotGlobal, IndexOutOfBounds, RangeOutOfBounds, MaskLength, CastNull, CastOutOfRange, UnknownId, BadMetadata, UnknownType, BufferCount, ChildCount, ChildMismatch}
+use Rattle.fl_types.specs.declared.error.FastLanesError.TheVariants.{OutOfMemory}
+use Rattle.fl_types.specs.RefusalNames.{refusal_name}
 use Rattle.fl_types.specs.Refusals.{number_of}
 use Rattle.flcol_container.specs.declared.error.ContainerError.{ContainerError}
 use Rattle.flcol_container.specs.declared.error.ContainerError.TheVariants as containers
@@ -24,49 +25,6 @@ fault_number BadColumn = 41
 fault_number BadContainer = 42
 fault_number ReadFault = 43
 fault_number WriteFault = 44
-
--- the name of a refusal of the library
-abbrev pub refusal_name : FastLanesError → List ℕ
-refusal_name OutOfMemory = codes "OutOfMemory"
-refusal_name NotInteger = codes "NotInteger"
-refusal_name NegativeValue = codes "NegativeValue"
-refusal_name WidthTooLarge = codes "WidthTooLarge"
-refusal_name AllBlocksNative = codes "AllBlocksNative"
-refusal_name BlockCount = codes "BlockCount"
-refusal_name OffsetTooLarge = codes "OffsetTooLarge"
-refusal_name LengthOverflow = codes "LengthOverflow"
-refusal_name ValidityLength = codes "ValidityLength"
-refusal_name PatchType = codes "PatchType"
-refusal_name PatchLength = codes "PatchLength"
-refusal_name PatchContent = codes "PatchContent"
-refusal_name PackedLength = codes "PackedLength"
-refusal_name BlockOffsetsType = codes "BlockOffsetsType"
-refusal_name BlockOffsetsCount = codes "BlockOffsetsCount"
-refusal_name BlockBoundary = codes "BlockBoundary"
-refusal_name BlockSpan = codes "BlockSpan"
-refusal_name TypeMismatch = codes "TypeMismatch"
-refusal_name NullReference = codes "NullReference"
-refusal_name ReferenceCount = codes "ReferenceCount"
-refusal_name NoMinimum = codes "NoMinimum"
-refusal_name ChildNullable = codes "ChildNullable"
-refusal_name ChildLength = codes "ChildLength"
-refusal_name RangeBeyondChild = codes "RangeBeyondChild"
-refusal_name RunIndexType = codes "RunIndexType"
-refusal_name RunOffsets = codes "RunOffsets"
-refusal_name RunIndex = codes "RunIndex"
-refusal_name TooManyWidths = codes "TooManyWidths"
-refusal_name NotGlobal = codes "NotGlobal"
-refusal_name IndexOutOfBounds = codes "IndexOutOfBounds"
-refusal_name RangeOutOfBounds = codes "RangeOutOfBounds"
-refusal_name MaskLength = codes "MaskLength"
-refusal_name CastNull = codes "CastNull"
-refusal_name CastOutOfRange = codes "CastOutOfRange"
-refusal_name UnknownId = codes "UnknownId"
-refusal_name BadMetadata = codes "BadMetadata"
-refusal_name UnknownType = codes "UnknownType"
-refusal_name BufferCount = codes "BufferCount"
-refusal_name ChildCount = codes "ChildCount"
-refusal_name ChildMismatch = codes "ChildMismatch"
 
 -- a fault's name
 abbrev pub fault_name : Fault → List ℕ

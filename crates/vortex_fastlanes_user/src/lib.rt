@@ -8,6 +8,7 @@ mod arrays;
 mod encoded;
 #[cfg(test)]
 mod packing;
+pub mod hashes;
 pub mod proved;
 pub mod readme;
 pub mod sizes;

@@ -41,10 +41,11 @@ pub trait BitPackedArrayExt {
     /// The parts of the array.
     ghost parts: { Self → BitPackedArrayParts };
 
-    /// What the array keeps beside the arrays inside. The packed bytes are shared, which alone allocates.
+    /// What the array keeps beside the arrays inside. The packed bytes are shared with it: no memory is requested, and
+    /// one more owner of the bytes is counted.
     ///
     /// # Errors
-    /// Only `OutOfMemory`.
+    /// Only `OutOfMemory`, if the bytes have as many owners as can be counted.
     fn data(&self) -> Result<BitPackedData, FastLanesError>
         ensures { Answers (λ d. d) result (Ok (fields_of (parts self.now))) };
 
