@@ -13,3 +13,4 @@ pub mod SingleRuns
 pub mod PartLaws
 pub mod ZeroLeasts
 pub mod ReferenceLaws
+pub mod DepthLaws

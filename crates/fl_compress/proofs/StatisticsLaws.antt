@@ -21,7 +21,7 @@ use Rattle.fl_compress.specs.Cheapest.{both}
 use Rattle.fl_compress.specs.EncodedBytes.{encoded_bytes, over_reference, over_references, unless}
 use Rattle.fl_compress.specs.Statistics.{capped, chunk_size, chunk_sizes, delta_size, delta_sizes, framed_size, framed_sizes, is_candidate, is_delta, is_framed, is_packed, packed_size, packed_sizes, reference_size, reference_sizes, size_in, statistics_of}
 use Rattle.fl_compress.proofs.AnswerLaws.{Gives, gives}
-use Rattle.fl_compress.proofs.MadeBytes.{made_bytes}
+use Rattle.fl_compress.proofs.MadeBytes.{free_of_refusal, made_bytes}
 
 -- ---- what is computed
 pub packed_sizes_are : (p : PrimitiveParts) (plain : ℕ) (same : Bool) (one each : Option ℕ) → plain ≡ primitive_bytes p → same ≡ are_constant (column_of_primitive p).items → one ≡ encoded_bytes p (BitPacked BestWidth) → each ≡ encoded_bytes p (BitPacked BestWidths)
@@ -131,6 +131,88 @@ candidate_exact p (RLE values indices offsets) e =
     let rest = other_of (is_delta values) (is_framed indices && is_framed offsets) e in
     both_same _ _ _ _ (delta_exact (encode_runs p).values values (first_of (is_delta values) (is_framed indices && is_framed offsets) e))
     (both_same _ _ _ _ (framed_exact (encode_runs p).indices indices (first_of (is_framed indices) (is_framed offsets) rest)) (framed_exact (encode_runs p).offsets offsets (other_of (is_framed indices) (is_framed offsets) rest)))
+
+-- ---- a size that is there, of any scheme
+packed_some : (p : PrimitiveParts) (s : Shape) (n : ℕ) → packed_size (packed_sizes p) s ≡ Some n → encoded_bytes p s ≡ Some n
+unfolding encoded_bytes
+packed_some p Plain n e = e
+packed_some p Primitive n e = e
+packed_some p Constant n e = sym (constant_size (are_constant (column_of_primitive p).items)) ∙ e
+packed_some p (BitPacked BestWidth) n e = e
+packed_some p (BitPacked (Width width)) n e = cc
+packed_some p (BitPacked BestWidths) n e = e
+packed_some p (FoR encoded) n e = cc
+packed_some p (FoRChunked encoded references) n e = cc
+packed_some p (FoRWrapped encoded) n e = cc
+packed_some p (FoRChunkedWrapped encoded references) n e = cc
+packed_some p (Delta bases deltas) n e = cc
+packed_some p (RLE values indices offsets) n e = cc
+
+reference_some : (o : Result OneReference FastLanesError) (s : Shape) (n : ℕ) → reference_size (reference_sizes o) s ≡ Some n → over_reference (λ q. encoded_bytes q s) o ≡ Some n
+reference_some (Ok parts) s n e = packed_some parts.child s n e
+reference_some (Err refusal) s n e = cc
+
+both_some : (a b c d : Option ℕ) (n : ℕ) → ((m : ℕ) → a ≡ Some m → c ≡ Some m) → ((m : ℕ) → b ≡ Some m → d ≡ Some m) → both a b ≡ Some n → both c d ≡ Some n
+both_some (Some a) (Some b) c d n f g e = rw (f a refl, g b refl) e
+both_some (Some a) None c d n f g e = cc
+both_some None b c d n f g e = cc
+
+chunks_some : (o : FoRParts) (s r : Shape) (n : ℕ) → chunk_size (chunk_sizes o) s r ≡ Some n → over_references (λ q. encoded_bytes q s) (λ q. encoded_bytes q r) o ≡ Some n
+chunks_some (Whole parts) s r n e = packed_some parts.child s n e
+chunks_some (ByChunk child others) s r n e = both_some _ _ _ _ n (λ m f. packed_some child s m f) (λ m f. packed_some others r m f) e
+chunks_some (Nulls child reference) s r n e = e
+
+framed_some : (p : PrimitiveParts) (s : Shape) (n : ℕ) → framed_size (framed_sizes p) s ≡ Some n → encoded_bytes p s ≡ Some n
+unfolding encoded_bytes
+framed_some p Plain n e = packed_some p Plain n e
+framed_some p Primitive n e = packed_some p Primitive n e
+framed_some p Constant n e = packed_some p Constant n e
+framed_some p (BitPacked packing) n e = packed_some p (BitPacked packing) n e
+framed_some p (FoR encoded) n e = reference_some (encode_global_by Natural p) encoded n e
+framed_some p (FoRChunked encoded references) n e = chunks_some (encode_chunked_by Natural p) encoded references n e
+framed_some p (FoRWrapped encoded) n e = reference_some (encode_global_by Signed p) encoded n e
+framed_some p (FoRChunkedWrapped encoded references) n e = chunks_some (encode_chunked_by Signed p) encoded references n e
+framed_some p (Delta bases deltas) n e = cc
+framed_some p (RLE values indices offsets) n e = cc
+
+delta_some : (p : PrimitiveParts) (s : Shape) (n : ℕ) → delta_size (delta_sizes p) s ≡ Some n → encoded_bytes p s ≡ Some n
+unfolding encoded_bytes
+delta_some p Plain n e = framed_some p Plain n e
+delta_some p Primitive n e = framed_some p Primitive n e
+delta_some p Constant n e = framed_some p Constant n e
+delta_some p (BitPacked packing) n e = framed_some p (BitPacked packing) n e
+delta_some p (FoR encoded) n e = framed_some p (FoR encoded) n e
+delta_some p (FoRChunked encoded references) n e = framed_some p (FoRChunked encoded references) n e
+delta_some p (FoRWrapped encoded) n e = framed_some p (FoRWrapped encoded) n e
+delta_some p (FoRChunkedWrapped encoded references) n e = framed_some p (FoRChunkedWrapped encoded references) n e
+delta_some p (Delta bases deltas) n e =
+    both_some _ _ _ _ n (λ m f. framed_some (compress_deltas p).0 bases m f)
+    (λ m f. both_some _ (Some (validity_bytes (length p.slots) p.validity)) _ _ m (λ k g. framed_some (compress_deltas p).1 deltas k g) (λ k g. g) f) e
+delta_some p (RLE values indices offsets) n e = cc
+
+size_some : (p : PrimitiveParts) (s : Shape) (n : ℕ) → size_in (statistics_of p) s ≡ Some n → encoded_bytes p s ≡ Some n
+unfolding encoded_bytes statistics_of
+size_some p Plain n e = delta_some p Plain n e
+size_some p Primitive n e = delta_some p Primitive n e
+size_some p Constant n e = delta_some p Constant n e
+size_some p (BitPacked packing) n e = delta_some p (BitPacked packing) n e
+size_some p (FoR encoded) n e = delta_some p (FoR encoded) n e
+size_some p (FoRChunked encoded references) n e = delta_some p (FoRChunked encoded references) n e
+size_some p (FoRWrapped encoded) n e = delta_some p (FoRWrapped encoded) n e
+size_some p (FoRChunkedWrapped encoded references) n e = delta_some p (FoRChunkedWrapped encoded references) n e
+size_some p (Delta bases deltas) n e = delta_some p (Delta bases deltas) n e
+size_some p (RLE values indices offsets) n e =
+    both_some _ _ _ _ n (λ m f. delta_some (encode_runs p).values values m f)
+    (λ m f. both_some _ _ _ _ m (λ k g. framed_some (encode_runs p).indices indices k g) (λ k g. framed_some (encode_runs p).offsets offsets k g) f) e
+
+none_capped : (o : Option ℕ) → ((n : ℕ) → o ≡ Some n → ⊥) → capped o ≡ None
+none_capped None never = refl
+none_capped (Some n) never = absurd (never n refl)
+
+-- a scheme that is refused has no size
+pub size_is_refused : (p : PrimitiveParts) (statistics : Statistics) (scheme : Scheme) (o : Option ℕ) → o ≡ capped (size_in statistics (shape scheme)) → statistics ≡ statistics_of p → (encode_refusal scheme p ≡ None → ⊥) → o ≡ None
+size_is_refused p statistics scheme o size is refused =
+    size ∙ (ap (λ x. capped (size_in x (shape scheme))) is ∙ none_capped (size_in (statistics_of p) (shape scheme)) (λ n e. refused (free_of_refusal scheme p n (size_some p (shape scheme) n e))))
 
 -- ---- the answer
 pub size_is_exact : (p : PrimitiveParts) (statistics : Statistics) (s : Shape) (o : Option ℕ) → o ≡ capped (size_in statistics s) → statistics ≡ statistics_of p → IsTrue (is_candidate s) → o ≡ capped (encoded_bytes p s)

@@ -1,6 +1,6 @@
 //! How many bytes an array takes by a scheme, of its statistics.
 
-ghost use Rattle.std.specs.Prelude.{◌≡◌, ◌-◌, ◌^◌, ℕ, IsTrue, None, Option, Some, min};
+ghost use Rattle.std.specs.Prelude.{◌≡◌, ◌≢◌, ◌-◌, ◌^◌, ℕ, IsTrue, None, Option, Some, min};
 ghost use Rattle.fl_array.specs.Trees.{Tree};
 ghost use Rattle.fl_column.specs.Columns.{PrimitiveParts};
 ghost use Rattle.fl_encode.specs.declared.scheme.Scheme.{back-Scheme-FoR-0 as child_scheme};
@@ -149,10 +149,12 @@ fn candidate_size(scheme: &Scheme, statistics: &Statistics) -> Option<u64>
 }
 
 /// How many bytes an array takes when it is encoded by a scheme of the candidates and written: what `nbytes` says
-/// of it. `None` where `encode` refuses it, and for a scheme that is none of them.
+/// of it. `None` where `encode` refuses it. Of a scheme that is none of them it is `None` too, unless it differs from one of
+/// them only in the schemes of children that are not made.
 pub fn size_of(scheme: &Scheme, statistics: &Statistics) -> Option<u64>
     ensures size { result ≡ capped (size_in statistics.now (shape scheme.now)) }
     ensures exact { (p : PrimitiveParts) → statistics.now ≡ statistics_of p → IsTrue (is_candidate (shape scheme.now)) → result ≡ capped (encoded_bytes p (shape scheme.now)) }
+    ensures refused { (p : PrimitiveParts) → statistics.now ≡ statistics_of p → encode_refusal scheme.now p ≢ None → result ≡ None }
     ensures encoded { (p : PrimitiveParts) → (t : Tree) → statistics.now ≡ statistics_of p → IsTrue (is_candidate (shape scheme.now)) → encode_refusal scheme.now p ≡ None → IsEncodedAs scheme.now p t → result ≡ Some (min (tree_bytes t) (2 ^ 64 - 1)) }
 {
     candidate_size(scheme, statistics)

@@ -21,7 +21,7 @@ use Rattle.fl_array.specs.Trees.{BitPackedBlocked, BitPackedGlobal, Constant, De
 use Rattle.fl_array.specs.Trees as tree
 use Rattle.fl_array.proofs.EncodedRLE.{ok_is}
 use Rattle.fl_encode.specs.Encodings.{Makes}
-use Rattle.fl_encode.specs.Packings.{constant_of, constant_refusal}
+use Rattle.fl_encode.specs.Packings.{constant_of, constant_refusal, repeated}
 
 -- ---- a constant array
 is_same : (x y : Option ℤ) → same_item x y ≡ true → y ≡ x
@@ -37,20 +37,28 @@ all_same x (y ∷ ys) h =
     let rest = all_same x ys (and_second (same_item x y) (list_all (same_item x) ys) h) in
     rw first (ap (λ zs. x ∷ zs) rest)
 
-repeated : (items : List (Option ℤ)) (d : Option ℤ) → are_constant items ≡ true → replicate (length items) (slice_index_or items 0 d) ≡ items
-repeated [] d h = refl
-repeated (x ∷ ys) d h = all_same x (x ∷ ys) (and_first (list_all (same_item x) (x ∷ ys)) (list_all (λ y. list_all (same_item y) (x ∷ ys)) ys) h)
+copies : (items : List (Option ℤ)) (d : Option ℤ) → are_constant items ≡ true → replicate (length items) (slice_index_or items 0 d) ≡ items
+copies [] d h = refl
+copies (x ∷ ys) d h = all_same x (x ∷ ys) (and_first (list_all (same_item x) (x ∷ ys)) (list_all (λ y. list_all (same_item y) (x ∷ ys)) ys) h)
 
 pub constant_column : (p : PrimitiveParts) → IsTrue (covers p.validity (length p.slots)) → are_constant (column_of_primitive p).items ≡ true → column_of_constant (constant_of p) ≡ column_of_primitive p
 constant_column p covered h =
     let long : length (column_of_primitive p).items ≡ length p.slots = length-items_of p.validity p.slots covered in
-    let items = ap (λ n. replicate n (slice_index_or (column_of_primitive p).items 0 (Some (pos 0)))) (sym long) ∙ repeated (column_of_primitive p).items (Some (pos 0)) h in
+    let items = ap (λ n. replicate n (slice_index_or (column_of_primitive p).items 0 (Some (pos 0)))) (sym long) ∙ copies (column_of_primitive p).items (Some (pos 0)) h in
     ap (λ (xs : List (Option ℤ)). record { dtype = (column_of_primitive p).dtype; items = xs }) items
 
 repeated_parts : (p : PrimitiveParts) (scalar : ScalarParts) (n : ℕ) (k : ConstantParts) → scalar ≡ (constant_of p).scalar → n ≡ length p.slots → ◌≡◌ {A = Result ConstantParts FastLanesError} (Ok k) (new_constant scalar n) → k ≡ constant_of p
 repeated_parts p scalar n k e f is =
     let there : ◌≡◌ {A = Result ConstantParts FastLanesError} (Ok k) (new_constant (constant_of p).scalar (length p.slots)) = is ∙ (ap (λ (s : ScalarParts). new_constant s n) e ∙ ap (new_constant (constant_of p).scalar) f) in
     ok_is k (constant_of p) there
+
+-- the constant array of items that are equal is what repetition answers
+pub repeat_is : (p : PrimitiveParts) (scalar : ScalarParts) (n : ℕ) (k : ConstantParts) (t : Tree) (equal : Bool) → equal ≡ are_constant (column_of_primitive p).items → equal ≡ true → scalar ≡ (constant_of p).scalar → n ≡ length p.slots
+    → ◌≡◌ {A = Result ConstantParts FastLanesError} (Ok k) (new_constant scalar n) → t ≡ Constant k → ◌≡◌ {A = Result Tree FastLanesError} (Ok t) (repeated p)
+repeat_is p scalar n k t equal is so e f made own =
+    let all : are_constant (column_of_primitive p).items ≡ true = sym is ∙ so in
+    let parts : t ≡ Constant (constant_of p) = own ∙ ap (λ (c : ConstantParts). Constant c) (repeated_parts p scalar n k e f made) in
+    rw all (ap (λ (s : Tree). Ok s) parts)
 
 -- the constant array of items that are equal
 pub repeat_made : (p : PrimitiveParts) (scalar : ScalarParts) (n : ℕ) (k : ConstantParts) (t : Tree) (equal : Bool) → IsTrue (covers p.validity (length p.slots)) → equal ≡ are_constant (column_of_primitive p).items → equal ≡ true → scalar ≡ (constant_of p).scalar → n ≡ length p.slots

@@ -1,5 +1,5 @@
 -- What is read is what the grammar says.
-use Rattle.std.proofs.Common.{◌≡◌, ◌+◌, ◌-◌, ◌*◌, ◌==◌, ◌≤◌, ◌&&◌, ◌++◌, ◌⊎◌, ℕ, zero, suc, true, false, List, [], ◌∷◌, length, Option, Some, None, Ok, Err, refl, ap, sym, subst, ◌∙◌, inl, inr, arith, append_assoc, append-nil, nat_le}
+use Rattle.std.proofs.Common.{◌≡◌, ◌+◌, ◌-◌, ◌*◌, ◌==◌, ◌≤◌, ◌&&◌, ◌++◌, ◌⊎◌, ℕ, zero, suc, true, false, List, [], ◌∷◌, length, Option, Some, None, Ok, Err, refl, ap, sym, subst, ◌∙◌, inl, inr, arith, append_assoc, append-nil, max, nat_le}
 use Rattle.std.specs.Prelude.{Result, codes}
 use Rattle.std.specs.List.{list_all}
 use Rattle.std.specs.Option.{option_map_or}
@@ -13,7 +13,7 @@ use Rattle.fl_encode.specs.declared.text.reading.Frame.TheVariants as frames
 use Rattle.fl_encode.specs.declared.text.reading.Head.{Head}
 use Rattle.fl_encode.specs.declared.text.reading.Head.TheVariants as heads
 use Rattle.fl_encode.specs.Grammar.{AreThreeChildren, AreTwoChildren, IsOneChild, IsPackingText, IsSchemeText, IsTextOf, IsWidthText, is_digit, number_of}
-use Rattle.fl_encode.specs.Shapes.{BitPacked, Constant, Delta, FoR, FoRChunked, FoRChunkedWrapped, FoRWrapped, Plain, Primitive, RLE, Shape, is_plain}
+use Rattle.fl_encode.specs.Shapes.{BitPacked, Constant, Delta, FoR, FoRChunked, FoRChunkedWrapped, FoRWrapped, Plain, Primitive, RLE, Shape, is_plain, levels, max_levels}
 use Rattle.fl_encode.specs.Texts.{after, child_by, digits_behind, expected, frame_by, frame_in, furthest, goes_on, head_in, one_by, packing_behind, positioned, rest_behind, scheme_by, scheme_in, scheme_of_text, tail_behind, three_by, two_by, whole, width_in}
 
 -- ---- steps of a reader
@@ -37,7 +37,7 @@ same_some more rest e = cc
 none_some : {A : Type 0} (rest : List ℕ) → None ≡ Some rest → A
 none_some rest e = absurd cc
 
-same_ok : {A : Type 0} (x y : A) → (let r : Result A ℕ = Ok x in r) ≡ Ok y → x ≡ y
+pub same_ok : {A : Type 0} (x y : A) → (let r : Result A ℕ = Ok x in r) ≡ Ok y → x ≡ y
 same_ok x y e = cc
 
 err_ok : {A C : Type 0} (left : ℕ) (y : A) → (let r : Result A ℕ = Err left in r) ≡ Ok y → C
@@ -191,66 +191,70 @@ head_said text x e =
 abbrev pub Reader : Type 0
 Reader = List ℕ → Result (Shape × List ℕ) ℕ
 
-abbrev pub Says : List ℕ → Shape × List ℕ → Type 0
-Says text x = (own : List ℕ) × IsTextOf x.0 own × (text ≡ own ++ x.1)
+-- a text says a child of at most so many levels, and what is behind it
+abbrev pub Says : ℕ → List ℕ → Shape × List ℕ → Type 0
+Says n text x = (own : List ℕ) × IsTextOf x.0 own × (text ≡ own ++ x.1) × (levels x.0 ≤ n)
 
-abbrev pub Sound : Reader → Type 0
-Sound read = (text : List ℕ) (x : Shape × List ℕ) → read text ≡ Ok x → Says text x
+abbrev pub Sound : ℕ → Reader → Type 0
+Sound n read = (text : List ℕ) (x : Shape × List ℕ) → read text ≡ Ok x → Says n text x
 
-pub child_said : (read : Reader) → Sound read → Sound (child_by read)
-child_said read sound text x e = elim (option_cases (λ (rest : List ℕ). Ok (Plain, rest)) (tail_behind 95 text) (read text) x e) [
+pub child_said : (n : ℕ) (read : Reader) → Sound n read → Sound n (child_by read)
+child_said n read sound text x e = elim (option_cases (λ (rest : List ℕ). Ok (Plain, rest)) (tail_behind 95 text) (read text) x e) [
   | inl found ↦
-      let here : Says text (Plain, found.0) = (codes "_", refl, tail_is 95 text found.0 found.1) in
-      subst (Says text) (same_ok (Plain, found.0) x found.2) here
+      let here : Says n text (Plain, found.0) = (codes "_", refl, tail_is 95 text found.0 found.1, omega arith) in
+      subst (Says n text) (same_ok (Plain, found.0) x found.2) here
   | inr none ↦ sound text x none.1
 ]
 
-abbrev One : List ℕ → Shape × List ℕ → Type 0
-One text x = (own : List ℕ) × IsOneChild (is_plain x.0) (IsTextOf x.0) own × (text ≡ own ++ x.1)
+abbrev One : ℕ → List ℕ → Shape × List ℕ → Type 0
+One n text x = (own : List ℕ) × IsOneChild (is_plain x.0) (IsTextOf x.0) own × (text ≡ own ++ x.1) × (levels x.0 ≤ n)
 
-one_said : (read : Reader) → Sound read → (text : List ℕ) (x : Shape × List ℕ) → one_by read text ≡ Ok x → One text x
-one_said read sound text x e = elim (option_cases (λ inner. after (child_by read inner) (λ a. after (expected 41 a.1) (λ rest. Ok (a.0, rest)))) (tail_behind 40 text) (Ok (Plain, text)) x e) [
+one_said : (n : ℕ) (read : Reader) → Sound n read → (text : List ℕ) (x : Shape × List ℕ) → one_by read text ≡ Ok x → One n text x
+one_said n read sound text x e = elim (option_cases (λ inner. after (child_by read inner) (λ a. after (expected 41 a.1) (λ rest. Ok (a.0, rest)))) (tail_behind 40 text) (Ok (Plain, text)) x e) [
   | inl found ↦
       let a = after_ok (child_by read found.0) (λ a. after (expected 41 a.1) (λ rest. Ok (a.0, rest))) x found.2 in
       let last = after_ok (expected 41 a.0.1) (λ rest. Ok (a.0.0, rest)) x a.2 in
-      let said = child_said read sound found.0 a.0 a.1 in
+      let said = child_said n read sound found.0 a.0 a.1 in
       let closed = expected_is 41 a.0.1 last.0 last.1 in
       let text_is : text ≡ (40 ∷ (said.0 ++ 41 ∷ [])) ++ last.0 = tail_is 40 text found.0 found.1 ∙ ap (λ (t : List ℕ). 40 ∷ t) (said.2 ∙ (ap (λ (t : List ℕ). said.0 ++ t) closed ∙ sym (append_assoc said.0 (41 ∷ []) last.0))) in
-      let here : One text (a.0.0, last.0) = (40 ∷ (said.0 ++ 41 ∷ []), inr (said.0, said.1, refl), text_is) in
-      subst (One text) (same_ok (a.0.0, last.0) x last.2) here
+      let here : One n text (a.0.0, last.0) = (40 ∷ (said.0 ++ 41 ∷ []), inr (said.0, said.1, refl), text_is, said.3) in
+      subst (One n text) (same_ok (a.0.0, last.0) x last.2) here
   | inr none ↦
-      let here : One text (Plain, text) = ([], inl (refl, refl), refl) in
-      subst (One text) (same_ok (Plain, text) x none.1) here
+      let here : One n text (Plain, text) = ([], inl (refl, refl), refl, omega arith) in
+      subst (One n text) (same_ok (Plain, text) x none.1) here
 ]
 
-abbrev Two : List ℕ → Shape × Shape × List ℕ → Type 0
-Two text x = (own : List ℕ) × AreTwoChildren (is_plain x.0 && is_plain x.1) (IsTextOf x.0) (IsTextOf x.1) own × (text ≡ own ++ x.2)
+pub both_low : {m k n : ℕ} → m ≤ n → k ≤ n → max m k ≤ n
+both_low {m = m} {k = k} {n = n} h l = omega arith
 
-two_said : (read : Reader) → Sound read → (text : List ℕ) (x : Shape × Shape × List ℕ) → two_by read text ≡ Ok x → Two text x
-two_said read sound text x e = elim (option_cases (λ inner. after (child_by read inner) (λ a. after (expected 44 a.1) (λ more. after (child_by read more) (λ b. after (expected 41 b.1) (λ rest. Ok (a.0, b.0, rest)))))) (tail_behind 40 text) (Ok (Plain, Plain, text)) x e) [
+abbrev Two : ℕ → List ℕ → Shape × Shape × List ℕ → Type 0
+Two n text x = (own : List ℕ) × AreTwoChildren (is_plain x.0 && is_plain x.1) (IsTextOf x.0) (IsTextOf x.1) own × (text ≡ own ++ x.2) × (max (levels x.0) (levels x.1) ≤ n)
+
+two_said : (n : ℕ) (read : Reader) → Sound n read → (text : List ℕ) (x : Shape × Shape × List ℕ) → two_by read text ≡ Ok x → Two n text x
+two_said n read sound text x e = elim (option_cases (λ inner. after (child_by read inner) (λ a. after (expected 44 a.1) (λ more. after (child_by read more) (λ b. after (expected 41 b.1) (λ rest. Ok (a.0, b.0, rest)))))) (tail_behind 40 text) (Ok (Plain, Plain, text)) x e) [
   | inl found ↦
       let a = after_ok (child_by read found.0) (λ a. after (expected 44 a.1) (λ more. after (child_by read more) (λ b. after (expected 41 b.1) (λ rest. Ok (a.0, b.0, rest))))) x found.2 in
       let comma = after_ok (expected 44 a.0.1) (λ more. after (child_by read more) (λ b. after (expected 41 b.1) (λ rest. Ok (a.0.0, b.0, rest)))) x a.2 in
       let b = after_ok (child_by read comma.0) (λ b. after (expected 41 b.1) (λ rest. Ok (a.0.0, b.0, rest))) x comma.2 in
       let last = after_ok (expected 41 b.0.1) (λ rest. Ok (a.0.0, b.0.0, rest)) x b.2 in
-      let first = child_said read sound found.0 a.0 a.1 in
-      let second = child_said read sound comma.0 b.0 b.1 in
+      let first = child_said n read sound found.0 a.0 a.1 in
+      let second = child_said n read sound comma.0 b.0 b.1 in
       let closed : comma.0 ≡ (second.0 ++ 41 ∷ []) ++ last.0 = second.2 ∙ (ap (λ (t : List ℕ). second.0 ++ t) (expected_is 41 b.0.1 last.0 last.1) ∙ sym (append_assoc second.0 (41 ∷ []) last.0)) in
       let middle : a.0.1 ≡ (44 ∷ (second.0 ++ 41 ∷ [])) ++ last.0 = expected_is 44 a.0.1 comma.0 comma.1 ∙ ap (λ (t : List ℕ). 44 ∷ t) closed in
       let text_is : text ≡ (40 ∷ (first.0 ++ 44 ∷ (second.0 ++ 41 ∷ []))) ++ last.0 =
       tail_is 40 text found.0 found.1 ∙ ap (λ (t : List ℕ). 40 ∷ t) (first.2 ∙ (ap (λ (t : List ℕ). first.0 ++ t) middle ∙ sym (append_assoc first.0 (44 ∷ (second.0 ++ 41 ∷ [])) last.0))) in
-      let here : Two text (a.0.0, b.0.0, last.0) = (40 ∷ (first.0 ++ 44 ∷ (second.0 ++ 41 ∷ [])), inr (first.0, second.0, first.1, second.1, refl), text_is) in
-      subst (Two text) (same_ok (a.0.0, b.0.0, last.0) x last.2) here
+      let here : Two n text (a.0.0, b.0.0, last.0) = (40 ∷ (first.0 ++ 44 ∷ (second.0 ++ 41 ∷ [])), inr (first.0, second.0, first.1, second.1, refl), text_is, both_low first.3 second.3) in
+      subst (Two n text) (same_ok (a.0.0, b.0.0, last.0) x last.2) here
   | inr none ↦
-      let here : Two text (Plain, Plain, text) = ([], inl (refl, refl), refl) in
-      subst (Two text) (same_ok (Plain, Plain, text) x none.1) here
+      let here : Two n text (Plain, Plain, text) = ([], inl (refl, refl), refl, omega arith) in
+      subst (Two n text) (same_ok (Plain, Plain, text) x none.1) here
 ]
 
-abbrev Three : List ℕ → Shape × Shape × Shape × List ℕ → Type 0
-Three text x = (own : List ℕ) × AreThreeChildren (is_plain x.0 && (is_plain x.1 && is_plain x.2)) (IsTextOf x.0) (IsTextOf x.1) (IsTextOf x.2) own × (text ≡ own ++ x.3)
+abbrev Three : ℕ → List ℕ → Shape × Shape × Shape × List ℕ → Type 0
+Three n text x = (own : List ℕ) × AreThreeChildren (is_plain x.0 && (is_plain x.1 && is_plain x.2)) (IsTextOf x.0) (IsTextOf x.1) (IsTextOf x.2) own × (text ≡ own ++ x.3) × (max (levels x.0) (max (levels x.1) (levels x.2)) ≤ n)
 
-three_said : (read : Reader) → Sound read → (text : List ℕ) (x : Shape × Shape × Shape × List ℕ) → three_by read text ≡ Ok x → Three text x
-three_said read sound text x e = elim (option_cases (λ inner. after (child_by read inner) (λ a. after (expected 44 a.1) (λ more. after (child_by read more) (λ b. after (expected 44 b.1) (λ last. after (child_by read last) (λ c. after (expected 41 c.1) (λ rest. Ok (a.0, b.0, c.0, rest)))))))) (tail_behind 40 text) (Ok (Plain, Plain, Plain, text)) x e) [
+three_said : (n : ℕ) (read : Reader) → Sound n read → (text : List ℕ) (x : Shape × Shape × Shape × List ℕ) → three_by read text ≡ Ok x → Three n text x
+three_said n read sound text x e = elim (option_cases (λ inner. after (child_by read inner) (λ a. after (expected 44 a.1) (λ more. after (child_by read more) (λ b. after (expected 44 b.1) (λ last. after (child_by read last) (λ c. after (expected 41 c.1) (λ rest. Ok (a.0, b.0, c.0, rest)))))))) (tail_behind 40 text) (Ok (Plain, Plain, Plain, text)) x e) [
   | inl found ↦
       let a = after_ok (child_by read found.0) (λ a. after (expected 44 a.1) (λ more. after (child_by read more) (λ b. after (expected 44 b.1) (λ last. after (child_by read last) (λ c. after (expected 41 c.1) (λ rest. Ok (a.0, b.0, c.0, rest))))))) x found.2 in
       let comma = after_ok (expected 44 a.0.1) (λ more. after (child_by read more) (λ b. after (expected 44 b.1) (λ last. after (child_by read last) (λ c. after (expected 41 c.1) (λ rest. Ok (a.0.0, b.0, c.0, rest)))))) x a.2 in
@@ -258,82 +262,85 @@ three_said read sound text x e = elim (option_cases (λ inner. after (child_by r
       let next = after_ok (expected 44 b.0.1) (λ last. after (child_by read last) (λ c. after (expected 41 c.1) (λ rest. Ok (a.0.0, b.0.0, c.0, rest)))) x b.2 in
       let c = after_ok (child_by read next.0) (λ c. after (expected 41 c.1) (λ rest. Ok (a.0.0, b.0.0, c.0, rest))) x next.2 in
       let last = after_ok (expected 41 c.0.1) (λ rest. Ok (a.0.0, b.0.0, c.0.0, rest)) x c.2 in
-      let first = child_said read sound found.0 a.0 a.1 in
-      let second = child_said read sound comma.0 b.0 b.1 in
-      let third = child_said read sound next.0 c.0 c.1 in
+      let first = child_said n read sound found.0 a.0 a.1 in
+      let second = child_said n read sound comma.0 b.0 b.1 in
+      let third = child_said n read sound next.0 c.0 c.1 in
       let closed : next.0 ≡ (third.0 ++ 41 ∷ []) ++ last.0 = third.2 ∙ (ap (λ (t : List ℕ). third.0 ++ t) (expected_is 41 c.0.1 last.0 last.1) ∙ sym (append_assoc third.0 (41 ∷ []) last.0)) in
       let inner : b.0.1 ≡ (44 ∷ (third.0 ++ 41 ∷ [])) ++ last.0 = expected_is 44 b.0.1 next.0 next.1 ∙ ap (λ (t : List ℕ). 44 ∷ t) closed in
       let behind : comma.0 ≡ (second.0 ++ 44 ∷ (third.0 ++ 41 ∷ [])) ++ last.0 = second.2 ∙ (ap (λ (t : List ℕ). second.0 ++ t) inner ∙ sym (append_assoc second.0 (44 ∷ (third.0 ++ 41 ∷ [])) last.0)) in
       let middle : a.0.1 ≡ (44 ∷ (second.0 ++ 44 ∷ (third.0 ++ 41 ∷ []))) ++ last.0 = expected_is 44 a.0.1 comma.0 comma.1 ∙ ap (λ (t : List ℕ). 44 ∷ t) behind in
       let text_is : text ≡ (40 ∷ (first.0 ++ 44 ∷ (second.0 ++ 44 ∷ (third.0 ++ 41 ∷ [])))) ++ last.0 =
       tail_is 40 text found.0 found.1 ∙ ap (λ (t : List ℕ). 40 ∷ t) (first.2 ∙ (ap (λ (t : List ℕ). first.0 ++ t) middle ∙ sym (append_assoc first.0 (44 ∷ (second.0 ++ 44 ∷ (third.0 ++ 41 ∷ []))) last.0))) in
-      let here : Three text (a.0.0, b.0.0, c.0.0, last.0) = (40 ∷ (first.0 ++ 44 ∷ (second.0 ++ 44 ∷ (third.0 ++ 41 ∷ []))), inr (first.0, second.0, third.0, first.1, second.1, third.1, refl), text_is) in
-      subst (Three text) (same_ok (a.0.0, b.0.0, c.0.0, last.0) x last.2) here
+      let here : Three n text (a.0.0, b.0.0, c.0.0, last.0) = (40 ∷ (first.0 ++ 44 ∷ (second.0 ++ 44 ∷ (third.0 ++ 41 ∷ []))), inr (first.0, second.0, third.0, first.1, second.1, third.1, refl), text_is, both_low first.3 (both_low second.3 third.3)) in
+      subst (Three n text) (same_ok (a.0.0, b.0.0, c.0.0, last.0) x last.2) here
   | inr none ↦
-      let here : Three text (Plain, Plain, Plain, text) = ([], inl (refl, refl), refl) in
-      subst (Three text) (same_ok (Plain, Plain, Plain, text) x none.1) here
+      let here : Three n text (Plain, Plain, Plain, text) = ([], inl (refl, refl), refl, omega arith) in
+      subst (Three n text) (same_ok (Plain, Plain, Plain, text) x none.1) here
 ]
 
 -- ---- schemes
-abbrev pub SaysScheme : List ℕ → Shape × List ℕ → Type 0
-SaysScheme text x = (own : List ℕ) × IsTextOf x.0 own × (text ≡ own ++ x.1) × (is_plain x.0 ≡ false)
+abbrev pub SaysScheme : ℕ → List ℕ → Shape × List ℕ → Type 0
+SaysScheme n text x = (own : List ℕ) × IsTextOf x.0 own × (text ≡ own ++ x.1) × (is_plain x.0 ≡ false) × (levels x.0 ≤ n)
 
-frame_by_said : (read : Reader) → Sound read → (frame : Frame) (text : List ℕ) (x : Shape × List ℕ) → frame_by read frame text ≡ Ok x → SaysScheme (codes "for" ++ (letters frame ++ text)) x
-frame_by_said read sound frames.Whole text x e =
+pub above : {m n : ℕ} → m ≤ n → m + 1 ≤ suc n
+above {m = m} {n = n} h = omega arith
+
+frame_by_said : (n : ℕ) (read : Reader) → Sound n read → (frame : Frame) (text : List ℕ) (x : Shape × List ℕ) → frame_by read frame text ≡ Ok x → SaysScheme (suc n) (codes "for" ++ (letters frame ++ text)) x
+frame_by_said n read sound frames.Whole text x e =
     let r = after_ok (one_by read text) (λ a. Ok (FoR a.0, a.1)) x e in
-    let said = one_said read sound text r.0 r.1 in
-    let here : SaysScheme (codes "for" ++ text) (FoR r.0.0, r.0.1) = (codes "for" ++ said.0, (said.0, said.1, refl), ap (λ (t : List ℕ). codes "for" ++ t) said.2, refl) in
-    subst (SaysScheme (codes "for" ++ text)) (same_ok (FoR r.0.0, r.0.1) x r.2) here
-frame_by_said read sound frames.WholeWrapped text x e =
+    let said = one_said n read sound text r.0 r.1 in
+    let here : SaysScheme (suc n) (codes "for" ++ text) (FoR r.0.0, r.0.1) = (codes "for" ++ said.0, (said.0, said.1, refl), ap (λ (t : List ℕ). codes "for" ++ t) said.2, refl, above said.3) in
+    subst (SaysScheme (suc n) (codes "for" ++ text)) (same_ok (FoR r.0.0, r.0.1) x r.2) here
+frame_by_said n read sound frames.WholeWrapped text x e =
     let r = after_ok (one_by read text) (λ a. Ok (FoRWrapped a.0, a.1)) x e in
-    let said = one_said read sound text r.0 r.1 in
-    let here : SaysScheme (codes "forw" ++ text) (FoRWrapped r.0.0, r.0.1) = (codes "forw" ++ said.0, (said.0, said.1, refl), ap (λ (t : List ℕ). codes "forw" ++ t) said.2, refl) in
-    subst (SaysScheme (codes "forw" ++ text)) (same_ok (FoRWrapped r.0.0, r.0.1) x r.2) here
-frame_by_said read sound frames.Chunked text x e =
+    let said = one_said n read sound text r.0 r.1 in
+    let here : SaysScheme (suc n) (codes "forw" ++ text) (FoRWrapped r.0.0, r.0.1) = (codes "forw" ++ said.0, (said.0, said.1, refl), ap (λ (t : List ℕ). codes "forw" ++ t) said.2, refl, above said.3) in
+    subst (SaysScheme (suc n) (codes "forw" ++ text)) (same_ok (FoRWrapped r.0.0, r.0.1) x r.2) here
+frame_by_said n read sound frames.Chunked text x e =
     let r = after_ok (two_by read text) (λ a. Ok (FoRChunked a.0 a.1, a.2)) x e in
-    let said = two_said read sound text r.0 r.1 in
-    let here : SaysScheme (codes "forc" ++ text) (FoRChunked r.0.0 r.0.1, r.0.2) = (codes "forc" ++ said.0, (said.0, said.1, refl), ap (λ (t : List ℕ). codes "forc" ++ t) said.2, refl) in
-    subst (SaysScheme (codes "forc" ++ text)) (same_ok (FoRChunked r.0.0 r.0.1, r.0.2) x r.2) here
-frame_by_said read sound frames.ChunkedWrapped text x e =
+    let said = two_said n read sound text r.0 r.1 in
+    let here : SaysScheme (suc n) (codes "forc" ++ text) (FoRChunked r.0.0 r.0.1, r.0.2) = (codes "forc" ++ said.0, (said.0, said.1, refl), ap (λ (t : List ℕ). codes "forc" ++ t) said.2, refl, above said.3) in
+    subst (SaysScheme (suc n) (codes "forc" ++ text)) (same_ok (FoRChunked r.0.0 r.0.1, r.0.2) x r.2) here
+frame_by_said n read sound frames.ChunkedWrapped text x e =
     let r = after_ok (two_by read text) (λ a. Ok (FoRChunkedWrapped a.0 a.1, a.2)) x e in
-    let said = two_said read sound text r.0 r.1 in
-    let here : SaysScheme (codes "forcw" ++ text) (FoRChunkedWrapped r.0.0 r.0.1, r.0.2) = (codes "forcw" ++ said.0, (said.0, said.1, refl), ap (λ (t : List ℕ). codes "forcw" ++ t) said.2, refl) in
-    subst (SaysScheme (codes "forcw" ++ text)) (same_ok (FoRChunkedWrapped r.0.0 r.0.1, r.0.2) x r.2) here
+    let said = two_said n read sound text r.0 r.1 in
+    let here : SaysScheme (suc n) (codes "forcw" ++ text) (FoRChunkedWrapped r.0.0 r.0.1, r.0.2) = (codes "forcw" ++ said.0, (said.0, said.1, refl), ap (λ (t : List ℕ). codes "forcw" ++ t) said.2, refl, above said.3) in
+    subst (SaysScheme (suc n) (codes "forcw" ++ text)) (same_ok (FoRChunkedWrapped r.0.0 r.0.1, r.0.2) x r.2) here
 
-scheme_by_said : (read : Reader) → Sound read → (head : Head) (word text : List ℕ) (x : Shape × List ℕ) → IsHead head word → scheme_by read head text ≡ Ok x → SaysScheme (word ++ text) x
-scheme_by_said read sound heads.Primitive word text x is e =
-    let here : SaysScheme (word ++ text) (Primitive, text) = (word, is, refl, refl) in
-    subst (SaysScheme (word ++ text)) (same_ok (Primitive, text) x e) here
-scheme_by_said read sound heads.Constant word text x is e =
-    let here : SaysScheme (word ++ text) (Constant, text) = (word, is, refl, refl) in
-    subst (SaysScheme (word ++ text)) (same_ok (Constant, text) x e) here
-scheme_by_said read sound (heads.BitPacked packing) word text x is e =
-    let here : SaysScheme (word ++ text) (BitPacked packing, text) = (word, is, refl, refl) in
-    subst (SaysScheme (word ++ text)) (same_ok (BitPacked packing, text) x e) here
-scheme_by_said read sound (heads.FoR frame) word text x is e =
+scheme_by_said : (n : ℕ) (read : Reader) → Sound n read → (head : Head) (word text : List ℕ) (x : Shape × List ℕ) → IsHead head word → scheme_by read head text ≡ Ok x → SaysScheme (suc n) (word ++ text) x
+scheme_by_said n read sound heads.Primitive word text x is e =
+    let here : SaysScheme (suc n) (word ++ text) (Primitive, text) = (word, is, refl, refl, omega arith) in
+    subst (SaysScheme (suc n) (word ++ text)) (same_ok (Primitive, text) x e) here
+scheme_by_said n read sound heads.Constant word text x is e =
+    let here : SaysScheme (suc n) (word ++ text) (Constant, text) = (word, is, refl, refl, omega arith) in
+    subst (SaysScheme (suc n) (word ++ text)) (same_ok (Constant, text) x e) here
+scheme_by_said n read sound (heads.BitPacked packing) word text x is e =
+    let here : SaysScheme (suc n) (word ++ text) (BitPacked packing, text) = (word, is, refl, refl, omega arith) in
+    subst (SaysScheme (suc n) (word ++ text)) (same_ok (BitPacked packing, text) x e) here
+scheme_by_said n read sound (heads.FoR frame) word text x is e =
     let same : codes "for" ++ (letters frame ++ text) ≡ word ++ text = sym (ap (λ (t : List ℕ). t ++ text) is ∙ append_assoc (codes "for") (letters frame) text) in
-    subst (λ (t : List ℕ). SaysScheme t x) same (frame_by_said read sound frame text x e)
-scheme_by_said read sound heads.Delta word text x is e =
+    subst (λ (t : List ℕ). SaysScheme (suc n) t x) same (frame_by_said n read sound frame text x e)
+scheme_by_said n read sound heads.Delta word text x is e =
     let r = after_ok (two_by read text) (λ a. Ok (Delta a.0 a.1, a.2)) x e in
-    let said = two_said read sound text r.0 r.1 in
-    let here : SaysScheme (codes "delta" ++ text) (Delta r.0.0 r.0.1, r.0.2) = (codes "delta" ++ said.0, (said.0, said.1, refl), ap (λ (t : List ℕ). codes "delta" ++ t) said.2, refl) in
-    subst (λ (t : List ℕ). SaysScheme (t ++ text) x) (sym is) (subst (SaysScheme (codes "delta" ++ text)) (same_ok (Delta r.0.0 r.0.1, r.0.2) x r.2) here)
-scheme_by_said read sound heads.RLE word text x is e =
+    let said = two_said n read sound text r.0 r.1 in
+    let here : SaysScheme (suc n) (codes "delta" ++ text) (Delta r.0.0 r.0.1, r.0.2) = (codes "delta" ++ said.0, (said.0, said.1, refl), ap (λ (t : List ℕ). codes "delta" ++ t) said.2, refl, above said.3) in
+    subst (λ (t : List ℕ). SaysScheme (suc n) (t ++ text) x) (sym is) (subst (SaysScheme (suc n) (codes "delta" ++ text)) (same_ok (Delta r.0.0 r.0.1, r.0.2) x r.2) here)
+scheme_by_said n read sound heads.RLE word text x is e =
     let r = after_ok (three_by read text) (λ a. Ok (RLE a.0 a.1 a.2, a.3)) x e in
-    let said = three_said read sound text r.0 r.1 in
-    let here : SaysScheme (codes "rle" ++ text) (RLE r.0.0 r.0.1 r.0.2, r.0.3) = (codes "rle" ++ said.0, (said.0, said.1, refl), ap (λ (t : List ℕ). codes "rle" ++ t) said.2, refl) in
-    subst (λ (t : List ℕ). SaysScheme (t ++ text) x) (sym is) (subst (SaysScheme (codes "rle" ++ text)) (same_ok (RLE r.0.0 r.0.1 r.0.2, r.0.3) x r.2) here)
+    let said = three_said n read sound text r.0 r.1 in
+    let here : SaysScheme (suc n) (codes "rle" ++ text) (RLE r.0.0 r.0.1 r.0.2, r.0.3) = (codes "rle" ++ said.0, (said.0, said.1, refl), ap (λ (t : List ℕ). codes "rle" ++ t) said.2, refl, above said.3) in
+    subst (λ (t : List ℕ). SaysScheme (suc n) (t ++ text) x) (sym is) (subst (SaysScheme (suc n) (codes "rle" ++ text)) (same_ok (RLE r.0.0 r.0.1 r.0.2, r.0.3) x r.2) here)
 
-pub forget : (text : List ℕ) (x : Shape × List ℕ) → SaysScheme text x → Says text x
-forget text x said = (said.0, said.1, said.2)
+pub forget : (n : ℕ) (text : List ℕ) (x : Shape × List ℕ) → SaysScheme n text x → Says n text x
+forget n text x said = (said.0, said.1, said.2, said.4)
 
-pub scheme_said : (depth : ℕ) (text : List ℕ) (x : Shape × List ℕ) → scheme_in depth text ≡ Ok x → SaysScheme text x
+pub scheme_said : (depth : ℕ) (text : List ℕ) (x : Shape × List ℕ) → scheme_in depth text ≡ Ok x → SaysScheme depth text x
 scheme_said zero text x e = err_ok (length text) x e
 scheme_said (suc depth) text x e =
     let read = after_ok (head_in text) (λ h. scheme_by (scheme_in depth) h.0 h.1) x e in
     let head = head_said text read.0 read.1 in
-    let sound : Sound (scheme_in depth) = λ t y h. forget t y (scheme_said depth t y h) in
-    subst (λ (t : List ℕ). SaysScheme t x) (sym head.2) (scheme_by_said (scheme_in depth) sound read.0.0 head.0 read.0.1 x head.1 read.2)
+    let sound : Sound depth (scheme_in depth) = λ t y h. forget depth t y (scheme_said depth t y h) in
+    subst (λ (t : List ℕ). SaysScheme (suc depth) t x) (sym head.2) (scheme_by_said depth (scheme_in depth) sound read.0.0 head.0 read.0.1 x head.1 read.2)
 
 -- ---- whole texts
 whole_is : (x : Shape × List ℕ) (s : Shape) → whole x ≡ Ok s → x ≡ (s, [])
@@ -347,6 +354,6 @@ position_ok n (Err left) s e = err_ok (n - left) s e
 -- what is read is a text of the scheme
 pub read_by_grammar : (text : List ℕ) (s : Shape) → scheme_of_text text ≡ Ok s → IsSchemeText s text
 read_by_grammar text s e =
-    let read = after_ok (scheme_in (length text) text) whole s (position_ok (length text) (after (scheme_in (length text) text) whole) s e) in
-    let said = subst (SaysScheme text) (whole_is read.0 s read.2) (scheme_said (length text) text read.0 read.1) in
-    (subst (IsTextOf s) (sym (said.2 ∙ append-nil said.0)) said.1, said.3)
+    let read = after_ok (scheme_in max_levels text) whole s (position_ok (length text) (after (scheme_in max_levels text) whole) s e) in
+    let said = subst (SaysScheme max_levels text) (whole_is read.0 s read.2) (scheme_said max_levels text read.0 read.1) in
+    (subst (IsTextOf s) (sym (said.2 ∙ append-nil said.0)) said.1, said.3, said.4)

@@ -1,6 +1,6 @@
 -- What the grammar says is read.
-use Rattle.std.proofs.Common.{◌≡◌, ◌+◌, ◌-◌, ◌*◌, ◌==◌, ◌<◌, ◌≤◌, ◌&&◌, ◌++◌, ◌⊎◌, ℕ, zero, suc, Bool, true, false, List, [], ◌∷◌, length, Ok, refl, ap, sym, ◌∙◌, inl, inr, arith, append_assoc, append-nil, length-append}
-use Rattle.std.specs.Prelude.{Result, codes}
+use Rattle.std.proofs.Common.{◌≡◌, ◌+◌, ◌-◌, ◌*◌, ◌==◌, ◌<◌, ◌≤◌, ◌&&◌, ◌++◌, ◌⊎◌, ℕ, zero, suc, Bool, true, false, List, [], ◌∷◌, length, Ok, Err, refl, ap, sym, ◌∙◌, inl, inr, arith, append_assoc, append-nil}
+use Rattle.std.specs.Prelude.{Result}
 use Rattle.std.specs.List.{list_all}
 use Rattle.std.proofs.lemmas.Bool.Decides.{nat_tests}
 use Rattle.fl_column.proofs.ListLaws.{and_first, and_second}
@@ -8,9 +8,11 @@ use Rattle.fl_encode.specs.declared.scheme.Packing.TheVariants.{BestWidth, BestW
 use Rattle.fl_encode.specs.declared.text.reading.Frame.TheVariants as frames
 use Rattle.fl_encode.specs.declared.text.reading.Head.TheVariants as heads
 use Rattle.fl_encode.specs.Grammar.{AreThreeChildren, AreTwoChildren, IsOneChild, IsSchemeText, IsTextOf, IsWidthText, is_digit, number_of}
-use Rattle.fl_encode.specs.Shapes.{BitPacked, Constant, Delta, FoR, FoRChunked, FoRChunkedWrapped, FoRWrapped, Plain, Primitive, RLE, Shape, is_plain}
-use Rattle.fl_encode.specs.Texts.{after, child_by, digits_behind, expected, frame_in, one_by, positioned, scheme_in, scheme_of_text, three_by, two_by, whole, width_in}
-use Rattle.fl_encode.proofs.TextLaws.{Reader, follows, for_head, goes, headed, height, no_children, no_letters, no_wrap, plain_is, reads, stops, widened}
+use Rattle.fl_encode.specs.Shapes.{BitPacked, Constant, Delta, FoR, FoRChunked, FoRChunkedWrapped, FoRWrapped, Plain, Primitive, RLE, Shape, is_plain, levels, max_levels, scheme_text, shape}
+use Rattle.fl_encode.specs.Texts.{after, child_by, digits_behind, expected, frame_in, has_widths, one_by, positioned, scheme_in, scheme_of_text, three_by, two_by, whole, width_in}
+use Rattle.fl_encode.specs.declared.scheme.Scheme.{Scheme}
+use Rattle.fl_encode.proofs.GrammarLaws.{read_by_grammar, same_ok}
+use Rattle.fl_encode.proofs.TextLaws.{Reader, follows, for_head, goes, headed, no_children, no_letters, no_wrap, plain_is, reads, shape_some, stops, widened}
 
 -- ---- widths
 pub grows : (n : ℕ) (digits : List ℕ) → n ≤ number_of n digits
@@ -123,9 +125,9 @@ chunked_frame own rest f (inr (more, e)) = ap (λ (t : List ℕ). frame_in (99 �
 
 -- ---- schemes
 abbrev At : Shape → ℕ → List ℕ → Type 0
-At s n rest = (text : List ℕ) → IsTextOf s text → is_plain s ≡ false → height s < n → follows rest ≡ true → scheme_in n (text ++ rest) ≡ Ok (s, rest)
+At s n rest = (text : List ℕ) → IsTextOf s text → is_plain s ≡ false → levels s ≤ n → follows rest ≡ true → scheme_in n (text ++ rest) ≡ Ok (s, rest)
 
-pub read_any : (s : Shape) (n : ℕ) (rest text : List ℕ) → IsTextOf s text → is_plain s ≡ false → height s < n → follows rest ≡ true → scheme_in n (text ++ rest) ≡ Ok (s, rest)
+pub read_any : (s : Shape) (n : ℕ) (rest text : List ℕ) → IsTextOf s text → is_plain s ≡ false → levels s ≤ n → follows rest ≡ true → scheme_in n (text ++ rest) ≡ Ok (s, rest)
 read_any Plain n rest text is p h f = cc
 read_any Primitive n rest text is p h f = ap (λ (t : List ℕ). scheme_in n (t ++ rest)) is ∙ reads Primitive n rest refl refl h f
 read_any Constant n rest text is p h f = ap (λ (t : List ℕ). scheme_in n (t ++ rest)) is ∙ reads Constant n rest refl refl h f
@@ -163,68 +165,32 @@ read_any (RLE a b c) (suc n) rest text is p h f =
     (λ child more k g. child_read c (scheme_in n) child more k (λ q. read_any c n more child k q (omega arith) g)) in
     ap (λ (t : List ℕ). scheme_in (suc n) (t ++ rest)) is.2 ∙ ap (λ (o : Result (Shape × Shape × Shape × List ℕ) ℕ). after o (λ x. Ok (RLE x.0 x.1 x.2, x.3))) back
 
--- ---- a text is longer than its scheme is deep
-flat : (s : Shape) → is_plain s ≡ true → height s ≡ 0
-flat s h = ap height (plain_is s h)
-
-one_tall : (a : Shape) (own : List ℕ) → IsOneChild (is_plain a) (IsTextOf a) own → ((child : List ℕ) → IsTextOf a child → height a < length child) → height a ≤ length own
-one_tall a own (inl (plain, e)) tall = let none = flat a plain in omega arith
-one_tall a own (inr (child, is, e)) tall =
-    let low = tall child is in
-    let long : length (child ++ 41 ∷ []) ≡ length child + 1 = length-append child (41 ∷ []) in
-    let size : length own ≡ suc (length (child ++ 41 ∷ [])) = ap length e in
-    omega arith
-
-two_tall : (a b : Shape) (own : List ℕ) → AreTwoChildren (is_plain a && is_plain b) (IsTextOf a) (IsTextOf b) own → ((child : List ℕ) → IsTextOf a child → height a < length child) → ((child : List ℕ) → IsTextOf b child → height b < length child) → height a + height b ≤ length own
-two_tall a b own (inl (plain, e)) talla tallb =
-    let first = flat a (and_first (is_plain a) (is_plain b) plain) in
-    let second = flat b (and_second (is_plain a) (is_plain b) plain) in
-    omega arith
-two_tall a b own (inr (first, second, isa, isb, e)) talla tallb =
-    let low = talla first isa in
-    let next = tallb second isb in
-    let inner : length (second ++ 41 ∷ []) ≡ length second + 1 = length-append second (41 ∷ []) in
-    let long : length (first ++ 44 ∷ (second ++ 41 ∷ [])) ≡ length first + suc (length (second ++ 41 ∷ [])) = length-append first (44 ∷ (second ++ 41 ∷ [])) in
-    let size : length own ≡ suc (length (first ++ 44 ∷ (second ++ 41 ∷ []))) = ap length e in
-    omega arith
-
-three_tall : (a b c : Shape) (own : List ℕ) → AreThreeChildren (is_plain a && (is_plain b && is_plain c)) (IsTextOf a) (IsTextOf b) (IsTextOf c) own → ((child : List ℕ) → IsTextOf a child → height a < length child) → ((child : List ℕ) → IsTextOf b child → height b < length child)
-    → ((child : List ℕ) → IsTextOf c child → height c < length child) → height a + (height b + height c) ≤ length own
-three_tall a b c own (inl (plain, e)) talla tallb tallc =
-    let others = and_second (is_plain a) (is_plain b && is_plain c) plain in
-    let first = flat a (and_first (is_plain a) (is_plain b && is_plain c) plain) in
-    let second = flat b (and_first (is_plain b) (is_plain c) others) in
-    let third = flat c (and_second (is_plain b) (is_plain c) others) in
-    omega arith
-three_tall a b c own (inr (first, second, third, isa, isb, isc, e)) talla tallb tallc =
-    let low = talla first isa in
-    let next = tallb second isb in
-    let last = tallc third isc in
-    let innermost : length (third ++ 41 ∷ []) ≡ length third + 1 = length-append third (41 ∷ []) in
-    let inner : length (second ++ 44 ∷ (third ++ 41 ∷ [])) ≡ length second + suc (length (third ++ 41 ∷ [])) = length-append second (44 ∷ (third ++ 41 ∷ [])) in
-    let long : length (first ++ 44 ∷ (second ++ 44 ∷ (third ++ 41 ∷ []))) ≡ length first + suc (length (second ++ 44 ∷ (third ++ 41 ∷ []))) = length-append first (44 ∷ (second ++ 44 ∷ (third ++ 41 ∷ []))) in
-    let size : length own ≡ suc (length (first ++ 44 ∷ (second ++ 44 ∷ (third ++ 41 ∷ [])))) = ap length e in
-    omega arith
-
-long : (word text own : List ℕ) → text ≡ word ++ own → length text ≡ length word + length own
-long word text own e = ap length e ∙ length-append word own
-
-pub tall : (s : Shape) (text : List ℕ) → IsTextOf s text → height s < length text
-tall Plain text is = let size : length text ≡ 1 = ap length is in omega arith
-tall Primitive text is = let size : length text ≡ 9 = ap length is in omega arith
-tall Constant text is = let size : length text ≡ 8 = ap length is in omega arith
-tall (BitPacked BestWidth) text is = let size : length text ≡ 9 = ap length is in omega arith
-tall (BitPacked (Width w)) text is = let size : length text ≡ 10 + length is.0 = long (codes "bitpacked:") text is.0 is.2 in omega arith
-tall (BitPacked BestWidths) text is = let size : length text ≡ 7 = ap length is in omega arith
-tall (FoR a) text is = let size : length text ≡ 3 + length is.0 = long (codes "for") text is.0 is.2 in let low = one_tall a is.0 is.1 (tall a) in omega arith
-tall (FoRChunked a b) text is = let size : length text ≡ 4 + length is.0 = long (codes "forc") text is.0 is.2 in let low = two_tall a b is.0 is.1 (tall a) (tall b) in omega arith
-tall (FoRWrapped a) text is = let size : length text ≡ 4 + length is.0 = long (codes "forw") text is.0 is.2 in let low = one_tall a is.0 is.1 (tall a) in omega arith
-tall (FoRChunkedWrapped a b) text is = let size : length text ≡ 5 + length is.0 = long (codes "forcw") text is.0 is.2 in let low = two_tall a b is.0 is.1 (tall a) (tall b) in omega arith
-tall (Delta a b) text is = let size : length text ≡ 5 + length is.0 = long (codes "delta") text is.0 is.2 in let low = two_tall a b is.0 is.1 (tall a) (tall b) in omega arith
-tall (RLE a b c) text is = let size : length text ≡ 3 + length is.0 = long (codes "rle") text is.0 is.2 in let low = three_tall a b c is.0 is.1 (tall a) (tall b) (tall c) in omega arith
-
 -- a text of a scheme is read as it
 pub grammar_is_read : (text : List ℕ) (s : Shape) → IsSchemeText s text → scheme_of_text text ≡ Ok s
 grammar_is_read text s is =
-    let read : scheme_in (length text) text ≡ Ok (s, []) = ap (scheme_in (length text)) (sym (append-nil text)) ∙ read_any s (length text) [] text is.0 is.1 (tall s text is.0) refl in
+    let read : scheme_in max_levels text ≡ Ok (s, []) = ap (scheme_in max_levels) (sym (append-nil text)) ∙ read_any s max_levels [] text is.0 is.1 is.2 refl in
     ap (λ (o : Result (Shape × List ℕ) ℕ). positioned (length text) (after o whole)) read
+
+-- ---- texts of too many levels
+is_wrong : (r : Result Shape ℕ) → ((t : Shape) → r ≡ Ok t → ⊥) → (position : ℕ) × (r ≡ Err position)
+is_wrong (Ok t) never = absurd (never t refl)
+is_wrong (Err position) never = (position, refl)
+
+same_shape : (s t : Shape) (r : Result (Shape × List ℕ) ℕ) → r ≡ Ok (s, []) → r ≡ Ok (t, []) → s ≡ t
+same_shape s t r h k = ap (λ (x : Shape × List ℕ). x.0) (same_ok (s, []) (t, []) (sym h ∙ k))
+
+-- what is printed for a scheme is the text of no other
+one_text : (s t : Shape) → is_plain s ≡ false → has_widths s ≡ true → IsSchemeText t (scheme_text s) → s ≡ t
+one_text s t p w is =
+    let n = levels s + levels t in
+    same_shape s t (scheme_in n (scheme_text s ++ [])) (reads s n [] p w (omega arith) refl) (read_any t n [] (scheme_text s) is.0 is.1 (omega arith) refl)
+
+too_deep : (s t : Shape) → is_plain s ≡ false → has_widths s ≡ true → max_levels < levels s → IsSchemeText t (scheme_text s) → ⊥
+too_deep s t p w deep is =
+    let same : levels s ≡ levels t = ap levels (one_text s t p w is) in
+    let low : levels t ≤ max_levels = is.2 in
+    omega arith
+
+pub deep_is_wrong : (s : Scheme) → has_widths (shape s) ≡ true → max_levels < levels (shape s) → (position : ℕ) × (scheme_of_text (scheme_text (shape s)) ≡ Err position)
+deep_is_wrong s w deep =
+    is_wrong (scheme_of_text (scheme_text (shape s))) (λ t e. too_deep (shape s) t (shape_some s) w deep (read_by_grammar (scheme_text (shape s)) t e))

@@ -13,11 +13,11 @@ use Rattle.fl_encode.specs.declared.text.SchemeError.TheVariants as errors
 use Rattle.fl_encode.specs.declared.text.reading.Frame.TheVariants as frames
 use Rattle.fl_encode.specs.declared.text.reading.Head.TheVariants as heads
 use Rattle.fl_encode.specs.Grammar.{AreThreeChildren, AreTwoChildren, BeginsScheme, FollowsGrammar, IsFirstWrong, IsOneChild, IsTextOf, IsWidthText, is_digit, number_of}
-use Rattle.fl_encode.specs.Shapes.{BitPacked, Constant, Delta, FoR, FoRChunked, FoRChunkedWrapped, FoRWrapped, Plain, Primitive, RLE, Shape, is_plain, shape}
+use Rattle.fl_encode.specs.Shapes.{BitPacked, Constant, Delta, FoR, FoRChunked, FoRChunkedWrapped, FoRWrapped, Plain, Primitive, RLE, Shape, is_plain, levels, max_levels, shape}
 use Rattle.fl_encode.specs.Texts.{IsParsed, after, child_by, common, digits_behind, expected, frame_in, furthest, head_in, nested_head_in, one_by, packing_behind, positioned, rest_behind, scheme_by, scheme_in, scheme_of_text, three_by, two_by, whole, width_in}
 use Rattle.fl_encode.proofs.GrammarCuts.{begins_before}
 use Rattle.fl_encode.proofs.GrammarLaws.{Reader, read_by_grammar}
-use Rattle.fl_encode.proofs.GrammarReads.{Opens, child_read, from_low, grammar_is_read, grows, no_underscore, one_opens, read_any, tall, to_high, two_opens}
+use Rattle.fl_encode.proofs.GrammarReads.{Opens, child_read, from_low, grammar_is_read, grows, no_underscore, one_opens, read_any, to_high, two_opens}
 use Rattle.fl_encode.proofs.TextBounds.{Inside, Within, after_within, child_within, chosen_inside, digits_inside, expected_within, frame_inside, nothing, one_within, option_within, packing_within, rest_inside, rest_of_head, rest_of_one, rest_of_three, rest_of_two, scheme_by_within, scheme_within, three_within, two_within, whole_within, width_within}
 use Rattle.fl_encode.proofs.TextLaws.{follows, goes}
 
@@ -174,26 +174,25 @@ headed n y text h = after_within rest_of_head rest_of_one (length y) (head_in te
 -- ---- children
 -- a child's text that is cut is read, and a whole one is read as it is
 abbrev Cuts : Shape → ℕ → List ℕ → Type 0
-Cuts s n y = (own a c : List ℕ) → IsTextOf s own → own ≡ a ++ c → length a ≤ n → Within rest_of_one (length y) (child_by (scheme_in n) (a ++ y))
+Cuts s n y = (own a c : List ℕ) → IsTextOf s own → own ≡ a ++ c → levels s ≤ n → Within rest_of_one (length y) (child_by (scheme_in n) (a ++ y))
 
 abbrev Back : Shape → ℕ → Type 0
-Back s n = (own more : List ℕ) → IsTextOf s own → length own ≤ n → follows more ≡ true → child_by (scheme_in n) (own ++ more) ≡ Ok (s, more)
+Back s n = (own more : List ℕ) → IsTextOf s own → levels s ≤ n → follows more ≡ true → child_by (scheme_in n) (own ++ more) ≡ Ok (s, more)
 
 back : (s : Shape) (n : ℕ) → Back s n
-back s n own more is long f = child_read s (scheme_in n) own more is (λ p. read_any s n more own is p (let low = tall s own is in omega arith) f)
+back s n own more is low f = child_read s (scheme_in n) own more is (λ p. read_any s n more own is p low f)
 
 -- a child with a comma or a parenthesis after it, and what comes then
-child_step : {B : Type 0} (g : B → List ℕ) (s : Shape) (n byte : ℕ) (own tail a c y : List ℕ) (next : Shape × List ℕ → Result B ℕ) → IsTextOf s own → own ++ byte ∷ tail ≡ a ++ c → (byte == 44 || byte == 41) ≡ true → length a ≤ n → Cuts s n y
-    → ((x : Shape × List ℕ) → length x.1 ≤ length y → Within g (length y) (next x)) → ((b : List ℕ) → tail ≡ b ++ c → length b ≤ n → Within g (length y) (next (s, byte ∷ (b ++ y))))
+child_step : {B : Type 0} (g : B → List ℕ) (s : Shape) (n byte : ℕ) (own tail a c y : List ℕ) (next : Shape × List ℕ → Result B ℕ) → IsTextOf s own → own ++ byte ∷ tail ≡ a ++ c → (byte == 44 || byte == 41) ≡ true → levels s ≤ n → Cuts s n y
+    → ((x : Shape × List ℕ) → length x.1 ≤ length y → Within g (length y) (next x)) → ((b : List ℕ) → tail ≡ b ++ c → Within g (length y) (next (s, byte ∷ (b ++ y))))
     → Within g (length y) (after (child_by (scheme_in n) (a ++ y)) next)
 child_step g s n byte own tail a c y next is e closes low cuts later on = elim (cut_at a c own (byte ∷ tail) (sym e)) [
   | inl (d, part) ↦ after_within rest_of_one g (length y) (child_by (scheme_in n) (a ++ y)) next (cuts own a d is part low) later
   | inr (x, b, all, rest) ↦
       let same : x ≡ byte = sym (same_byte byte x tail (b ++ c) rest) in
-      let size : length a ≡ length own + suc (length b) = ap length all ∙ length-append own (x ∷ b) in
       let joined : a ++ y ≡ own ++ byte ∷ (b ++ y) = ap (λ (t : List ℕ). t ++ y) all ∙ (append_assoc own (x ∷ b) y ∙ ap (λ (k : ℕ). own ++ k ∷ (b ++ y)) same) in
-      let read : child_by (scheme_in n) (a ++ y) ≡ Ok (s, byte ∷ (b ++ y)) = ap (child_by (scheme_in n)) joined ∙ back s n own (byte ∷ (b ++ y)) is (omega arith) closes in
-      rw read (on b (same_tail byte x tail (b ++ c) rest) (omega arith))
+      let read : child_by (scheme_in n) (a ++ y) ≡ Ok (s, byte ∷ (b ++ y)) = ap (child_by (scheme_in n)) joined ∙ back s n own (byte ∷ (b ++ y)) is low closes in
+      rw read (on b (same_tail byte x tail (b ++ c) rest))
 ]
 
 ended : (b c y : List ℕ) → [] ≡ b ++ c → length (b ++ y) ≤ length y
@@ -204,17 +203,17 @@ ended (x ∷ b) c y e = no_bytes x (b ++ c) (sym e)
 opened : (x : ℕ) (b c own inner : List ℕ) → own ≡ x ∷ (b ++ c) → own ≡ 40 ∷ inner → (x ≡ 40) × (inner ≡ b ++ c)
 opened x b c own inner e is = (same_byte x 40 (b ++ c) inner (sym e ∙ is), same_tail 40 x inner (b ++ c) (sym is ∙ e))
 
-one_within_cut : (s : Shape) (n : ℕ) (own b c y : List ℕ) → IsOneChild (is_plain s) (IsTextOf s) own → own ≡ b ++ c → length b ≤ n → Cuts s n y → Within rest_of_one (length y) (one_by (scheme_in n) (b ++ y))
+one_within_cut : (s : Shape) (n : ℕ) (own b c y : List ℕ) → IsOneChild (is_plain s) (IsTextOf s) own → own ≡ b ++ c → levels s ≤ n → Cuts s n y → Within rest_of_one (length y) (one_by (scheme_in n) (b ++ y))
 one_within_cut s n own [] c y is e low cuts = one_within (length y) (scheme_in n) (scheme_within n (length y)) y (itself (length y))
 one_within_cut s n own (x ∷ b) c y (inl (plain, none)) e low cuts = no_bytes x (b ++ c) (sym e ∙ none)
 one_within_cut s n own (x ∷ b) c y (inr (child, is, text)) e low cuts =
     let begun = opened x b c own (child ++ 41 ∷ []) e text in
     subst (λ (k : ℕ). Within rest_of_one (length y) (one_by (scheme_in n) (k ∷ (b ++ y)))) (sym begun.0)
-    (child_step rest_of_one s n 41 child [] b c y (λ a. after (expected 41 a.1) (λ rest. Ok (a.0, rest))) is begun.1 refl (omega arith) cuts
+    (child_step rest_of_one s n 41 child [] b c y (λ a. after (expected 41 a.1) (λ rest. Ok (a.0, rest))) is begun.1 refl low cuts
     (λ a l. after_within (λ (rest : List ℕ). rest) rest_of_one (length y) (expected 41 a.1) _ (expected_within (length y) 41 a.1 l) (λ rest m. m))
-    (λ d t l. ended d c y t))
+    (λ d t. ended d c y t))
 
-two_within_cut : (s t : Shape) (n : ℕ) (own b c y : List ℕ) → AreTwoChildren (is_plain s && is_plain t) (IsTextOf s) (IsTextOf t) own → own ≡ b ++ c → length b ≤ n → Cuts s n y → Cuts t n y → Within rest_of_two (length y) (two_by (scheme_in n) (b ++ y))
+two_within_cut : (s t : Shape) (n : ℕ) (own b c y : List ℕ) → AreTwoChildren (is_plain s && is_plain t) (IsTextOf s) (IsTextOf t) own → own ≡ b ++ c → max (levels s) (levels t) ≤ n → Cuts s n y → Cuts t n y → Within rest_of_two (length y) (two_by (scheme_in n) (b ++ y))
 two_within_cut s t n own [] c y is e low cuts cutt = two_within (length y) (scheme_in n) (scheme_within n (length y)) y (itself (length y))
 two_within_cut s t n own (x ∷ b) c y (inl (plain, none)) e low cuts cutt = no_bytes x (b ++ c) (sym e ∙ none)
 two_within_cut s t n own (x ∷ b) c y (inr (first, second, iss, ist, text)) e low cuts cutt =
@@ -228,11 +227,11 @@ two_within_cut s t n own (x ∷ b) c y (inr (first, second, iss, ist, text)) e l
     after_within (λ (rest : List ℕ). rest) rest_of_two len (expected 44 p.1) _ (expected_within len 44 p.1 l) (λ more m.
     after_within rest_of_one rest_of_two len (child_by read more) _ (child_within len read stops more m) (λ q o.
     after_within (λ (rest : List ℕ). rest) rest_of_two len (expected 41 q.1) _ (expected_within len 41 q.1 o) (λ rest k. k))))
-    (λ d u l.
-    child_step rest_of_two t n 41 second [] d c y (λ q. after (expected 41 q.1) (λ rest. Ok (s, q.0, rest))) ist u refl l cutt
-    (λ q o. after_within (λ (rest : List ℕ). rest) rest_of_two len (expected 41 q.1) _ (expected_within len 41 q.1 o) (λ rest k. k)) (λ f v k. ended f c y v)))
+    (λ d u.
+    child_step rest_of_two t n 41 second [] d c y (λ q. after (expected 41 q.1) (λ rest. Ok (s, q.0, rest))) ist u refl (omega arith) cutt
+    (λ q o. after_within (λ (rest : List ℕ). rest) rest_of_two len (expected 41 q.1) _ (expected_within len 41 q.1 o) (λ rest k. k)) (λ f v. ended f c y v)))
 
-three_within_cut : (s t u : Shape) (n : ℕ) (own b c y : List ℕ) → AreThreeChildren (is_plain s && (is_plain t && is_plain u)) (IsTextOf s) (IsTextOf t) (IsTextOf u) own → own ≡ b ++ c → length b ≤ n → Cuts s n y → Cuts t n y → Cuts u n y
+three_within_cut : (s t u : Shape) (n : ℕ) (own b c y : List ℕ) → AreThreeChildren (is_plain s && (is_plain t && is_plain u)) (IsTextOf s) (IsTextOf t) (IsTextOf u) own → own ≡ b ++ c → max (levels s) (max (levels t) (levels u)) ≤ n → Cuts s n y → Cuts t n y → Cuts u n y
     → Within rest_of_three (length y) (three_by (scheme_in n) (b ++ y))
 three_within_cut s t u n own [] c y is e low cuts cutt cutu = three_within (length y) (scheme_in n) (scheme_within n (length y)) y (itself (length y))
 three_within_cut s t u n own (x ∷ b) c y (inl (plain, none)) e low cuts cutt cutu = no_bytes x (b ++ c) (sym e ∙ none)
@@ -250,15 +249,15 @@ three_within_cut s t u n own (x ∷ b) c y (inr (first, second, third, iss, ist,
     after_within (λ (rest : List ℕ). rest) rest_of_three len (expected 44 q.1) _ (expected_within len 44 q.1 o) (λ last k.
     after_within rest_of_one rest_of_three len (child_by read last) _ (child_within len read stops last k) (λ r v.
     after_within (λ (rest : List ℕ). rest) rest_of_three len (expected 41 r.1) _ (expected_within len 41 r.1 v) (λ rest w. w))))))
-    (λ d e2 l.
-    child_step rest_of_three t n 44 second (third ++ 41 ∷ []) d c y (λ q. after (expected 44 q.1) (λ last. after (child_by read last) (λ r. after (expected 41 r.1) (λ rest. Ok (s, q.0, r.0, rest))))) ist e2 refl l cutt
+    (λ d e2.
+    child_step rest_of_three t n 44 second (third ++ 41 ∷ []) d c y (λ q. after (expected 44 q.1) (λ last. after (child_by read last) (λ r. after (expected 41 r.1) (λ rest. Ok (s, q.0, r.0, rest))))) ist e2 refl (omega arith) cutt
     (λ q o.
     after_within (λ (rest : List ℕ). rest) rest_of_three len (expected 44 q.1) _ (expected_within len 44 q.1 o) (λ last k.
     after_within rest_of_one rest_of_three len (child_by read last) _ (child_within len read stops last k) (λ r v.
     after_within (λ (rest : List ℕ). rest) rest_of_three len (expected 41 r.1) _ (expected_within len 41 r.1 v) (λ rest w. w))))
-    (λ f e3 m.
-    child_step rest_of_three u n 41 third [] f c y (λ r. after (expected 41 r.1) (λ rest. Ok (s, t, r.0, rest))) isu e3 refl m cutu
-    (λ r v. after_within (λ (rest : List ℕ). rest) rest_of_three len (expected 41 r.1) _ (expected_within len 41 r.1 v) (λ rest w. w)) (λ h e4 k. ended h c y e4))))
+    (λ f e3.
+    child_step rest_of_three u n 41 third [] f c y (λ r. after (expected 41 r.1) (λ rest. Ok (s, t, r.0, rest))) isu e3 refl (omega arith) cutu
+    (λ r v. after_within (λ (rest : List ℕ). rest) rest_of_three len (expected 41 r.1) _ (expected_within len 41 r.1 v) (λ rest w. w)) (λ h e4. ended h c y e4))))
 
 -- a scheme's text begins with a letter
 abbrev BeginsWithLetter : List ℕ → Type 0
@@ -306,14 +305,13 @@ child_cuts (RLE f g k) n y own a c is e h = scheme_child (RLE f g k) n own a c y
 
 -- ---- schemes
 -- an encoding's word, or what comes after it
-after_word : (n : ℕ) (word own a c y : List ℕ) → word ++ own ≡ a ++ c → length a ≤ suc n → 0 < length word → ((d : List ℕ) → word ≡ a ++ d → Within rest_of_head (length y) (head_in (a ++ y)))
-    → ((b : List ℕ) → own ≡ b ++ c → length b ≤ n → 0 < length b → Within rest_of_one (length y) (scheme_in (suc n) (word ++ (b ++ y)))) → Within rest_of_one (length y) (scheme_in (suc n) (a ++ y))
-after_word n word own a c y e low some here later = elim (cut_at a c word own (sym e)) [
+after_word : (n : ℕ) (word own a c y : List ℕ) → word ++ own ≡ a ++ c → ((d : List ℕ) → word ≡ a ++ d → Within rest_of_head (length y) (head_in (a ++ y)))
+    → ((b : List ℕ) → own ≡ b ++ c → 0 < length b → Within rest_of_one (length y) (scheme_in (suc n) (word ++ (b ++ y)))) → Within rest_of_one (length y) (scheme_in (suc n) (a ++ y))
+after_word n word own a c y e here later = elim (cut_at a c word own (sym e)) [
   | inl (d, part) ↦ headed n y (a ++ y) (here d part)
   | inr (x, b, all, rest) ↦
-      let size : length a ≡ length word + suc (length b) = ap length all ∙ length-append word (x ∷ b) in
       let joined : a ++ y ≡ word ++ (x ∷ (b ++ y)) = ap (λ (t : List ℕ). t ++ y) all ∙ append_assoc word (x ∷ b) y in
-      subst (λ (t : List ℕ). Within rest_of_one (length y) (scheme_in (suc n) t)) (sym joined) (later (x ∷ b) rest (omega arith) (omega arith))
+      subst (λ (t : List ℕ). Within rest_of_one (length y) (scheme_in (suc n) t)) (sym joined) (later (x ∷ b) rest (omega arith))
 ]
 
 one_scheme : (n : ℕ) (y t : List ℕ) (make : Shape → Shape) → Within rest_of_one (length y) (one_by (scheme_in n) t) → Within rest_of_one (length y) (after (one_by (scheme_in n) t) (λ a. Ok (make a.0, a.1)))
@@ -330,7 +328,7 @@ parenthesis : (x : ℕ) (b c own : List ℕ) → Opens own → own ≡ x ∷ (b 
 parenthesis x b c own (inl none) e = no_bytes x (b ++ c) (sym e ∙ none)
 parenthesis x b c own (inr (more, is)) e = same_byte x 40 (b ++ c) more (sym e ∙ is)
 
-for_cut : (s : Shape) (n : ℕ) (own b c y : List ℕ) → IsOneChild (is_plain s) (IsTextOf s) own → own ≡ b ++ c → length b ≤ n → 0 < length b → Cuts s n y → Within rest_of_one (length y) (scheme_in (suc n) (codes "for" ++ (b ++ y)))
+for_cut : (s : Shape) (n : ℕ) (own b c y : List ℕ) → IsOneChild (is_plain s) (IsTextOf s) own → own ≡ b ++ c → levels s ≤ n → 0 < length b → Cuts s n y → Within rest_of_one (length y) (scheme_in (suc n) (codes "for" ++ (b ++ y)))
 for_cut s n own [] c y is e low some cuts = absurd (omega arith)
 for_cut s n own (x ∷ b) c y is e low some cuts =
     let first = parenthesis x b c own (one_opens (is_plain s) (IsTextOf s) own is) e in
@@ -338,14 +336,14 @@ for_cut s n own (x ∷ b) c y is e low some cuts =
     subst (λ (k : ℕ). Within rest_of_one (length y) (scheme_in (suc n) (codes "for" ++ (k ∷ (b ++ y))))) (sym first)
     (one_scheme n y (40 ∷ (b ++ y)) FoR (subst (λ (k : ℕ). Within rest_of_one (length y) (one_by (scheme_in n) (k ∷ (b ++ y)))) first children))
 
-forw_cut : (s : Shape) (n : ℕ) (own b c y : List ℕ) → IsOneChild (is_plain s) (IsTextOf s) own → 119 ∷ own ≡ b ++ c → length b ≤ n → 0 < length b → Cuts s n y → Within rest_of_one (length y) (scheme_in (suc n) (codes "for" ++ (b ++ y)))
+forw_cut : (s : Shape) (n : ℕ) (own b c y : List ℕ) → IsOneChild (is_plain s) (IsTextOf s) own → 119 ∷ own ≡ b ++ c → levels s ≤ n → 0 < length b → Cuts s n y → Within rest_of_one (length y) (scheme_in (suc n) (codes "for" ++ (b ++ y)))
 forw_cut s n own [] c y is e low some cuts = absurd (omega arith)
 forw_cut s n own (x ∷ b) c y is e low some cuts =
     let first : x ≡ 119 = sym (same_byte 119 x own (b ++ c) e) in
     subst (λ (k : ℕ). Within rest_of_one (length y) (scheme_in (suc n) (codes "for" ++ (k ∷ (b ++ y))))) (sym first)
-    (one_scheme n y (b ++ y) FoRWrapped (one_within_cut s n own b c y is (same_tail 119 x own (b ++ c) e) (omega arith) cuts))
+    (one_scheme n y (b ++ y) FoRWrapped (one_within_cut s n own b c y is (same_tail 119 x own (b ++ c) e) low cuts))
 
-forc_cut : (s t : Shape) (n : ℕ) (own b c y : List ℕ) → AreTwoChildren (is_plain s && is_plain t) (IsTextOf s) (IsTextOf t) own → 99 ∷ own ≡ b ++ c → length b ≤ n → 0 < length b → Cuts s n y → Cuts t n y → Within rest_of_one (length y) (scheme_in (suc n) (codes "for" ++ (b ++ y)))
+forc_cut : (s t : Shape) (n : ℕ) (own b c y : List ℕ) → AreTwoChildren (is_plain s && is_plain t) (IsTextOf s) (IsTextOf t) own → 99 ∷ own ≡ b ++ c → max (levels s) (levels t) ≤ n → 0 < length b → Cuts s n y → Cuts t n y → Within rest_of_one (length y) (scheme_in (suc n) (codes "for" ++ (b ++ y)))
 forc_cut s t n own [] c y is e low some cuts cutt = absurd (omega arith)
 forc_cut s t n own (x ∷ []) c y is e low some cuts cutt =
     let first : x ≡ 99 = sym (same_byte 99 x own c e) in
@@ -354,12 +352,12 @@ forc_cut s t n own (x ∷ z ∷ b) c y is e low some cuts cutt =
     let first : x ≡ 99 = sym (same_byte 99 x own (z ∷ (b ++ c)) e) in
     let rest : own ≡ z ∷ (b ++ c) = same_tail 99 x own (z ∷ (b ++ c)) e in
     let second = parenthesis z b c own (two_opens (is_plain s && is_plain t) (IsTextOf s) (IsTextOf t) own is) rest in
-    let children = two_within_cut s t n own (z ∷ b) c y is rest (omega arith) cuts cutt in
+    let children = two_within_cut s t n own (z ∷ b) c y is rest low cuts cutt in
     subst (λ (k : ℕ). Within rest_of_one (length y) (scheme_in (suc n) (codes "for" ++ (k ∷ (z ∷ (b ++ y)))))) (sym first)
     (subst (λ (k : ℕ). Within rest_of_one (length y) (scheme_in (suc n) (codes "forc" ++ (k ∷ (b ++ y))))) (sym second)
     (two_scheme n y (40 ∷ (b ++ y)) FoRChunked (subst (λ (k : ℕ). Within rest_of_two (length y) (two_by (scheme_in n) (k ∷ (b ++ y)))) second children)))
 
-forcw_cut : (s t : Shape) (n : ℕ) (own b c y : List ℕ) → AreTwoChildren (is_plain s && is_plain t) (IsTextOf s) (IsTextOf t) own → 99 ∷ 119 ∷ own ≡ b ++ c → length b ≤ n → 0 < length b → Cuts s n y → Cuts t n y → Within rest_of_one (length y) (scheme_in (suc n) (codes "for" ++ (b ++ y)))
+forcw_cut : (s t : Shape) (n : ℕ) (own b c y : List ℕ) → AreTwoChildren (is_plain s && is_plain t) (IsTextOf s) (IsTextOf t) own → 99 ∷ 119 ∷ own ≡ b ++ c → max (levels s) (levels t) ≤ n → 0 < length b → Cuts s n y → Cuts t n y → Within rest_of_one (length y) (scheme_in (suc n) (codes "for" ++ (b ++ y)))
 forcw_cut s t n own [] c y is e low some cuts cutt = absurd (omega arith)
 forcw_cut s t n own (x ∷ []) c y is e low some cuts cutt =
     let first : x ≡ 99 = sym (same_byte 99 x (119 ∷ own) c e) in
@@ -368,7 +366,7 @@ forcw_cut s t n own (x ∷ z ∷ b) c y is e low some cuts cutt =
     let first : x ≡ 99 = sym (same_byte 99 x (119 ∷ own) (z ∷ (b ++ c)) e) in
     let rest : 119 ∷ own ≡ z ∷ (b ++ c) = same_tail 99 x (119 ∷ own) (z ∷ (b ++ c)) e in
     let second : z ≡ 119 = sym (same_byte 119 z own (b ++ c) rest) in
-    let children = two_within_cut s t n own b c y is (same_tail 119 z own (b ++ c) rest) (omega arith) cuts cutt in
+    let children = two_within_cut s t n own b c y is (same_tail 119 z own (b ++ c) rest) low cuts cutt in
     subst (λ (k : ℕ). Within rest_of_one (length y) (scheme_in (suc n) (codes "for" ++ (k ∷ (z ∷ (b ++ y)))))) (sym first)
     (subst (λ (k : ℕ). Within rest_of_one (length y) (scheme_in (suc n) (codes "forc" ++ (k ∷ (b ++ y))))) (sym second) (two_scheme n y (b ++ y) FoRChunkedWrapped children))
 
@@ -378,39 +376,50 @@ colon w n digits (x ∷ b) c y is e some =
     let first : x ≡ 58 = sym (same_byte 58 x digits (b ++ c) e) in
     subst (λ (k : ℕ). Within rest_of_one (length y) (scheme_in (suc n) (codes "bitpacked" ++ (k ∷ (b ++ y))))) (sym first) (headed n y (codes "bitpacked:" ++ (b ++ y)) (colon_cut y (b ++ y) (width_cut w digits b c y is (same_tail 58 x digits (b ++ c) e))))
 
+some_levels : (s : Shape) → is_plain s ≡ false → 0 < levels s
+some_levels Plain p = absurd cc
+some_levels Primitive p = omega arith
+some_levels Constant p = omega arith
+some_levels (BitPacked packing) p = omega arith
+some_levels (FoR f) p = omega arith
+some_levels (FoRChunked f g) p = omega arith
+some_levels (FoRWrapped f) p = omega arith
+some_levels (FoRChunkedWrapped f g) p = omega arith
+some_levels (Delta f g) p = omega arith
+some_levels (RLE f g k) p = omega arith
+
 -- a text that begins as a scheme's does is read at least as far
-cut_any : (s : Shape) (n : ℕ) (y text a c : List ℕ) → IsTextOf s text → is_plain s ≡ false → text ≡ a ++ c → length a ≤ n → Within rest_of_one (length y) (scheme_in n (a ++ y))
-cut_any s zero y text [] c is p e low = scheme_within zero (length y) y (itself (length y))
-cut_any s zero y text (x ∷ a) c is p e low = absurd (omega arith)
+cut_any : (s : Shape) (n : ℕ) (y text a c : List ℕ) → IsTextOf s text → is_plain s ≡ false → text ≡ a ++ c → levels s ≤ n → Within rest_of_one (length y) (scheme_in n (a ++ y))
+cut_any s zero y text a c is p e low = absurd (let some = some_levels s p in omega arith)
 cut_any Plain (suc n) y text a c is p e low = absurd cc
 cut_any Primitive (suc n) y text a c is p e low = headed n y (a ++ y) (primitive_cut a c y (sym is ∙ e))
 cut_any Constant (suc n) y text a c is p e low = headed n y (a ++ y) (constant_cut a c y (sym is ∙ e))
 cut_any (BitPacked BestWidth) (suc n) y text a c is p e low = headed n y (a ++ y) (bitpacked_cut a c y (sym is ∙ e))
 cut_any (BitPacked (Width w)) (suc n) y text a c is p e low =
-    after_word n (codes "bitpacked") (58 ∷ is.0) a c y (sym is.2 ∙ e) low (omega arith) (λ d h. bitpacked_cut a d y h) (λ b h l m. colon w n is.0 b c y is.1 h m)
+    after_word n (codes "bitpacked") (58 ∷ is.0) a c y (sym is.2 ∙ e) (λ d h. bitpacked_cut a d y h) (λ b h m. colon w n is.0 b c y is.1 h m)
 cut_any (BitPacked BestWidths) (suc n) y text a c is p e low = headed n y (a ++ y) (blocked_cut a c y (sym is ∙ e))
 cut_any (FoR f) (suc n) y text a c is p e low =
-    after_word n (codes "for") is.0 a c y (sym is.2 ∙ e) low (omega arith) (λ d h. frame_cut a d y h)
-    (λ b h l m. for_cut f n is.0 b c y is.1 h l m (λ own i j iso q k. child_cuts f n y own i j iso q (λ r. cut_any f n y own i j iso r q k)))
+    after_word n (codes "for") is.0 a c y (sym is.2 ∙ e) (λ d h. frame_cut a d y h)
+    (λ b h m. for_cut f n is.0 b c y is.1 h (omega arith) m (λ own i j iso q k. child_cuts f n y own i j iso q (λ r. cut_any f n y own i j iso r q k)))
 cut_any (FoRWrapped f) (suc n) y text a c is p e low =
-    after_word n (codes "for") (119 ∷ is.0) a c y (sym is.2 ∙ e) low (omega arith) (λ d h. frame_cut a d y h)
-    (λ b h l m. forw_cut f n is.0 b c y is.1 h l m (λ own i j iso q k. child_cuts f n y own i j iso q (λ r. cut_any f n y own i j iso r q k)))
+    after_word n (codes "for") (119 ∷ is.0) a c y (sym is.2 ∙ e) (λ d h. frame_cut a d y h)
+    (λ b h m. forw_cut f n is.0 b c y is.1 h (omega arith) m (λ own i j iso q k. child_cuts f n y own i j iso q (λ r. cut_any f n y own i j iso r q k)))
 cut_any (FoRChunked f g) (suc n) y text a c is p e low =
-    after_word n (codes "for") (99 ∷ is.0) a c y (sym is.2 ∙ e) low (omega arith) (λ d h. frame_cut a d y h)
-    (λ b h l m. forc_cut f g n is.0 b c y is.1 h l m (λ own i j iso q k. child_cuts f n y own i j iso q (λ r. cut_any f n y own i j iso r q k)) (λ own i j iso q k. child_cuts g n y own i j iso q (λ r. cut_any g n y own i j iso r q k)))
+    after_word n (codes "for") (99 ∷ is.0) a c y (sym is.2 ∙ e) (λ d h. frame_cut a d y h)
+    (λ b h m. forc_cut f g n is.0 b c y is.1 h (omega arith) m (λ own i j iso q k. child_cuts f n y own i j iso q (λ r. cut_any f n y own i j iso r q k)) (λ own i j iso q k. child_cuts g n y own i j iso q (λ r. cut_any g n y own i j iso r q k)))
 cut_any (FoRChunkedWrapped f g) (suc n) y text a c is p e low =
-    after_word n (codes "for") (99 ∷ 119 ∷ is.0) a c y (sym is.2 ∙ e) low (omega arith) (λ d h. frame_cut a d y h)
-    (λ b h l m. forcw_cut f g n is.0 b c y is.1 h l m (λ own i j iso q k. child_cuts f n y own i j iso q (λ r. cut_any f n y own i j iso r q k)) (λ own i j iso q k. child_cuts g n y own i j iso q (λ r. cut_any g n y own i j iso r q k)))
+    after_word n (codes "for") (99 ∷ 119 ∷ is.0) a c y (sym is.2 ∙ e) (λ d h. frame_cut a d y h)
+    (λ b h m. forcw_cut f g n is.0 b c y is.1 h (omega arith) m (λ own i j iso q k. child_cuts f n y own i j iso q (λ r. cut_any f n y own i j iso r q k)) (λ own i j iso q k. child_cuts g n y own i j iso q (λ r. cut_any g n y own i j iso r q k)))
 cut_any (Delta f g) (suc n) y text a c is p e low =
-    after_word n (codes "delta") is.0 a c y (sym is.2 ∙ e) low (omega arith) (λ d h. delta_cut a d y h)
-    (λ b h l m.
+    after_word n (codes "delta") is.0 a c y (sym is.2 ∙ e) (λ d h. delta_cut a d y h)
+    (λ b h m.
     two_scheme n y (b ++ y) Delta
-    (two_within_cut f g n is.0 b c y is.1 h l (λ own i j iso q k. child_cuts f n y own i j iso q (λ r. cut_any f n y own i j iso r q k)) (λ own i j iso q k. child_cuts g n y own i j iso q (λ r. cut_any g n y own i j iso r q k))))
+    (two_within_cut f g n is.0 b c y is.1 h (omega arith) (λ own i j iso q k. child_cuts f n y own i j iso q (λ r. cut_any f n y own i j iso r q k)) (λ own i j iso q k. child_cuts g n y own i j iso q (λ r. cut_any g n y own i j iso r q k))))
 cut_any (RLE f g u) (suc n) y text a c is p e low =
-    after_word n (codes "rle") is.0 a c y (sym is.2 ∙ e) low (omega arith) (λ d h. rle_cut a d y h)
-    (λ b h l m.
+    after_word n (codes "rle") is.0 a c y (sym is.2 ∙ e) (λ d h. rle_cut a d y h)
+    (λ b h m.
     three_scheme n y (b ++ y) RLE
-    (three_within_cut f g u n is.0 b c y is.1 h l (λ own i j iso q k. child_cuts f n y own i j iso q (λ r. cut_any f n y own i j iso r q k)) (λ own i j iso q k. child_cuts g n y own i j iso q (λ r. cut_any g n y own i j iso r q k))
+    (three_within_cut f g u n is.0 b c y is.1 h (omega arith) (λ own i j iso q k. child_cuts f n y own i j iso q (λ r. cut_any f n y own i j iso r q k)) (λ own i j iso q k. child_cuts g n y own i j iso q (λ r. cut_any g n y own i j iso r q k))
     (λ own i j iso q k. child_cuts u n y own i j iso q (λ r. cut_any u n y own i j iso r q k))))
 
 -- ---- the wrong byte
@@ -426,7 +435,7 @@ whole_cut : (n m : ℕ) (text : List ℕ) → Within rest_of_one n (scheme_in m 
 whole_cut n m text h = after_within rest_of_one nothing n (scheme_in m text) whole h (λ x k. whole_within n x k)
 
 wrong_within : (text : List ℕ) (position : ℕ) → scheme_of_text text ≡ Err position → position ≤ length text
-wrong_within text position e = position_within (length text) position (after (scheme_in (length text) text) whole) e
+wrong_within text position e = position_within (length text) position (after (scheme_in max_levels text) whole) e
 
 -- no scheme's text begins with the bytes up to the wrong one
 begins_no_scheme : (text : List ℕ) (position : ℕ) → scheme_of_text text ≡ Err position → position < length text → BeginsScheme (take (position + 1) text) → ⊥
@@ -437,9 +446,9 @@ begins_no_scheme text position e inner (s, more, is) =
     let text_is : a ++ y ≡ text = take-append-drop (position + 1) text in
     let size : length a ≡ position + 1 = length-take-le (position + 1) text (omega arith) in
     let rest : length a + length y ≡ length text = sym (length-append a y) ∙ ap length text_is in
-    let cut : Within rest_of_one (length y) (scheme_in len (a ++ y)) = cut_any s len y (a ++ more) a more is.0 is.1 refl (omega arith) in
-    let here : Within rest_of_one (length y) (scheme_in len text) = subst (λ (t : List ℕ). Within rest_of_one (length y) (scheme_in len t)) text_is cut in
-    let far = position_is len position (length y) (after (scheme_in len text) whole) e (whole_cut (length y) len text here) (whole_cut len len text (scheme_within len len text (itself len))) in
+    let cut : Within rest_of_one (length y) (scheme_in max_levels (a ++ y)) = cut_any s max_levels y (a ++ more) a more is.0 is.1 refl is.2 in
+    let here : Within rest_of_one (length y) (scheme_in max_levels text) = subst (λ (t : List ℕ). Within rest_of_one (length y) (scheme_in max_levels t)) text_is cut in
+    let far = position_is len position (length y) (after (scheme_in max_levels text) whole) e (whole_cut (length y) max_levels text here) (whole_cut len max_levels text (scheme_within max_levels len text (itself len))) in
     omega arith
 
 pub first_wrong : (text : List ℕ) (position : ℕ) → scheme_of_text text ≡ Err position → IsFirstWrong text position

@@ -1,5 +1,5 @@
 -- What an encoded array shows of its scheme.
-use Rattle.std.proofs.Common.{Result, Ok, Err, ap, inl, inr}
+use Rattle.std.proofs.Common.{Result, Ok, Err, ap}
 use Rattle.fl_types.specs.declared.error.FastLanesError.{FastLanesError}
 use Rattle.fl_column.specs.Columns.{PrimitiveParts}
 use Rattle.fl_codec.specs.Parts.{ByChunk, FoRParts, Nulls, OneReference, Whole, compress_deltas, encode_chunked, encode_chunked_by, encode_global, encode_global_by, encode_runs}
@@ -12,29 +12,30 @@ use Rattle.fl_encode.specs.Encodings.{HasReference, HasReferences, IsChildAs, Is
 use Rattle.fl_encode.specs.Packings.{IsPackedAs}
 use Rattle.fl_encode.specs.Shapes.{Shape, child_shape, shape}
 use Rattle.fl_encode.specs.Shapes as shapes
-use Rattle.fl_encode.specs.TreeShapes.{Shows, part_shape}
+use Rattle.fl_encode.specs.TreeShapes.{Shows, ShowsReference, ShowsReferences, part_shape}
 
-packed_shows : (packing : Packing) (p : PrimitiveParts) (t : Tree) → IsPackedAs packing p t → Shows (shapes.BitPacked packing) (part_shape t)
-packed_shows BestWidth p t (parts, packed, is) = (_, ap part_shape is)
+packed_shows : (packing : Packing) (p : PrimitiveParts) (t : Tree) → IsPackedAs packing p t → Shows (shapes.BitPacked packing) p (part_shape t)
+packed_shows BestWidth p t (parts, packed, is) = ap part_shape is
 packed_shows (Width width) p t (parts, packed, is) = ap part_shape is
 packed_shows BestWidths p t (parts, packed, is) = ap part_shape is
 
 -- ---- frames of reference
-one_shows : (Is : PrimitiveParts → Tree → Type 0) (child : Shape) → ((p : PrimitiveParts) (t : Tree) → Is p t → Shows child (part_shape t)) → (parts : Result OneReference FastLanesError) (t : Tree)
-    → HasReference Is parts t → Shows (shapes.FoR child) (part_shape t)
+abbrev AllShow : (PrimitiveParts → Tree → Type 0) → Shape → Type 0
+AllShow Is child = (p : PrimitiveParts) (t : Tree) → Is p t → Shows child p (part_shape t)
+
+one_shows : (Is : PrimitiveParts → Tree → Type 0) (child : Shape) → AllShow Is child → (parts : Result OneReference FastLanesError) (t : Tree) → HasReference Is parts t → ShowsReference (Shows child) parts (part_shape t)
 one_shows Is child shown (Ok parts) t (encoded, is, made) = (part_shape encoded, shown parts.child encoded is, ap part_shape made)
 one_shows Is child shown (Err refusal) t none = absurd none
 
-chunks_show : (Is Are : PrimitiveParts → Tree → Type 0) (child others : Shape) → ((p : PrimitiveParts) (t : Tree) → Is p t → Shows child (part_shape t))
-    → ((p : PrimitiveParts) (t : Tree) → Are p t → Shows others (part_shape t)) → (parts : FoRParts) (t : Tree) → HasReferences Is Are parts t → Shows (shapes.FoRChunked child others) (part_shape t)
-chunks_show Is Are child others shown more (Whole parts) t (encoded, is, made) = inr (inl (part_shape encoded, shown parts.child encoded is, ap part_shape made))
+chunks_show : (Is Are : PrimitiveParts → Tree → Type 0) (child others : Shape) → AllShow Is child → AllShow Are others → (parts : FoRParts) (t : Tree) → HasReferences Is Are parts t → ShowsReferences (Shows child) (Shows others) parts (part_shape t)
+chunks_show Is Are child others shown more (Whole parts) t (encoded, is, made) = (part_shape encoded, shown parts.child encoded is, ap part_shape made)
 chunks_show Is Are child others shown more (ByChunk first second) t (encoded, references, is, are, made) =
-    inl (part_shape encoded, part_shape references, shown first encoded is, more second references are, ap part_shape made)
-chunks_show Is Are child others shown more (Nulls first reference) t made = inr (inr (ap part_shape made))
+    (part_shape encoded, part_shape references, shown first encoded is, more second references are, ap part_shape made)
+chunks_show Is Are child others shown more (Nulls first reference) t made = ap part_shape made
 
 mutual
   -- an encoded array shows its scheme
-  pub encoded_shows : (scheme : Scheme) (p : PrimitiveParts) (t : Tree) → IsEncodedAs scheme p t → Shows (shape scheme) (part_shape t)
+  pub encoded_shows : (scheme : Scheme) (p : PrimitiveParts) (t : Tree) → IsEncodedAs scheme p t → Shows (shape scheme) p (part_shape t)
   encoded_shows Primitive p t is = ap part_shape is
   encoded_shows Constant p t is = ap part_shape is
   encoded_shows (BitPacked packing) p t is = packed_shows packing p t is
@@ -50,6 +51,6 @@ mutual
       (part_shape v, part_shape i, part_shape o, child_shows values (encode_runs p).values v are, child_shows indices (encode_runs p).indices i them, child_shows offsets (encode_runs p).offsets o those, ap part_shape made)
 
   -- the same of a child
-  child_shows : (scheme : ChildScheme) (p : PrimitiveParts) (t : Tree) → IsChildAs scheme p t → Shows (child_shape scheme) (part_shape t)
+  child_shows : (scheme : ChildScheme) (p : PrimitiveParts) (t : Tree) → IsChildAs scheme p t → Shows (child_shape scheme) p (part_shape t)
   child_shows NoScheme p t is = ap part_shape is
   child_shows (HasScheme at scheme) p t is = encoded_shows scheme p t is

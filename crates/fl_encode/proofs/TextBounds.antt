@@ -9,7 +9,7 @@ use Rattle.fl_encode.specs.declared.text.reading.Frame.{Frame}
 use Rattle.fl_encode.specs.declared.text.reading.Frame.TheVariants as frames
 use Rattle.fl_encode.specs.declared.text.reading.Head.{Head}
 use Rattle.fl_encode.specs.declared.text.reading.Head.TheVariants as heads
-use Rattle.fl_encode.specs.Shapes.{Delta, FoR, FoRChunked, FoRChunkedWrapped, FoRWrapped, Plain, RLE, Shape}
+use Rattle.fl_encode.specs.Shapes.{Delta, FoR, FoRChunked, FoRChunkedWrapped, FoRWrapped, Plain, RLE, Shape, max_levels}
 use Rattle.fl_encode.specs.Texts.{after, child_by, digits_behind, expected, frame_by, frame_in, furthest, goes_on, head_in, nested_head_in, one_by, packing_behind, rest_behind, scheme_by, scheme_in, tail_behind, three_by, two_by, whole, width_in}
 
 -- what a reader leaves of a text is no longer than this
@@ -172,6 +172,6 @@ left_within : (n left : ℕ) (r : Result Shape ℕ) → Within nothing n r → r
 left_within n left (Ok s) h e = cc
 left_within n left (Err m) h e = let same : m ≡ left = cc in omega arith
 
-pub stops_within : (text : List ℕ) (left : ℕ) → after (scheme_in (length text) text) whole ≡ Err left → left ≤ length text
+pub stops_within : (text : List ℕ) (left : ℕ) → after (scheme_in max_levels text) whole ≡ Err left → left ≤ length text
 stops_within text left e =
-    left_within (length text) left (after (scheme_in (length text) text) whole) (after_within rest_of_one nothing (length text) (scheme_in (length text) text) whole (scheme_within (length text) (length text) text (omega arith)) (λ x k. whole_within (length text) x k)) e
+    left_within (length text) left (after (scheme_in max_levels text) whole) (after_within rest_of_one nothing (length text) (scheme_in max_levels text) whole (scheme_within max_levels (length text) text (omega arith)) (λ x k. whole_within (length text) x k)) e

@@ -1,6 +1,6 @@
 -- What is printed is read.
-use Rattle.std.proofs.Common.{◌≡◌, ◌+◌, ◌-◌, ◌*◌, ◌/◌, ◌%◌, ◌==◌, ◌<◌, ◌≤◌, ◌&&◌, ◌||◌, ◌++◌, ℕ, zero, suc, Bool, true, false, List, [], ◌∷◌, length, Option, Some, None, Ok, refl, ap, sym, subst, ◌∙◌, inl, inr, ◌⊎◌, arith, append_assoc, append-nil, length-append, nat_lt, not}
-use Rattle.std.specs.Prelude.{Result, codes, is_some}
+use Rattle.std.proofs.Common.{◌≡◌, ◌+◌, ◌-◌, ◌*◌, ◌/◌, ◌%◌, ◌==◌, ◌<◌, ◌≤◌, ◌&&◌, ◌||◌, ◌++◌, ℕ, zero, suc, Bool, true, false, List, [], ◌∷◌, length, Option, Some, None, Ok, Err, refl, ap, sym, subst, ◌∙◌, inl, inr, ◌⊎◌, arith, append_assoc, append-nil, nat_lt, not}
+use Rattle.std.specs.Prelude.{IsErrAnd, Result, codes, is_some}
 use Rattle.std.proofs.lemmas.Bool.{cases_Bool}
 use Rattle.std.proofs.lemmas.Bool.Decides.{nat_tests}
 use Rattle.fl_column.proofs.ListLaws.{and_first, and_second}
@@ -12,12 +12,13 @@ use Rattle.fl_encode.specs.declared.text.reading.Frame.TheVariants as frames
 use Rattle.fl_encode.specs.declared.text.reading.Head.{Head}
 use Rattle.fl_encode.specs.declared.text.reading.Head.TheVariants as heads
 use Rattle.fl_encode.specs.declared.text.reading.Stop.{Stop}
+use Rattle.fl_encode.specs.declared.text.reading.Stop.TheVariants as ends
 use Rattle.std.proofs.Common.{Box}
 use Rattle.std.specs.declared.alloc.Global.{Global}
 use Rattle.fl_encode.specs.declared.scheme.Scheme.{Scheme, back-Scheme-FoR-0 as child_scheme}
 use Rattle.fl_encode.specs.declared.scheme.Scheme as schemes
-use Rattle.fl_encode.specs.Shapes.{BitPacked, Constant, Delta, FoR, FoRChunked, FoRChunkedWrapped, FoRWrapped, Plain, Primitive, RLE, Shape, child_shape, in_parentheses, is_plain, scheme_text, shape, width_text}
-use Rattle.fl_encode.specs.Texts.{Finds, after, child_by, digits_behind, expected, frame_in, goes_on, has_widths, head_in, one_by, packing_behind, positioned, scheme_by, scheme_in, scheme_of_text, tail_behind, three_by, two_by, whole, width_in}
+use Rattle.fl_encode.specs.Shapes.{BitPacked, Constant, Delta, FoR, FoRChunked, FoRChunkedWrapped, FoRWrapped, Plain, Primitive, RLE, Shape, child_shape, in_parentheses, is_plain, levels, max_levels, scheme_text, shape, width_text}
+use Rattle.fl_encode.specs.Texts.{Finds, RunsOutIf, after, child_by, digits_behind, expected, frame_in, goes_on, has_widths, head_in, one_by, packing_behind, positioned, scheme_by, scheme_in, scheme_of_text, tail_behind, three_by, two_by, whole, width_in}
 
 -- ---- what stands behind a scheme: nothing, a comma or a closing parenthesis
 abbrev pub follows : List ℕ → Bool
@@ -179,18 +180,6 @@ three_back a b c read rest f backa backb backc = elim (cases_Bool (is_plain a &&
 ]
 
 -- ---- schemes
-abbrev pub height : Shape → ℕ
-height Plain = 0
-height Primitive = 0
-height Constant = 0
-height (BitPacked packing) = 0
-height (FoR a) = height a + 1
-height (FoRChunked a b) = height a + height b + 1
-height (FoRWrapped a) = height a + 1
-height (FoRChunkedWrapped a b) = height a + height b + 1
-height (Delta a b) = height a + height b + 1
-height (RLE a b c) = height a + (height b + height c) + 1
-
 whole_word : (all : Bool) (text rest : List ℕ) → follows rest ≡ true → frame_in (in_parentheses all text ++ rest) ≡ (frames.Whole, in_parentheses all text ++ rest)
 whole_word true text rest f = no_letters rest f
 whole_word false text rest f = refl
@@ -209,7 +198,7 @@ headed n o = after o (λ x. scheme_by (scheme_in n) x.0 x.1)
 abbrev pub widened : Result (ℕ × List ℕ) ℕ → Result (Packing × List ℕ) ℕ
 widened o = after o (λ x. Ok (Width x.0, x.1))
 
-pub reads : (s : Shape) (n : ℕ) (rest : List ℕ) → is_plain s ≡ false → has_widths s ≡ true → height s < n → follows rest ≡ true → scheme_in n (scheme_text s ++ rest) ≡ Ok (s, rest)
+pub reads : (s : Shape) (n : ℕ) (rest : List ℕ) → is_plain s ≡ false → has_widths s ≡ true → levels s ≤ n → follows rest ≡ true → scheme_in n (scheme_text s ++ rest) ≡ Ok (s, rest)
 reads Plain n rest p w h f = cc
 reads Primitive zero rest p w h f = absurd (omega arith)
 reads Primitive (suc n) rest p w h f = refl
@@ -261,49 +250,10 @@ reads (RLE a b c) (suc n) rest p w h f =
     let back = three_back a b c (scheme_in n) rest f (λ more g. child_from a (scheme_in n) more (λ q. reads a n more q wa (omega arith) g)) (λ more g. child_from b (scheme_in n) more (λ q. reads b n more q wb (omega arith) g)) (λ more g. child_from c (scheme_in n) more (λ q. reads c n more q wc (omega arith) g)) in
     ap (λ (o : Result (Shape × Shape × Shape × List ℕ) ℕ). after o (λ x. Ok (RLE x.0 x.1 x.2, x.3))) back
 
--- a text is longer than its scheme is deep
-enclosed : (n : ℕ) (all : Bool) (text : List ℕ) → n < length text → (all ≡ true → n ≡ 0) → n < length (in_parentheses all text) + 1
-enclosed n true text h none = let same : n ≡ 0 = none refl in omega arith
-enclosed n false text h none = let long : length (text ++ 41 ∷ []) ≡ length text + 1 = length-append text (41 ∷ []) in omega arith
-
-both_tall : (a b : Shape) → height a < length (scheme_text a) → height b < length (scheme_text b) → height a + height b < length (in_parentheses (is_plain a && is_plain b) (scheme_text a ++ 44 ∷ scheme_text b)) + 1
-both_tall a b h k =
-    let long : length (scheme_text a ++ 44 ∷ scheme_text b) ≡ length (scheme_text a) + length (44 ∷ scheme_text b) = length-append (scheme_text a) (44 ∷ scheme_text b) in
-    enclosed (height a + height b) (is_plain a && is_plain b) (scheme_text a ++ 44 ∷ scheme_text b) (omega arith) (λ all.
-    let first : height a ≡ 0 = ap height (plain_is a (and_first (is_plain a) (is_plain b) all)) in
-    let second : height b ≡ 0 = ap height (plain_is b (and_second (is_plain a) (is_plain b) all)) in
-    omega arith)
-
-all_tall : (a b c : Shape) → height a < length (scheme_text a) → height b < length (scheme_text b) → height c < length (scheme_text c)
-    → height a + (height b + height c) < length (in_parentheses (is_plain a && (is_plain b && is_plain c)) (scheme_text a ++ 44 ∷ (scheme_text b ++ 44 ∷ scheme_text c))) + 1
-all_tall a b c h k l =
-    let inner : length (scheme_text b ++ 44 ∷ scheme_text c) ≡ length (scheme_text b) + length (44 ∷ scheme_text c) = length-append (scheme_text b) (44 ∷ scheme_text c) in
-    let long : length (scheme_text a ++ 44 ∷ (scheme_text b ++ 44 ∷ scheme_text c)) ≡ length (scheme_text a) + length (44 ∷ (scheme_text b ++ 44 ∷ scheme_text c)) = length-append (scheme_text a) (44 ∷ (scheme_text b ++ 44 ∷ scheme_text c)) in
-    enclosed (height a + (height b + height c)) (is_plain a && (is_plain b && is_plain c)) (scheme_text a ++ 44 ∷ (scheme_text b ++ 44 ∷ scheme_text c)) (omega arith) (λ all.
-    let others = and_second (is_plain a) (is_plain b && is_plain c) all in
-    let first : height a ≡ 0 = ap height (plain_is a (and_first (is_plain a) (is_plain b && is_plain c) all)) in
-    let second : height b ≡ 0 = ap height (plain_is b (and_first (is_plain b) (is_plain c) others)) in
-    let third : height c ≡ 0 = ap height (plain_is c (and_second (is_plain b) (is_plain c) others)) in
-    omega arith)
-
-tall : (s : Shape) → height s < length (scheme_text s)
-tall Plain = omega arith
-tall Primitive = omega arith
-tall Constant = omega arith
-tall (BitPacked BestWidth) = omega arith
-tall (BitPacked (Width width)) = omega arith
-tall (BitPacked BestWidths) = omega arith
-tall (FoR a) = let inner = enclosed (height a) (is_plain a) (scheme_text a) (tall a) (λ h. ap height (plain_is a h)) in omega arith
-tall (FoRChunked a b) = let inner = both_tall a b (tall a) (tall b) in omega arith
-tall (FoRWrapped a) = let inner = enclosed (height a) (is_plain a) (scheme_text a) (tall a) (λ h. ap height (plain_is a h)) in omega arith
-tall (FoRChunkedWrapped a b) = let inner = both_tall a b (tall a) (tall b) in omega arith
-tall (Delta a b) = let inner = both_tall a b (tall a) (tall b) in omega arith
-tall (RLE a b c) = let inner = all_tall a b c (tall a) (tall b) (tall c) in omega arith
-
-pub printed_is_read : (s : Shape) → is_plain s ≡ false → has_widths s ≡ true → scheme_of_text (scheme_text s) ≡ Ok s
-printed_is_read s p w =
+pub printed_is_read : (s : Shape) → is_plain s ≡ false → has_widths s ≡ true → levels s ≤ max_levels → scheme_of_text (scheme_text s) ≡ Ok s
+printed_is_read s p w h =
     let text = scheme_text s in
-    let read : scheme_in (length text) text ≡ Ok (s, []) = ap (scheme_in (length text)) (sym (append-nil text)) ∙ reads s (length text) [] p w (tall s) refl in
+    let read : scheme_in max_levels text ≡ Ok (s, []) = ap (scheme_in max_levels) (sym (append-nil text)) ∙ reads s max_levels [] p w h refl in
     ap (λ (o : Result (Shape × List ℕ) ℕ). positioned (length text) (after o whole)) read
 
 -- ---- reading
@@ -314,8 +264,17 @@ next_scheme view r (suc n) text rest head some h f =
     let here = subst (λ (m : ℕ). Finds view r (scheme_by (scheme_in m) head rest)) same f in
     subst (λ (o : Result (Shape × List ℕ) ℕ). Finds view r o) (sym (ap (headed n) h)) here
 
+-- where memory never runs out
+never : (X Y : Type 0) (asked : Bool) (e : Stop) → RunsOutIf {X = X} false (Err e) → RunsOutIf {X = Y} asked (Err e)
+never X Y asked ends.OutOfMemory none = absurd cc
+never X Y asked (ends.Left left) none = tt
+
+pub never_runs_out : (X : Type 0) {Y : Type 0} (asked : Bool) (result : Result Y Stop) (e : Stop) → IsErrAnd result (λ f. f ≡ e) → RunsOutIf {X = X} false (Err e) → RunsOutIf asked result
+never_runs_out X asked (Ok y) e is none = absurd is
+never_runs_out X {Y = Y} asked (Err f) e is none = subst (λ (g : Stop). RunsOutIf {X = Y} asked (Err g)) (sym is) (never X Y asked e none)
+
 -- ---- printing
-shape_some : (s : Scheme) → is_plain (shape s) ≡ false
+pub shape_some : (s : Scheme) → is_plain (shape s) ≡ false
 shape_some schemes.Primitive = refl
 shape_some schemes.Constant = refl
 shape_some (schemes.BitPacked packing) = refl
@@ -327,8 +286,8 @@ shape_some (schemes.Delta' a b) = refl
 shape_some (schemes.RLE' a b c) = refl
 
 -- the same of a scheme
-pub scheme_is_read : (s : Scheme) → has_widths (shape s) ≡ true → scheme_of_text (scheme_text (shape s)) ≡ Ok (shape s)
-scheme_is_read s w = printed_is_read (shape s) (shape_some s) w
+pub scheme_is_read : (s : Scheme) → has_widths (shape s) ≡ true → levels (shape s) ≤ max_levels → scheme_of_text (scheme_text (shape s)) ≡ Ok (shape s)
+scheme_is_read s w h = printed_is_read (shape s) (shape_some s) w h
 
 pub plain_child : (o : Option (Box Scheme Global)) (none : Bool) → is_some o ≡ not none → none ≡ is_plain (child_shape (child_scheme o))
 plain_child None true h = refl

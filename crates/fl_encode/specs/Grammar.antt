@@ -6,7 +6,7 @@ use Rattle.fl_encode.specs.declared.scheme.Packing.TheVariants.{BestWidth, BestW
 use Rattle.fl_encode.specs.declared.scheme.Scheme.{Scheme}
 use Rattle.fl_encode.specs.declared.text.SchemeError.{SchemeError}
 use Rattle.fl_encode.specs.declared.text.SchemeError.TheVariants as errors
-use Rattle.fl_encode.specs.Shapes.{BitPacked, Constant, Delta, FoR, FoRChunked, FoRChunkedWrapped, FoRWrapped, Plain, Primitive, RLE, Shape, is_plain, shape}
+use Rattle.fl_encode.specs.Shapes.{BitPacked, Constant, Delta, FoR, FoRChunked, FoRChunkedWrapped, FoRWrapped, Plain, Primitive, RLE, Shape, is_plain, levels, max_levels, shape}
 
 -- a decimal digit
 abbrev pub is_digit : ℕ → Bool
@@ -57,9 +57,9 @@ IsTextOf (FoRChunkedWrapped encoded references) text = (children : List ℕ) × 
 IsTextOf (Delta bases deltas) text = (children : List ℕ) × AreTwoChildren (is_plain bases && is_plain deltas) (IsTextOf bases) (IsTextOf deltas) children × (text ≡ codes "delta" ++ children)
 IsTextOf (RLE values indices offsets) text = (children : List ℕ) × AreThreeChildren (is_plain values && (is_plain indices && is_plain offsets)) (IsTextOf values) (IsTextOf indices) (IsTextOf offsets) children × (text ≡ codes "rle" ++ children)
 
--- the text of a scheme, which is no plain child
+-- the text of a scheme, which is no plain child and has not too many levels
 abbrev pub IsSchemeText : Shape → List ℕ → Type 0
-IsSchemeText scheme text = IsTextOf scheme text × (is_plain scheme ≡ false)
+IsSchemeText scheme text = IsTextOf scheme text × (is_plain scheme ≡ false) × (levels scheme ≤ max_levels)
 
 -- some scheme has a text that begins so
 abbrev pub BeginsScheme : List ℕ → Type 0

@@ -1,5 +1,5 @@
 -- The arrays that bit-packing and repetition make of a primitive one, and when they make none.
-use Rattle.std.specs.Prelude.{◌≡◌, ℕ, pos, List, length, Option, Some, None, slice_index_or, if◌then◌else◌}
+use Rattle.std.specs.Prelude.{◌≡◌, ℕ, pos, List, length, Option, Some, None, Result, Ok, Err, slice_index_or, if◌then◌else◌}
 use Rattle.fl_types.specs.declared.error.FastLanesError.{FastLanesError}
 use Rattle.fl_types.specs.declared.error.FastLanesError.TheVariants.{CastOutOfRange}
 use Rattle.fl_column.specs.Columns.{ConstantParts, PrimitiveParts, column_of_primitive}
@@ -7,7 +7,7 @@ use Rattle.fl_column.specs.Queries.{are_constant}
 use Rattle.fl_bitpacking.specs.Blocks.{boundary_array}
 use Rattle.fl_bitpacking.specs.Columns.{BitPackedParts}
 use Rattle.fl_bitpacking.specs.Encoders.{IsPackedAt, IsPackedInBlocks, best_width_of, best_widths_of, width_refusal, widths_refusal}
-use Rattle.fl_array.specs.Trees.{BitPackedBlocked, BitPackedGlobal, Primitive, Tree}
+use Rattle.fl_array.specs.Trees.{BitPackedBlocked, BitPackedGlobal, Constant, Primitive, Tree}
 use Rattle.fl_encode.specs.declared.scheme.Packing.{Packing}
 use Rattle.fl_encode.specs.declared.scheme.Packing.TheVariants.{BestWidth, BestWidths, Width}
 
@@ -43,3 +43,7 @@ constant_of p = record {
   scalar = record { dtype = (column_of_primitive p).dtype; value = slice_index_or (column_of_primitive p).items 0 (Some (pos 0)) };
   len = length p.slots;
 }
+
+-- what repetition answers, which asks for no memory
+abbrev pub repeated : PrimitiveParts → Result Tree FastLanesError
+repeated p = if are_constant (column_of_primitive p).items then Ok (Constant (constant_of p)) else Err CastOutOfRange

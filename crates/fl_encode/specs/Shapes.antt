@@ -1,5 +1,5 @@
 -- Schemes apart from their addresses in memory, and their text.
-use Rattle.std.specs.Prelude.{◌+◌, ◌/◌, ◌%◌, ◌++◌, ◌&&◌, ℕ, Bool, true, false, List, [], ◌∷◌, codes, nat_lt, if◌then◌else◌}
+use Rattle.std.specs.Prelude.{◌+◌, ◌/◌, ◌%◌, ◌++◌, ◌&&◌, ℕ, Bool, true, false, List, [], ◌∷◌, codes, max, nat_lt, if◌then◌else◌}
 use Rattle.fl_encode.specs.declared.scheme.Packing.{Packing}
 use Rattle.fl_encode.specs.declared.scheme.Packing.TheVariants.{BestWidth, BestWidths, Width}
 use Rattle.fl_encode.specs.declared.scheme.Scheme.{Scheme, Held-Scheme-FoR-0 as ChildScheme, None' as NoScheme, Some' as HasScheme}
@@ -35,6 +35,24 @@ abbrev mutual
   pub child_shape : ChildScheme → Shape
   child_shape NoScheme = Plain
   child_shape (HasScheme at scheme) = shape scheme
+
+-- ---- levels
+-- how many encodings stand in one another; a plain child is none
+abbrev pub levels : Shape → ℕ
+levels Plain = 0
+levels Primitive = 1
+levels Constant = 1
+levels (BitPacked packing) = 1
+levels (FoR encoded) = levels encoded + 1
+levels (FoRChunked encoded references) = max (levels encoded) (levels references) + 1
+levels (FoRWrapped encoded) = levels encoded + 1
+levels (FoRChunkedWrapped encoded references) = max (levels encoded) (levels references) + 1
+levels (Delta bases deltas) = max (levels bases) (levels deltas) + 1
+levels (RLE values indices offsets) = max (levels values) (max (levels indices) (levels offsets)) + 1
+
+-- how many at most where a text says them: a container holds 16 arrays in one another, and plain integers with their nulls may stand in the last encoding
+abbrev pub max_levels : ℕ
+max_levels = 14
 
 -- ---- text
 -- the digits of a width

@@ -1,5 +1,5 @@
 -- How the text of a scheme is read.
-use Rattle.std.specs.Prelude.{◌≡◌, ◌+◌, ◌-◌, ◌*◌, ◌==◌, ◌&&◌, ℕ, Bool, true, List, [], ◌∷◌, length, zero, suc, Option, Some, None, Result, Ok, Err, codes, max, nat_le, if◌then◌else◌}
+use Rattle.std.specs.Prelude.{◌≡◌, ◌+◌, ◌-◌, ◌*◌, ◌==◌, ◌&&◌, ℕ, Bool, true, false, List, [], ◌∷◌, length, zero, suc, Option, Some, None, Result, Ok, Err, codes, max, nat_le, is_some, if◌then◌else◌}
 use Rattle.std.specs.Option.{option_map_or}
 use Rattle.fl_encode.specs.declared.scheme.Packing.{Packing}
 use Rattle.fl_encode.specs.declared.scheme.Packing.TheVariants.{BestWidth, BestWidths, Width}
@@ -12,7 +12,7 @@ use Rattle.fl_encode.specs.declared.text.reading.Head.{Head}
 use Rattle.fl_encode.specs.declared.text.reading.Head.TheVariants as heads
 use Rattle.fl_encode.specs.declared.text.reading.Stop.{Stop}
 use Rattle.fl_encode.specs.declared.text.reading.Stop.TheVariants as stops
-use Rattle.fl_encode.specs.Shapes.{BitPacked, Constant, Delta, FoR, FoRChunked, FoRChunkedWrapped, FoRWrapped, Plain, Primitive, RLE, Shape, shape}
+use Rattle.fl_encode.specs.Shapes.{BitPacked, Constant, Delta, FoR, FoRChunked, FoRChunkedWrapped, FoRWrapped, Plain, Primitive, RLE, Shape, max_levels, shape}
 
 -- ---- readers: each returns what it read and the bytes after it, or the number of bytes from the first wrong one on
 -- what is read next, where something was read
@@ -125,7 +125,7 @@ scheme_by read (heads.FoR frame) text = frame_by read frame text
 scheme_by read heads.Delta text = after (two_by read text) (λ a. Ok (Delta a.0 a.1, a.2))
 scheme_by read heads.RLE text = after (three_by read text) (λ a. Ok (RLE a.0 a.1 a.2, a.3))
 
--- a scheme that is less deep than this
+-- a scheme of at most so many levels
 abbrev pub scheme_in : ℕ → List ℕ → Result (Shape × List ℕ) ℕ
 scheme_in zero text = Err (length text)
 scheme_in (suc depth) text = after (head_in text) (λ h. scheme_by (scheme_in depth) h.0 h.1)
@@ -140,9 +140,9 @@ abbrev pub positioned : ℕ → Result Shape ℕ → Result Shape ℕ
 positioned len (Ok scheme) = Ok scheme
 positioned len (Err left) = Err (len - left)
 
--- the scheme of a text, or the position of the text's first wrong byte; a scheme's depth is below its text's length
+-- the scheme of a text, or the position of the text's first wrong byte
 abbrev pub scheme_of_text : List ℕ → Result Shape ℕ
-scheme_of_text text = positioned (length text) (after (scheme_in (length text) text) whole)
+scheme_of_text text = positioned (length text) (after (scheme_in max_levels text) whole)
 
 -- ---- answers
 -- a call answers what is read, seen by view, or how many bytes there are from the first wrong one on, or memory ran out
@@ -151,7 +151,22 @@ Finds view (Ok x) read = read ≡ Ok (view x)
 Finds view (Err stops.OutOfMemory) read = Unit {0}
 Finds view (Err (stops.Left left)) read = read ≡ Err left
 
--- a call answers the scheme that is read, or the position of the first wrong byte, or memory ran out
+-- children follow the word for an encoding
+abbrev pub children_follow : Result (Head × List ℕ) ℕ → Bool
+children_follow (Ok head) = is_some (tail_behind 40 head.1)
+children_follow (Err left) = false
+
+-- the text begins with the word for an encoding and, in parentheses, its children: before that no memory is asked for
+abbrev pub says_children : List ℕ → Bool
+says_children text = children_follow (head_in text)
+
+-- memory runs out only if this is true
+abbrev pub RunsOutIf : {X : Type 0} → Bool → Result X Stop → Type 0
+RunsOutIf asked (Ok x) = Unit {0}
+RunsOutIf asked (Err stops.OutOfMemory) = asked ≡ true
+RunsOutIf asked (Err (stops.Left left)) = Unit {0}
+
+-- a call answers the scheme that is read, or the position of the first wrong byte, or memory ran out, which it asks for children alone
 abbrev pub IsParsed : Result Scheme SchemeError → Result Shape ℕ → Type 0
 IsParsed (Ok scheme) read = read ≡ Ok (shape scheme)
 IsParsed (Err errors.OutOfMemory) read = Unit {0}

@@ -1,8 +1,12 @@
 -- The schemes that arrays show, and what an array shows of the scheme that it was encoded by.
-use Rattle.std.specs.Prelude.{◌≡◌, ◌⊎◌, ℕ, Result, Ok, Err, if◌then◌else◌}
+use Rattle.std.specs.Prelude.{◌≡◌, Result, Ok, Err, if◌then◌else◌}
 use Rattle.fl_types.specs.declared.error.FastLanesError.{FastLanesError}
 use Rattle.fl_types.specs.declared.error.FastLanesError.TheVariants.{NotInteger}
 use Rattle.fl_types.specs.Types.{is_integer}
+use Rattle.fl_column.specs.Columns.{PrimitiveParts}
+use Rattle.fl_codec.specs.Parts.{ByChunk, FoRParts, Nulls, OneReference, Whole, compress_deltas, encode_chunked, encode_chunked_by, encode_global, encode_global_by, encode_runs}
+use Rattle.fl_codec.specs.declared.for_.ItemOrder.TheVariants.{Signed}
+use Rattle.fl_bitpacking.specs.Encoders.{best_width_of}
 use Rattle.fl_array.specs.Trees.{Tree, column}
 use Rattle.fl_array.specs.Trees as tree
 use Rattle.fl_encode.specs.declared.scheme.Packing.TheVariants.{BestWidth, BestWidths, Width}
@@ -33,20 +37,29 @@ tree_shape t = by_itself (part_shape t)
 abbrev pub shape_of : Tree → Result Shape FastLanesError
 shape_of t = if is_integer (column t).dtype then Ok (tree_shape t) else Err NotInteger
 
--- an array that shows the second scheme may have been encoded by the first: it has the width that was chosen and not that it was, no order of the references, one reference where those of all chunks were equal, and a constant for the differences of nothing but nulls
-abbrev pub Shows : Shape → Shape → Type 0
-Shows Plain shown = shown ≡ Plain
-Shows Primitive shown = shown ≡ Plain
-Shows Constant shown = shown ≡ Constant
-Shows (BitPacked (Width width)) shown = shown ≡ BitPacked (Width width)
-Shows (BitPacked BestWidth) shown = (width : ℕ) × (shown ≡ BitPacked (Width width))
-Shows (BitPacked BestWidths) shown = shown ≡ BitPacked BestWidths
-Shows (FoR encoded) shown = (e : Shape) × Shows encoded e × (shown ≡ FoR e)
-Shows (FoRChunked encoded references) shown =
-    ((e : Shape) × (r : Shape) × Shows encoded e × Shows references r × (shown ≡ FoRChunked e r)) ⊎ ((e : Shape) × Shows encoded e × (shown ≡ FoR e)) ⊎ (shown ≡ FoR Constant)
-Shows (FoRWrapped encoded) shown = (e : Shape) × Shows encoded e × (shown ≡ FoR e)
-Shows (FoRChunkedWrapped encoded references) shown =
-    ((e : Shape) × (r : Shape) × Shows encoded e × Shows references r × (shown ≡ FoRChunked e r)) ⊎ ((e : Shape) × Shows encoded e × (shown ≡ FoR e)) ⊎ (shown ≡ FoR Constant)
-Shows (Delta bases deltas) shown = (b : Shape) × (d : Shape) × Shows bases b × Shows deltas d × (shown ≡ Delta b d)
-Shows (RLE values indices offsets) shown =
-    (v : Shape) × (i : Shape) × (o : Shape) × Shows values v × Shows indices i × Shows offsets o × (shown ≡ RLE v i o)
+-- what shows of an array less one reference: its child's parts
+abbrev pub ShowsReference : (PrimitiveParts → Shape → Type 0) → Result OneReference FastLanesError → Shape → Type 0
+ShowsReference ShowsChild (Ok parts) shown = (e : Shape) × ShowsChild parts.child e × (shown ≡ FoR e)
+ShowsReference ShowsChild (Err refusal) shown = ⊥
+
+-- what shows of an array less the references of its chunks: one reference if these are equal, and a constant of nothing but nulls
+abbrev pub ShowsReferences : (PrimitiveParts → Shape → Type 0) → (PrimitiveParts → Shape → Type 0) → FoRParts → Shape → Type 0
+ShowsReferences ShowsChild ShowOthers (Whole parts) shown = (e : Shape) × ShowsChild parts.child e × (shown ≡ FoR e)
+ShowsReferences ShowsChild ShowOthers (ByChunk child others) shown = (e : Shape) × (r : Shape) × ShowsChild child e × ShowOthers others r × (shown ≡ FoRChunked e r)
+ShowsReferences ShowsChild ShowOthers (Nulls child reference) shown = shown ≡ FoR Constant
+
+-- a primitive array that is encoded by the first scheme shows the second one: the width that was chosen and not that it was, no order of the references, one reference where those of all chunks are equal, and a constant for the differences of nothing but nulls
+abbrev pub Shows : Shape → PrimitiveParts → Shape → Type 0
+Shows Plain p shown = shown ≡ Plain
+Shows Primitive p shown = shown ≡ Plain
+Shows Constant p shown = shown ≡ Constant
+Shows (BitPacked (Width width)) p shown = shown ≡ BitPacked (Width width)
+Shows (BitPacked BestWidth) p shown = shown ≡ BitPacked (Width (best_width_of p))
+Shows (BitPacked BestWidths) p shown = shown ≡ BitPacked BestWidths
+Shows (FoR encoded) p shown = ShowsReference (Shows encoded) (encode_global p) shown
+Shows (FoRChunked encoded references) p shown = ShowsReferences (Shows encoded) (Shows references) (encode_chunked p) shown
+Shows (FoRWrapped encoded) p shown = ShowsReference (Shows encoded) (encode_global_by Signed p) shown
+Shows (FoRChunkedWrapped encoded references) p shown = ShowsReferences (Shows encoded) (Shows references) (encode_chunked_by Signed p) shown
+Shows (Delta bases deltas) p shown = (b : Shape) × (d : Shape) × Shows bases (compress_deltas p).0 b × Shows deltas (compress_deltas p).1 d × (shown ≡ Delta b d)
+Shows (RLE values indices offsets) p shown =
+    (v : Shape) × (i : Shape) × (o : Shape) × Shows values (encode_runs p).values v × Shows indices (encode_runs p).indices i × Shows offsets (encode_runs p).offsets o × (shown ≡ RLE v i o)

@@ -1,8 +1,11 @@
 //! The scheme of an array that is there.
 
-ghost use Rattle.std.specs.Prelude.{◌≡◌, IfOk};
+ghost use Rattle.std.specs.Prelude.{◌≡◌, Err, IfOk, false};
 ghost use Rattle.fl_types.specs.Refusals.{Answers};
+ghost use Rattle.fl_types.specs.Types.{is_integer};
+ghost use Rattle.fl_types.specs.declared.error.FastLanesError.TheVariants.{NotInteger};
 ghost use Rattle.fl_array.specs.BitPackedArrays.{tree_of_bitpacked};
+ghost use Rattle.fl_array.specs.Trees.{column};
 ghost use Rattle.fl_encode.specs.declared.scheme.Scheme.{back-Scheme-FoR-0 as child_scheme};
 ghost use Rattle.fl_encode.specs.Shapes.{BitPacked, child_shape, shape};
 ghost use Rattle.fl_encode.specs.TreeShapes.{part_shape, shape_of};
@@ -60,9 +63,10 @@ fn child_of(alloc: Global, array: &ArrayRef) -> Result<Option<Box<Scheme>>, Allo
 /// was encoded shows the scheme that it was encoded by as far as `laws::encoded_shows_scheme` says.
 ///
 /// # Errors
-/// `NotInteger` of booleans.
+/// `NotInteger` of booleans, before memory is asked for.
 pub fn scheme_of(alloc: Global, array: &ArrayRef) -> Result<Scheme, FastLanesError>
-    ensures { Answers shape result (shape_of array.now) }
+    ensures shape { Answers shape result (shape_of array.now) }
+    ensures booleans { is_integer (column array.now).dtype ≡ false → result ≡ Err NotInteger }
 {
     if let DType::Bool(_) = array.dtype() {
         return Err(FastLanesError::NotInteger);

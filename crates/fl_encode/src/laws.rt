@@ -1,9 +1,9 @@
 //! What holds of every scheme.
 
-ghost use Rattle.std.specs.Prelude.{◌≡◌, ℕ, List, Ok, Err, true};
+ghost use Rattle.std.specs.Prelude.{◌≡◌, ◌<◌, ◌≤◌, ℕ, List, Ok, Err, true};
 ghost use Rattle.fl_encode.specs.declared.scheme.Scheme.{back-Scheme-FoR-0 as child_scheme};
 ghost use Rattle.fl_encode.specs.Grammar.{IsFirstWrong, IsSchemeText};
-ghost use Rattle.fl_encode.specs.Shapes.{Shape, child_shape, scheme_text, shape};
+ghost use Rattle.fl_encode.specs.Shapes.{Shape, child_shape, levels, max_levels, scheme_text, shape};
 ghost use Rattle.fl_encode.specs.Shapes as shapes;
 ghost use Rattle.fl_encode.specs.Texts.{has_widths, scheme_of_text};
 ghost use Rattle.fl_encode.specs.TreeShapes.{Shows, part_shape};
@@ -73,9 +73,11 @@ fn prove_width(packing: Packing)
     }
 }
 
-/// The text that is printed for a scheme is parsed as that scheme.
+/// The text that is printed for a scheme is parsed as that scheme. If it has more words in one another than a text may have,
+/// it is the text of no scheme.
 pub fn printed_is_read(scheme: &Scheme)
-    ensures { scheme_of_text (scheme_text (shape scheme.now)) ≡ Ok (shape scheme.now) }
+    ensures read { levels (shape scheme.now) ≤ max_levels → scheme_of_text (scheme_text (shape scheme.now)) ≡ Ok (shape scheme.now) }
+    ensures deep { max_levels < levels (shape scheme.now) → (position : ℕ) × (scheme_of_text (scheme_text (shape scheme.now)) ≡ Err position) }
 {
     prove_widths(scheme);
 }
@@ -92,7 +94,9 @@ pub fn wrong_byte_is_the_first()
     ensures { (text : List ℕ) (position : ℕ) → scheme_of_text text ≡ Err position → IsFirstWrong text position }
 {}
 
-/// An array shows the scheme that it was encoded by: each encoding in its place, as far as arrays tell them apart.
+/// An array shows the scheme that it was encoded by: each encoding in its place, as far as arrays tell them apart. For the
+/// best width stands that width; one reference stands for those of chunks if they are equal, and a constant for the
+/// differences of nothing but nulls.
 pub fn encoded_shows_scheme()
-    ensures { (scheme : Scheme) (p : PrimitiveParts) (t : Tree) → IsEncodedAs scheme p t → Shows (shape scheme) (part_shape t) }
+    ensures { (scheme : Scheme) (p : PrimitiveParts) (t : Tree) → IsEncodedAs scheme p t → Shows (shape scheme) p (part_shape t) }
 {}

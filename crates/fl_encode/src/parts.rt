@@ -11,7 +11,7 @@ ghost use Rattle.fl_array.specs.Reads.{constant_in};
 ghost use Rattle.fl_array.specs.Trees.{Constant, FoRChunked, FoRGlobal, column};
 ghost use Rattle.fl_array.specs.Trees as tree;
 ghost use Rattle.fl_encode.specs.Encodings.{Makes};
-ghost use Rattle.fl_encode.specs.Packings.{IsPackedAs, constant_of, constant_refusal, packing_refusal};
+ghost use Rattle.fl_encode.specs.Packings.{IsPackedAs, constant_of, constant_refusal, packing_refusal, repeated};
 
 use crate::scheme::Packing;
 use fl_array::bitpacking::bitpack_compress::{
@@ -75,7 +75,8 @@ fn first_item(array: &PrimitiveArray) -> Scalar
 /// # Errors
 /// `CastOutOfRange` where two items differ.
 pub(crate) fn repeat(array: &PrimitiveArray) -> Result<ArrayRef, FastLanesError>
-    ensures { Makes (constant_refusal array.now) (λ t. t ≡ Constant (constant_of array.now)) (column_of_primitive array.now) result }
+    ensures exact { result ≡ repeated array.now }
+    ensures made { Makes (constant_refusal array.now) (λ t. t ≡ Constant (constant_of array.now)) (column_of_primitive array.now) result }
 {
     let (len, _validity) = (array.len(), array.validity());
     if !array.is_constant() {

@@ -3,11 +3,12 @@
 /// How integers are bit-packed.
 #[derive(Clone, Copy, Debug, PartialEq, Eq)]
 pub enum Packing {
-    /// At the width that takes the fewest bytes, patches included.
+    /// At the smallest width of least cost, which estimates the bytes: those of all bits, and for each item that has more
+    /// bits those of its value and 4.
     BestWidth,
     /// At this width, in bits.
     Width(u8),
-    /// At a width for each block of 1024 items: the one that takes the fewest bytes, patches included.
+    /// At a width for each block of 1024 items: the smallest of least cost for that block.
     BestWidths,
 }
 

@@ -1,4 +1,5 @@
-//! Encoding by a scheme, which names an encoding and the schemes of the children; and the text of schemes.
+//! Encoding by a scheme, which names an encoding and the schemes of the children; the scheme that an array shows; and the
+//! text of schemes.
 
-pub use fl_encode::text::{SchemeError, parse, print};
-pub use fl_encode::{Packing, Scheme, encode};
+pub use fl_encode::text::{MAX_LEVELS, SchemeError, parse, print};
+pub use fl_encode::{Packing, Scheme, encode, scheme_of};

@@ -1,13 +1,14 @@
 //! Reading a scheme.
 
-ghost use Rattle.std.specs.Prelude.{◌≡◌, ◌+◌, ◌≤◌, IfOk, Ok, length, codes};
+ghost use Rattle.std.specs.Prelude.{◌≡◌, ◌+◌, ◌≤◌, IfOk, Ok, false, is_some, length, codes};
 ghost use Rattle.std.specs.Option.{option_copied};
 ghost use Rattle.fl_encode.specs.declared.scheme.Scheme.{back-Scheme-FoR-0 as child_scheme};
 ghost use Rattle.fl_encode.specs.declared.text.reading.Stop.TheVariants.{OutOfMemory};
-ghost use Rattle.fl_encode.specs.Shapes.{child_shape, shape};
-ghost use Rattle.fl_encode.specs.Texts.{Finds, after, child_by, common, digits_behind, expected, frame_by, frame_in, furthest, head_in, nested_head_in, one_by, packing_behind, rest_behind, scheme_by, scheme_in, tail_behind, three_by, two_by, whole, width_in};
+ghost use Rattle.fl_encode.specs.Shapes.{child_shape, max_levels, shape};
+ghost use Rattle.fl_encode.specs.Texts.{Finds, RunsOutIf, after, child_by, common, digits_behind, expected, frame_by, frame_in, furthest, head_in, nested_head_in, one_by, packing_behind, rest_behind, says_children, scheme_by, scheme_in, tail_behind, three_by, two_by, whole, width_in};
 
 use crate::scheme::{Packing, Scheme};
+use crate::text::MAX_LEVELS;
 use std::alloc::{AllocFailed, Global};
 
 /// Where reading stopped.
@@ -127,7 +128,8 @@ fn digits_behind(number: u8, text: &[u8]) -> (u8, &[u8])
 
 /// A width, and what follows it.
 fn read_width(text: &[u8]) -> Result<(u8, &[u8]), Stop>
-    ensures { Finds (λ w. (w.0, w.1.now)) result (width_in text.now) }
+    ensures found { Finds (λ w. (w.0, w.1.now)) result (width_in text.now) }
+    ensures memory { RunsOutIf false result }
 {
     match text {
         [x @ b'0'..=b'9', rest @ ..] => Ok(digits_behind(*x - b'0', rest)),
@@ -137,7 +139,8 @@ fn read_width(text: &[u8]) -> Result<(u8, &[u8]), Stop>
 
 /// The packing after `bitpacked`, and what follows it.
 fn read_packing(text: &[u8]) -> Result<(Packing, &[u8]), Stop>
-    ensures { Finds (λ p. (p.0, p.1.now)) result (packing_behind text.now) }
+    ensures found { Finds (λ p. (p.0, p.1.now)) result (packing_behind text.now) }
+    ensures memory { RunsOutIf false result }
 {
     match tail_behind(b':', text) {
         None => Ok((Packing::BestWidth, text)),
@@ -179,7 +182,8 @@ fn read_frame_word(text: &[u8]) -> (Frame, &[u8])
 
 /// The word for an encoding that has children, and what follows it.
 fn read_nested_head(text: &[u8]) -> Result<(Head, &[u8]), Stop>
-    ensures { Finds (λ h. (h.0, h.1.now)) result (nested_head_in text.now) }
+    ensures found { Finds (λ h. (h.0, h.1.now)) result (nested_head_in text.now) }
+    ensures memory { RunsOutIf false result }
 {
     if let Some(rest) = rest_behind(b"for", text) {
         let (frame, rest) = read_frame_word(rest);
@@ -196,7 +200,8 @@ fn read_nested_head(text: &[u8]) -> Result<(Head, &[u8]), Stop>
 
 /// The word for an encoding, and what follows it.
 fn read_head(text: &[u8]) -> Result<(Head, &[u8]), Stop>
-    ensures { Finds (λ h. (h.0, h.1.now)) result (head_in text.now) }
+    ensures found { Finds (λ h. (h.0, h.1.now)) result (head_in text.now) }
+    ensures memory { RunsOutIf false result }
 {
     if let Some(rest) = rest_behind(b"primitive", text) {
         return Ok((Head::Primitive, rest));
@@ -230,7 +235,8 @@ fn read_child(alloc: Global, depth: usize, text: &[u8]) -> Result<(Child, &[u8])
 /// The one child in parentheses, or none.
 #[cycle(read)]
 fn read_one(alloc: Global, depth: usize, text: &[u8]) -> Result<(Child, &[u8]), Stop>
-    ensures { Finds (λ c. (child_shape (child_scheme c.0), c.1.now)) result (one_by (scheme_in depth) text.now) }
+    ensures found { Finds (λ c. (child_shape (child_scheme c.0), c.1.now)) result (one_by (scheme_in depth) text.now) }
+    ensures memory { RunsOutIf (is_some (tail_behind 40 text.now)) result }
 {
     let Some(inner) = tail_behind(b'(', text) else {
         return Ok((None, text));
@@ -243,7 +249,8 @@ fn read_one(alloc: Global, depth: usize, text: &[u8]) -> Result<(Child, &[u8]), 
 /// The two children in parentheses, or none.
 #[cycle(read)]
 fn read_two(alloc: Global, depth: usize, text: &[u8]) -> Result<(Child, Child, &[u8]), Stop>
-    ensures { Finds (λ c. (child_shape (child_scheme c.0), child_shape (child_scheme c.1), c.2.now)) result (two_by (scheme_in depth) text.now) }
+    ensures found { Finds (λ c. (child_shape (child_scheme c.0), child_shape (child_scheme c.1), c.2.now)) result (two_by (scheme_in depth) text.now) }
+    ensures memory { RunsOutIf (is_some (tail_behind 40 text.now)) result }
 {
     let Some(inner) = tail_behind(b'(', text) else {
         return Ok((None, None, text));
@@ -262,7 +269,8 @@ fn read_three(
     depth: usize,
     text: &[u8],
 ) -> Result<(Child, Child, Child, &[u8]), Stop>
-    ensures { Finds (λ c. (child_shape (child_scheme c.0), child_shape (child_scheme c.1), child_shape (child_scheme c.2), c.3.now)) result (three_by (scheme_in depth) text.now) }
+    ensures found { Finds (λ c. (child_shape (child_scheme c.0), child_shape (child_scheme c.1), child_shape (child_scheme c.2), c.3.now)) result (three_by (scheme_in depth) text.now) }
+    ensures memory { RunsOutIf (is_some (tail_behind 40 text.now)) result }
 {
     let Some(inner) = tail_behind(b'(', text) else {
         return Ok((None, None, None, text));
@@ -284,7 +292,8 @@ fn read_frame(
     frame: Frame,
     text: &[u8],
 ) -> Result<(Scheme, &[u8]), Stop>
-    ensures { Finds (λ s. (shape s.0, s.1.now)) result (frame_by (scheme_in depth) frame text.now) }
+    ensures found { Finds (λ s. (shape s.0, s.1.now)) result (frame_by (scheme_in depth) frame text.now) }
+    ensures memory { RunsOutIf (is_some (tail_behind 40 text.now)) result }
 {
     match frame {
         Frame::Whole => {
@@ -322,7 +331,8 @@ fn read_children(
     head: Head,
     text: &[u8],
 ) -> Result<(Scheme, &[u8]), Stop>
-    ensures { Finds (λ s. (shape s.0, s.1.now)) result (scheme_by (scheme_in depth) head text.now) }
+    ensures found { Finds (λ s. (shape s.0, s.1.now)) result (scheme_by (scheme_in depth) head text.now) }
+    ensures memory { RunsOutIf (is_some (tail_behind 40 text.now)) result }
 {
     match head {
         Head::Primitive => Ok((Scheme::Primitive, text)),
@@ -345,10 +355,11 @@ fn read_children(
     }
 }
 
-/// A scheme of a depth below `depth`, and what follows it.
+/// A scheme of at most `depth` levels, and what follows it.
 #[cycle(read)]
 fn read_scheme(alloc: Global, depth: usize, text: &[u8]) -> Result<(Scheme, &[u8]), Stop>
-    ensures { Finds (λ s. (shape s.0, s.1.now)) result (scheme_in depth text.now) }
+    ensures found { Finds (λ s. (shape s.0, s.1.now)) result (scheme_in depth text.now) }
+    ensures memory { RunsOutIf (says_children text.now) result }
 {
     if depth == 0 {
         return Err(Stop::Left(text.len()));
@@ -359,9 +370,10 @@ fn read_scheme(alloc: Global, depth: usize, text: &[u8]) -> Result<(Scheme, &[u8
 
 /// The scheme whose text is the whole text.
 pub(crate) fn read_whole(alloc: Global, text: &[u8]) -> Result<Scheme, Stop>
-    ensures { Finds shape result (after (scheme_in (length text.now) text.now) whole) }
+    ensures found { Finds shape result (after (scheme_in max_levels text.now) whole) }
+    ensures memory { RunsOutIf (says_children text.now) result }
 {
-    let (scheme, rest) = read_scheme(alloc, text.len(), text)?;
+    let (scheme, rest) = read_scheme(alloc, MAX_LEVELS, text)?;
     if rest.is_empty() {
         Ok(scheme)
     } else {
