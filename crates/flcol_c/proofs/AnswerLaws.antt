@@ -1,11 +1,14 @@
 -- Answers of tests.
-use Rattle.std.proofs.Common.{◌≡◌, ℕ, ℤ, pos, List, [], ◌∷◌, length, map, Bool, true, false, not, Option, Some, None, Result, Ok, Err, IsTrue, option_map, count_by, arith, ◌∙◌, ap, sym, subst, refl}
+use Rattle.std.proofs.Common.{inl, inr, ◌≡◌, ℕ, ℤ, pos, List, [], ◌∷◌, length, map, Bool, true, false, not, Option, Some, None, Result, Ok, Err, option_map, count_by, ◌∙◌, ap, sym, subst, refl}
 use Rattle.std.specs.Prelude.{is_none}
 use Rattle.std.specs.Ordering.{int_eq}
 use Rattle.std.proofs.lemmas.List.{length-map}
 use Rattle.std.proofs.lemmas.Bool.{eq-eqb}
 use Rattle.fl_types.specs.declared.dtype.PType.{PType}
 use Rattle.fl_types.specs.declared.error.FastLanesError.{FastLanesError}
+use Rattle.fl_types.specs.declared.error.FastLanesError.TheVariants.{OutOfMemory}
+use Rattle.fl_types.specs.Refusals.{Refuses}
+use Rattle.fl_types.proofs.RefusalLaws.{Refuses_cases}
 use Rattle.fl_types.specs.declared.query.CompareOperator.{CompareOperator}
 use Rattle.fl_types.specs.declared.query.BetweenOptions.{BetweenOptions}
 use Rattle.fl_types.specs.Types.{has_ptype, is_integer}
@@ -15,10 +18,11 @@ use Rattle.fl_column.specs.Queries.{holds, is_between, tested}
 use Rattle.fl_ops.specs.Queries.{between_scalars, compare_scalar, integer_in, nullable_with}
 use Rattle.flcol_c.specs.Answering.{AreAnswers, compare_fault, operator_of, test_fault}
 use Rattle.fl_column.specs.Bitmaps.{bitmap_len, bits_in}
-use Rattle.flcol_c.specs.Bitmaps.{items_in, room_fault}
-use Rattle.flcol_c.specs.Reading.{nulls_in}
+use Rattle.fl_bitmaps.specs.Bitmaps.{items_in}
+use Rattle.flcol_c.specs.Bitmaps.{room_fault}
+use Rattle.flcol_c.specs.Reading.{nulls_fault, nulls_in}
 use Rattle.flcol_c.proofs.ReadLaws.{integers_of_type, ok_is}
-use Rattle.flcol_c.proofs.ValidityLaws.{one_null, one_value}
+use Rattle.flcol_c.proofs.NullCounts.{nulls_mapped}
 
 abbrev truth : ℤ → Bool
 truth z = not (int_eq z (pos 0))
@@ -48,6 +52,16 @@ compared operator constant z c b q is typed e =
     subst (λ (k : ℤ). bools b ≡ map (option_map (holds operator k)) c.items) is
     (answers_of (holds operator (integer_in constant)) c b (ap (λ (d : Column). d.items) (ok_is (nullable_with constant (tested (holds operator (integer_in constant)) c)) (column_of_bools b) answer)))
 
+-- a comparison of integers is not refused
+pub compare_memory : (operator : CompareOperator) (constant : ScalarParts) (c : Column) (q : PType) (e : FastLanesError) → has_ptype q c.dtype ≡ true → Refuses e (compare_scalar operator constant c) → e ≡ OutOfMemory
+compare_memory operator constant c q e typed refused = elim (Refuses_cases e (compare_scalar operator constant c) refused) [
+  | inl memory ↦ memory
+  | inr same ↦
+      let integers : is_integer c.dtype ≡ true = integers_of_type q c.dtype typed in
+      let wrong : ◌≡◌ {A = Result Column FastLanesError} (Ok (nullable_with constant (tested (holds operator (integer_in constant)) c))) (Err e) = (rw integers refl) ∙ same in
+      absurd (let none : ⊥ = cc in none)
+]
+
 -- what a range test answered
 pub lies_between : (lower upper : ScalarParts) (low high : ℤ) (options : BetweenOptions) (c : Column) (b : BoolParts) (q : PType) → integer_in lower ≡ low → integer_in upper ≡ high → has_ptype q c.dtype ≡ true → between_scalars lower upper options c ≡ Ok (column_of_bools b) → bools b ≡ map (option_map (is_between options low high)) c.items
 lies_between lower upper low high options c b q is_low is_high typed e =
@@ -59,29 +73,25 @@ lies_between lower upper low high options c b q is_low is_high typed e =
     (subst (λ (k : ℤ). bools b ≡ map (option_map (is_between options k (integer_in upper))) c.items) is_low
     (answers_of test c b (ap (λ (d : Column). d.items) (ok_is made (column_of_bools b) answer))))
 
-nulls_tested : (test : ℤ → Bool) (items : List (Option ℤ)) → count_by is_none (map (option_map test) items) ≡ count_by is_none items
-nulls_tested test [] = refl
-nulls_tested test (None ∷ items) =
-    let more = one_null (map (option_map test) items) in let more_before = one_null items in let rest = nulls_tested test items in omega (arith, more, more_before, rest)
-nulls_tested test (Some z ∷ items) =
-    let same = one_value (test z) (map (option_map test) items) in let same_before = one_value z items in let rest = nulls_tested test items in omega (arith, same, same_before, rest)
-
 -- as many answers are null as items
 pub nulls_answered : (test : ℤ → Bool) (c : Column) (b : BoolParts) → bools b ≡ map (option_map test) c.items → count_by is_none (bools b) ≡ count_by is_none c.items
-nulls_answered test c b e = ap (count_by is_none) e ∙ nulls_tested test c.items
+nulls_answered test c b e = ap (count_by is_none) e ∙ nulls_mapped test c.items
 
 -- there are as many answers as items
 pub answers_counted : (test : ℤ → Bool) (c : Column) (b : BoolParts) (n : ℕ) → n ≡ length b.bits → n ≡ length (column_of_bools b).items → bools b ≡ map (option_map test) c.items → length b.bits ≡ length c.items
 answers_counted test c b n bits items e = sym bits ∙ (items ∙ (length-map (bools b) (option_map bool_number) ∙ (ap length e ∙ length-map c.items (option_map test))))
 
--- the room for the answers of a test
-pub test_room : (ptype : PType) (bits bytes n nulls : ℕ) (c : Column) → has_ptype ptype c.dtype ≡ true → bits ≡ bitmap_len (length c.items) → n ≡ length c.items → nulls ≡ nulls_in c → room_fault bytes n nulls ≡ test_fault ptype bits bytes c
-test_room ptype bits bytes n nulls c typed room len null = rw (typed, eq-eqb bits (bitmap_len (length c.items)) room, len, null) refl
+-- a column that is tested
+pub test_allowed : (ptype : PType) (bits : ℕ) (c : Column) → has_ptype ptype c.dtype ≡ true → bits ≡ bitmap_len (length c.items) → test_fault ptype bits c ≡ None
+test_allowed ptype bits c typed room = rw (typed, eq-eqb bits (bitmap_len (length c.items)) room) refl
 
--- and of a comparison
-pub compare_room : (ptype : PType) (operator bits bytes n nulls : ℕ) (op : CompareOperator) (c : Column) → operator_of operator ≡ Some op → has_ptype ptype c.dtype ≡ true → bits ≡ bitmap_len (length c.items) → n ≡ length c.items → nulls ≡ nulls_in c
-    → room_fault bytes n nulls ≡ compare_fault ptype operator bits bytes c
-compare_room ptype operator bits bytes n nulls op c named typed room len null = test_room ptype bits bytes n nulls c typed room len null ∙ sym (let known : is_none (operator_of operator) ≡ false = ap is_none named in rw known refl)
+-- or compared
+pub compare_allowed : (ptype : PType) (operator bits : ℕ) (op : CompareOperator) (c : Column) → operator_of operator ≡ Some op → has_ptype ptype c.dtype ≡ true → bits ≡ bitmap_len (length c.items) → compare_fault ptype operator bits c ≡ None
+compare_allowed ptype operator bits op c named typed room = let known : is_none (operator_of operator) ≡ false = ap is_none named in (rw known refl) ∙ test_allowed ptype bits c typed room
+
+-- the room for the bitmap of its answers
+pub test_room : (bytes n nulls : ℕ) (c : Column) → n ≡ length c.items → nulls ≡ nulls_in c → room_fault bytes n nulls ≡ nulls_fault bytes c
+test_room bytes n nulls c len null = rw (len, null) refl
 
 -- the bits that were written are the answers
 pub answered : (test : ℤ → Bool) (c : Column) (b : BoolParts) (bits validity : List ℕ) → bools b ≡ map (option_map test) c.items → length b.bits ≡ length c.items → bools b ≡ items_in (bits_in bits (length b.bits)) validity → AreAnswers test c bits validity

@@ -1,5 +1,5 @@
 -- Containers that are read and written.
-use Rattle.std.proofs.Common.{inl, inr, ◌≡◌, ◌≢◌, ◌⊎◌, ℕ, ℤ, pos, List, length, Option, Some, None, Result, Ok, Err, ap, ◌∙◌, sym, subst, refl}
+use Rattle.std.proofs.Common.{inl, inr, ◌≡◌, ◌≢◌, ℕ, ℤ, List, length, Result, Ok, Err, ap, ◌∙◌, sym, subst, refl}
 use Rattle.fl_types.specs.declared.error.FastLanesError.{FastLanesError}
 use Rattle.fl_types.specs.declared.error.FastLanesError.TheVariants.{OutOfMemory}
 use Rattle.fl_types.specs.Refusals.{Refuses}
@@ -14,7 +14,8 @@ use Rattle.flcol_container.specs.Outcomes.{IsWriting}
 use Rattle.flcol_c.specs.declared.fault.Fault.{Fault}
 use Rattle.flcol_c.specs.declared.fault.Fault.TheVariants.{BadContainer, Refused}
 use Rattle.flcol_c.specs.Containers.{GivesArray, HasContainerLen, IsContainerOf, IsReadStatus}
-use Rattle.flcol_c.specs.Statuses.{status_in, status_of}
+use Rattle.flcol_c.specs.Statuses.{status_of}
+use Rattle.flcol_c.proofs.StatusLaws.{Told}
 
 -- the array of a container's node
 pub array_given : (bytes : List ℕ) (node : Node) (t : Tree) → IsContainer bytes node → reading node ≡ Ok t → GivesArray bytes (Ok t)
@@ -34,11 +35,11 @@ pub container_len : (t : Tree) (bytes : List ℕ) (n : ℕ) → IsContainerOf t 
 container_len t bytes n is len = (bytes, is, sym len)
 
 -- the status of what was read says the fault
-pub status_read : (bytes : List ℕ) (r : Result Tree Fault) (s : ℤ) → GivesArray bytes r → (s ≢ pos 1 → s ≡ status_in r) → IsReadStatus bytes s
-status_read bytes (Ok t) s g e some other = absurd (some (e other))
-status_read bytes (Err f) s g e some other =
-    let memory : f ≢ Refused OutOfMemory = λ (is : f ≡ Refused OutOfMemory). other (e other ∙ ap status_of is) in
-    (f, e other, g memory)
+pub status_read : (bytes : List ℕ) (r : Result Tree Fault) (s : ℤ) → GivesArray bytes r → Told r s → IsReadStatus bytes s
+status_read bytes (Ok t) s g told some other = absurd (some (told other))
+status_read bytes (Err f) s g told some other =
+    let memory : f ≢ Refused OutOfMemory = λ (is : f ≡ Refused OutOfMemory). other (told ∙ ap status_of is) in
+    (f, told, g memory)
 
 -- a node that lacks room has no container
 pub lacks_room : {X : Type 0} (view : X → List ℕ) (node : Node) (r : Result X ContainerError) → IsWriting view node r → r ≡ Err containers.BadContainer → HasNoContainer node

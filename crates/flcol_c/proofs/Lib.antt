@@ -10,3 +10,6 @@ pub mod StatusLaws
 pub mod ValidityLaws
 pub mod ValueLaws
 pub mod CompressLaws
+pub mod NullCounts
+pub mod BooleanLaws
+pub mod PlainLaws

@@ -1,5 +1,5 @@
 -- How many items of a column are null.
-use Rattle.std.proofs.Common.{◌≡◌, ℕ, ℤ, ◌+◌, ◌<◌, List, [], ◌∷◌, zero, suc, length, get_or, count_by, Bool, true, false, not, Option, Some, None, IsTrue, cond, arith, ◌∙◌, ap, sym, refl}
+use Rattle.std.proofs.Common.{◌≡◌, ℕ, ℤ, ◌+◌, ◌<◌, List, [], ◌∷◌, suc, length, get_or, count_by, Bool, true, false, not, Option, Some, None, IsTrue, cond, arith, ◌∙◌, ap, sym, refl}
 use Rattle.std.specs.Prelude.{is_none, is_some}
 use Rattle.std.proofs.lemmas.List.Sums.{sum_by-cons}
 use Rattle.fl_types.specs.declared.validity.Validity.{Validity}
@@ -7,7 +7,8 @@ use Rattle.fl_types.specs.Validities.{covers, is_valid_at, items_of}
 use Rattle.fl_column.specs.Columns.{Column}
 use Rattle.fl_column.proofs.ItemLaws.{get_or-items_of, length-items_of}
 use Rattle.fl_array.specs.Reads.{AreItemsOf, IsValidityOf}
-use Rattle.flcol_c.specs.Bitmaps.{items_in, null_total, room_fault, validity_in}
+use Rattle.fl_bitmaps.specs.Bitmaps.{items_in, validity_in}
+use Rattle.flcol_c.specs.Bitmaps.{null_total, room_fault}
 use Rattle.flcol_c.specs.Reading.{nulls_in}
 use Rattle.flcol_c.proofs.ValidityLaws.{items_marked, nulls_counted}
 

@@ -1,6 +1,5 @@
 -- What is read of an array.
-use Rattle.std.proofs.Common.{◌≡◌, ℕ, ℤ, List, [], ◌∷◌, length, map, Bool, true, false, Option, Some, None, Result, Ok, Err, IsTrue, option_map, count_by, arith, ◌∙◌, ap, sym, subst, refl, cond}
-use Rattle.std.specs.Prelude.{is_none}
+use Rattle.std.proofs.Common.{◌≡◌, ℕ, length, true, None, Result, Ok, ◌∙◌, sym, refl}
 use Rattle.std.proofs.lemmas.Bool.{eq-eqb}
 use Rattle.fl_types.specs.declared.dtype.PType.{PType}
 use Rattle.fl_types.specs.declared.dtype.DType.{DType}
@@ -10,8 +9,7 @@ use Rattle.fl_types.specs.Types.{has_ptype, is_integer}
 use Rattle.fl_bitpacking.proofs.SoundParts.{same_ptype_is}
 use Rattle.fl_column.specs.Columns.{Column, PrimitiveParts, column_of_primitive}
 use Rattle.fl_array.specs.Reads.{integer_column}
-use Rattle.flcol_c.specs.Bitmaps.{room_fault}
-use Rattle.flcol_c.specs.Reading.{nulls_in, read_fault}
+use Rattle.flcol_c.specs.Reading.{read_fault}
 
 -- a plain array of a type of integers has that type
 pub plain_typed : (p : PrimitiveParts) (q : PType) → has_ptype q (column_of_primitive p).dtype ≡ true → p.ptype ≡ q
@@ -28,7 +26,6 @@ integers_of_type q (dtypes.Bool n) h = cc
 pub decoded_column : (c : Column) (p : PrimitiveParts) (q : PType) → has_ptype q c.dtype ≡ true → integer_column c ≡ Ok (column_of_primitive p) → c ≡ column_of_primitive p
 decoded_column c p q typed e = ok_is c (column_of_primitive p) (let integers : is_integer c.dtype ≡ true = integers_of_type q c.dtype typed in (rw integers refl) ∙ e)
 
--- the room for the values of a decoded array
-pub read_room : (ptype : PType) (len bytes : ℕ) (c d : Column) → c ≡ d → has_ptype ptype c.dtype ≡ true → len ≡ length c.items → room_fault bytes (length d.items) (nulls_in d) ≡ read_fault ptype len bytes c
-read_room ptype len bytes c d same typed e =
-    subst (λ (x : Column). room_fault bytes (length x.items) (nulls_in x) ≡ read_fault ptype len bytes c) same (rw (typed, eq-eqb len (length c.items) e, e) refl)
+-- a column that is read
+pub read_allowed : (ptype : PType) (len : ℕ) (c : Column) → has_ptype ptype c.dtype ≡ true → len ≡ length c.items → read_fault ptype len c ≡ None
+read_allowed ptype len c typed e = rw (typed, eq-eqb len (length c.items) e) refl

@@ -6,13 +6,14 @@ use Rattle.std.proofs.lemmas.List.Sums.{count_by-le-length, sum_by-cons}
 use Rattle.std.proofs.lemmas.List.FromFn.{length-map-range_with_len, get_or-map-range_with_len}
 use Rattle.std.proofs.lemmas.Bool.Decides.{Decides-eqb}
 use Rattle.std.specs.Prelude.{is_none}
-use Rattle.fl_types.specs.Bits.{tabulate, true_count}
+use Rattle.fl_types.specs.Bits.{true_count}
 use Rattle.fl_types.specs.Validities.{covers, is_valid_at, items_of, masked}
 use Rattle.fl_types.specs.declared.validity.Validity.{Validity}
 use Rattle.fl_types.specs.declared.validity.Validity.TheVariants as valid
 use Rattle.fl_column.proofs.ItemLaws.{get_or-items_of, length-items_of}
-use Rattle.fl_column.specs.Bitmaps.{bit_in, bits_in}
-use Rattle.flcol_c.specs.Bitmaps.{items_in, null_total, room_fault, validity_in}
+use Rattle.fl_column.specs.Bitmaps.{bit_in}
+use Rattle.fl_bitmaps.specs.Bitmaps.{items_in, validity_in}
+use Rattle.flcol_c.specs.Bitmaps.{null_total, room_fault}
 
 false_true : false ≡ true → ⊥
 false_true e = cc

@@ -9,8 +9,7 @@ use Rattle.fl_types.specs.declared.query.StrictComparison.TheVariants.{NonStrict
 use Rattle.fl_types.specs.Types.{has_ptype}
 use Rattle.fl_column.specs.Columns.{Column}
 use Rattle.fl_column.specs.Bitmaps.{bitmap_len, bits_in}
-use Rattle.flcol_c.specs.Bitmaps.{items_in, room_fault}
-use Rattle.flcol_c.specs.Reading.{nulls_in}
+use Rattle.fl_bitmaps.specs.Bitmaps.{items_in}
 use Rattle.flcol_c.specs.declared.fault.Fault.{Fault}
 use Rattle.flcol_c.specs.declared.fault.Fault.TheVariants.{BadOperator, WrongLength, WrongType}
 
@@ -33,16 +32,16 @@ strictness_of n = if n == 0 then NonStrict else Strict
 abbrev pub options_of : ℕ → ℕ → BetweenOptions
 options_of lower upper = record { lower_strict = strictness_of lower; upper_strict = strictness_of upper }
 
--- why the items of a column are not tested into so much room, if they are not: so many bytes of the answers, and so many of their bitmap
-abbrev pub test_fault : PType → ℕ → ℕ → Column → Option Fault
-test_fault ptype bits bytes c =
+-- why the items of a column are not tested into so many bytes, if they are not
+abbrev pub test_fault : PType → ℕ → Column → Option Fault
+test_fault ptype bits c =
     if not (has_ptype ptype c.dtype) then Some WrongType
-    else if not (bits == bitmap_len (length c.items)) then Some WrongLength
-    else room_fault bytes (length c.items) (nulls_in c)
+    else if bits == bitmap_len (length c.items) then None
+    else Some WrongLength
 
 -- the same of a comparison, whose operator a number names
-abbrev pub compare_fault : PType → ℕ → ℕ → ℕ → Column → Option Fault
-compare_fault ptype operator bits bytes c = if is_none (operator_of operator) then Some BadOperator else test_fault ptype bits bytes c
+abbrev pub compare_fault : PType → ℕ → ℕ → Column → Option Fault
+compare_fault ptype operator bits c = if is_none (operator_of operator) then Some BadOperator else test_fault ptype bits c
 
 -- the bits are the answers of a test of each item, a null at a null
 abbrev pub AreAnswers : (ℤ → Bool) → Column → List ℕ → List ℕ → Type 0

@@ -3,7 +3,7 @@ use Rattle.std.specs.Prelude.{◌≡◌, ◌≢◌, ℕ, ℤ, pos, false, true, 
 use Rattle.fl_types.specs.declared.error.FastLanesError.{FastLanesError}
 use Rattle.fl_types.specs.declared.error.FastLanesError.TheVariants.{NotInteger, OutOfMemory}
 use Rattle.fl_types.specs.Types.{is_integer}
-use Rattle.fl_column.specs.Columns.{PrimitiveParts, column_of_primitive}
+use Rattle.fl_column.specs.Columns.{PrimitiveParts}
 use Rattle.fl_array.specs.Trees.{Tree, column}
 use Rattle.fl_encode.specs.declared.scheme.Scheme.{Scheme}
 use Rattle.fl_encode.specs.Encodings.{IsEncodedAs, encode_refusal}
@@ -11,17 +11,18 @@ use Rattle.fl_encode.specs.Shapes.{Shape, shape}
 use Rattle.fl_encode.specs.Texts.{scheme_of_text}
 use Rattle.flcol_c.specs.declared.fault.Fault.{Fault}
 use Rattle.flcol_c.specs.declared.fault.Fault.TheVariants.{BadScheme, NoArray, Refused}
+use Rattle.flcol_c.specs.Plain.{IsSimplestOf}
 use Rattle.flcol_c.specs.Statuses.{status_of}
 
--- the array is made by the scheme that was read of a plain array of the same column, and has that column
+-- the array is made by the scheme that was read of a plain array of the same column with the simplest validity, and has that column
 abbrev pub IsEncodingOf : Result Shape ℕ → Tree → Tree → Type 0
 IsEncodingOf read t encoded =
-    (scheme : Scheme) × (plain : PrimitiveParts) × (read ≡ Ok (shape scheme)) × (column_of_primitive plain ≡ column t)
+    (scheme : Scheme) × (plain : PrimitiveParts) × (read ≡ Ok (shape scheme)) × IsSimplestOf (column t) plain
     × (encode_refusal scheme plain ≡ None) × IsEncodedAs scheme plain encoded × (column encoded ≡ column t)
 
--- a scheme of this shape refuses a plain array of the same column
+-- a scheme of this shape refuses such a plain array
 abbrev pub IsRefusedBy : Shape → Tree → FastLanesError → Type 0
-IsRefusedBy form t refusal = (scheme : Scheme) × (plain : PrimitiveParts) × (shape scheme ≡ form) × (column_of_primitive plain ≡ column t) × (encode_refusal scheme plain ≡ Some refusal)
+IsRefusedBy form t refusal = (scheme : Scheme) × (plain : PrimitiveParts) × (shape scheme ≡ form) × IsSimplestOf (column t) plain × (encode_refusal scheme plain ≡ Some refusal)
 
 -- what a scheme that was read does not encode an array with: booleans are refused, else the scheme refuses
 abbrev pub IsFaultOf : Result Shape ℕ → Tree → Fault → Type 0

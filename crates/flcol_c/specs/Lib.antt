@@ -14,3 +14,6 @@ pub mod Values
 pub mod Compressing
 pub mod Blocks
 pub mod Schemes
+pub mod Booleans
+pub mod Logic
+pub mod Plain

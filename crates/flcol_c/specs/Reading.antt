@@ -1,5 +1,5 @@
 -- What is read of arrays into memory of C.
-use Rattle.std.specs.Prelude.{◌≡◌, ◌==◌, ℕ, ℤ, not, Option, Some, None, List, length, is_none, count_by, nat_lt, slice_index_or, unwrap_or, pos, if◌then◌else◌}
+use Rattle.std.specs.Prelude.{◌≡◌, ◌==◌, ℕ, ℤ, not, Option, Some, None, length, is_none, count_by, nat_lt, pos, if◌then◌else◌}
 use Rattle.fl_types.specs.declared.dtype.PType.{PType}
 use Rattle.fl_types.specs.declared.error.FastLanesError.TheVariants.{IndexOutOfBounds}
 use Rattle.fl_types.specs.Types.{has_ptype}
@@ -12,12 +12,16 @@ use Rattle.flcol_c.specs.declared.fault.Fault.TheVariants.{Refused, WrongLength,
 abbrev pub nulls_in : Column → ℕ
 nulls_in c = count_by is_none c.items
 
--- why a column is not read as values of a type into so much room, if it is not: so many values, and so many bytes of their bitmap
-abbrev pub read_fault : PType → ℕ → ℕ → Column → Option Fault
-read_fault ptype len bytes c =
+-- why a column is not read as so many values of a type, if it is not
+abbrev pub read_fault : PType → ℕ → Column → Option Fault
+read_fault ptype len c =
     if not (has_ptype ptype c.dtype) then Some WrongType
-    else if not (len == length c.items) then Some WrongLength
-    else room_fault bytes len (nulls_in c)
+    else if len == length c.items then None
+    else Some WrongLength
+
+-- why so many bytes are no room for the bitmap of a column's valid items, if they are none
+abbrev pub nulls_fault : ℕ → Column → Option Fault
+nulls_fault bytes c = room_fault bytes (length c.items) (nulls_in c)
 
 -- why an item of a column is not read as a value of a type, if it is not
 abbrev pub get_fault : PType → ℕ → Column → Option Fault

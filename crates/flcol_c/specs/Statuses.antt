@@ -25,22 +25,35 @@ status_at (Some fault) = status_of fault
 abbrev pub IsStatusOf : Option Fault → ℤ → Type 0
 IsStatusOf fault status = status ≢ pos 1 → status ≡ status_at fault
 
+-- the first of two faults, if there is one
+abbrev pub first_of : Option Fault → Option Fault → Option Fault
+first_of None later = later
+first_of (Some fault) later = Some fault
+
+-- the same of faults that are known before memory is asked for, for which 1 does not stand, and of later ones
+abbrev pub IsStatusAfter : Option Fault → Option Fault → ℤ → Type 0
+IsStatusAfter before later status = ((fault : Fault) → before ≡ Some fault → status ≡ status_of fault) × IsStatusOf (first_of before later) status
+
 -- the refusal of an answer, if it is one
 abbrev pub refusal_in : {A : Type 0} → Result A FastLanesError → Option Fault
 refusal_in (Ok x) = None
 refusal_in (Err refusal) = Some (Refused refusal)
+
+-- the fault of a result, if it is one
+abbrev pub fault_in : {A : Type 0} → Result A Fault → Option Fault
+fault_in (Ok x) = None
+fault_in (Err fault) = Some fault
 
 -- a call gave what it was to give, or answered the first fault, unless memory ran out
 abbrev pub Gives : {A : Type 0} → Option Fault → (A → Type 0) → Result A Fault → Type 0
 Gives fault Is (Ok x) = (fault ≡ None) × Is x
 Gives fault Is (Err other) = other ≢ Refused OutOfMemory → fault ≡ Some other
 
+-- the same of faults that are known before memory is asked for, which are answered in any case, and of later ones
+abbrev pub GivesAfter : {A : Type 0} → Option Fault → Option Fault → (A → Type 0) → Result A Fault → Type 0
+GivesAfter before later Is result = ((fault : Fault) → before ≡ Some fault → fault_in result ≡ Some fault) × Gives (first_of before later) Is result
+
 -- the status of a result
 abbrev pub status_in : {A : Type 0} → Result A Fault → ℤ
 status_in (Ok x) = pos 0
 status_in (Err fault) = status_of fault
-
--- the fault of a result, if it is one
-abbrev pub fault_in : {A : Type 0} → Result A Fault → Option Fault
-fault_in (Ok x) = None
-fault_in (Err fault) = Some fault

@@ -1,22 +1,20 @@
 //! Tests of items, answered by bitmaps.
 
-ghost use Rattle.std.specs.Prelude.{◌≡◌, IfSome, OnErr, OnOk, count_by, is_none, length};
+ghost use Rattle.std.specs.Prelude.{◌≡◌, IfSome, OnErr, OnOk, length};
 ghost use Rattle.fl_array.specs.Trees.{column};
-ghost use Rattle.fl_column.specs.Columns.{bools};
 ghost use Rattle.fl_column.specs.Queries.{holds, is_between};
 ghost use Rattle.flcol_c.specs.Answering.{AreAnswers, compare_fault, operator_of, options_of, strictness_of, test_fault};
-ghost use Rattle.fl_column.specs.Bitmaps.{bitmap_len, bits_in};
-ghost use Rattle.flcol_c.specs.Bitmaps.{IsClearFrom, items_in, room_fault};
-ghost use Rattle.flcol_c.specs.Statuses.{Gives, fault_in};
+ghost use Rattle.fl_bitmaps.specs.Bitmaps.{IsClearFrom};
+ghost use Rattle.flcol_c.specs.Reading.{nulls_fault};
+ghost use Rattle.flcol_c.specs.Statuses.{GivesAfter};
 
+use crate::booleans::write_booleans;
 use crate::fault::Fault;
 use crate::reading::is_of;
-use crate::validities::room_fault;
-use crate::values::write_answers;
 use fl_array::ArrayRef;
 use fl_column::bitmaps::bitmap_len;
 use fl_column::{
-    BetweenOptions, BoolArray, CompareOperator, NativePType, Nullability, Scalar, StrictComparison,
+    BetweenOptions, CompareOperator, NativePType, Nullability, Scalar, StrictComparison,
 };
 use fl_ops::ArrayOps;
 use std::alloc::Global;
@@ -47,27 +45,6 @@ fn strictness_of(number: u8) -> StrictComparison
     }
 }
 
-/// Writes answers, and which of them are valid, where there is room for that bitmap.
-///
-/// # Errors
-/// `WrongLength` where the bytes are neither those of a bitmap nor none, `ValidityLength` where there is none and
-/// an answer is null.
-fn write_tested(answers: &BoolArray, bits: &mut [u8], validity: &mut [u8]) -> Result<(), Fault>
-    requires { length bits.old ≡ bitmap_len (length answers.now.bits) }
-    ensures fault { fault_in result ≡ room_fault (length validity.old) (length answers.now.bits) (count_by is_none (bools answers.now)) }
-    ensures items { OnOk result (bools answers.now ≡ items_in (bits_in bits.new (length answers.now.bits)) validity.new) }
-    ensures clear { OnOk result (IsClearFrom (length answers.now.bits) bits.new) }
-    ensures clear_valid { OnOk result (IsClearFrom (length answers.now.bits) validity.new) }
-    ensures unwritten { OnErr result ((bits.new ≡ bits.old) × (validity.new ≡ validity.old)) }
-{
-    let (len, valid) = (answers.len(), answers.validity());
-    if let Some(fault) = room_fault(validity.len(), valid, len) {
-        return Err(fault);
-    }
-    write_answers(answers, bits, validity);
-    Ok(())
-}
-
 /// Writes how each item compares with a constant, and which items are valid. Bits after theirs are not set.
 ///
 /// # Errors
@@ -82,7 +59,7 @@ pub(crate) fn compare<T: NativePType>(
     bits: &mut [u8],
     validity: &mut [u8],
 ) -> Result<(), Fault>
-    ensures compared { Gives (compare_fault T.PTYPE operator (length bits.old) (length validity.old) (column array.now)) (λ _. IfSome (operator_of operator) (λ op. AreAnswers (holds op (T.value constant)) (column array.now) bits.new validity.new)) result }
+    ensures compared { GivesAfter (compare_fault T.PTYPE operator (length bits.old) (column array.now)) (nulls_fault (length validity.old) (column array.now)) (λ _. IfSome (operator_of operator) (λ op. AreAnswers (holds op (T.value constant)) (column array.now) bits.new validity.new)) result }
     ensures clear { OnOk result (IsClearFrom (length (column array.now).items) bits.new) }
     ensures clear_valid { OnOk result (IsClearFrom (length (column array.now).items) validity.new) }
     ensures unwritten { OnErr result ((bits.new ≡ bits.old) × (validity.new ≡ validity.old)) }
@@ -99,7 +76,7 @@ pub(crate) fn compare<T: NativePType>(
     let constant = Scalar::primitive(constant.into_pvalue(), Nullability::NonNullable);
     let answers = array.compare(alloc, operator, &constant)?;
     let _count = answers.len();
-    write_tested(&answers, bits, validity)
+    write_booleans(&answers, bits, validity)
 }
 
 /// Writes whether each item lies between two bounds, each left out where its number is not 0, and which items are
@@ -115,7 +92,7 @@ pub(crate) fn between<T: NativePType>(
     bits: &mut [u8],
     validity: &mut [u8],
 ) -> Result<(), Fault>
-    ensures tested { Gives (test_fault T.PTYPE (length bits.old) (length validity.old) (column array.now)) (λ _. AreAnswers (is_between (options_of strict.0 strict.1) (T.value bounds.0) (T.value bounds.1)) (column array.now) bits.new validity.new) result }
+    ensures tested { GivesAfter (test_fault T.PTYPE (length bits.old) (column array.now)) (nulls_fault (length validity.old) (column array.now)) (λ _. AreAnswers (is_between (options_of strict.0 strict.1) (T.value bounds.0) (T.value bounds.1)) (column array.now) bits.new validity.new) result }
     ensures clear { OnOk result (IsClearFrom (length (column array.now).items) bits.new) }
     ensures clear_valid { OnOk result (IsClearFrom (length (column array.now).items) validity.new) }
     ensures unwritten { OnErr result ((bits.new ≡ bits.old) × (validity.new ≡ validity.old)) }
@@ -134,5 +111,5 @@ pub(crate) fn between<T: NativePType>(
     };
     let answers = array.between(alloc, &lower, &upper, &options)?;
     let _count = answers.len();
-    write_tested(&answers, bits, validity)
+    write_booleans(&answers, bits, validity)
 }

@@ -1,30 +1,40 @@
 //! Bitmaps of valid items as Arrow has them, and bitmaps whose bits are all the same.
 
-ghost use Rattle.std.specs.Prelude.{◌≡◌, ◌<◌, ◌≤◌, ℕ, Ok, length, slice_index};
+ghost use Rattle.std.specs.Prelude.{◌≡◌, ◌<◌, ◌≤◌, ℕ, Ok, false, length, slice_index};
 ghost use Rattle.fl_types.specs.Refusals.{Answers};
 ghost use Rattle.fl_column.specs.Bitmaps.{bit_in, bitmap_len};
-ghost use Rattle.flcol_c.specs.Bitmaps.{IsClearFrom, bitmap_validity};
+ghost use Rattle.fl_bitmaps.specs.Bitmaps.{IsClearFrom, validity_in};
+ghost use Rattle.flcol_c.specs.Bitmaps.{is_short, short_fault};
 
+use crate::fault::Fault;
 use fl_column::bitmaps::{bitmap_len, bits_of};
 use fl_types::{FastLanesError, Validity};
 use std::alloc::Global;
 
+/// Why a bitmap says not which of `len` items are valid, if it says it not: it has bytes, but fewer bits.
+pub(crate) fn short_fault(bitmap: &[u8], len: usize) -> Option<Fault>
+    ensures { result ≡ short_fault bitmap.now len }
+{
+    if bitmap.is_empty() || bitmap.len() >= bitmap_len(len) {
+        return None;
+    }
+    Some(Fault::Refused(FastLanesError::ValidityLength))
+}
+
 /// Which of `len` items are valid. No item may be null where there is no byte.
 ///
 /// # Errors
-/// `ValidityLength` where there are bytes, but fewer bits than items.
+/// Only `OutOfMemory`.
 pub(crate) fn validity_of(
     alloc: Global,
     bitmap: &[u8],
     len: usize,
 ) -> Result<Validity, FastLanesError>
-    ensures { Answers (λ v. v) result (bitmap_validity bitmap.now len) }
+    requires { is_short bitmap.now len ≡ false }
+    ensures { Answers (λ v. v) result (Ok (validity_in bitmap.now len)) }
 {
     if bitmap.is_empty() {
         return Ok(Validity::NonNullable);
-    }
-    if bitmap.len() < bitmap_len(len) {
-        return Err(FastLanesError::ValidityLength);
     }
     Ok(Validity::Array(bits_of(alloc, bitmap, len)?))
 }

@@ -6,6 +6,7 @@ ghost use Rattle.flcol_c.specs.Compressing.{IsCompressionOf};
 ghost use Rattle.flcol_c.specs.Statuses.{Gives, refusal_in};
 
 use crate::fault::Fault;
+use crate::plain::simplest_of;
 use fl_array::ArrayRef;
 use std::alloc::Global;
 
@@ -13,10 +14,10 @@ use std::alloc::Global;
 ///
 /// # Errors
 /// `NotInteger` of booleans.
-#[tactic(auto, using(crate::proofs::CompressLaws::compressed, crate::proofs::CompressLaws::out_of_memory, crate::proofs::StatusLaws::refused))]
+#[tactic(auto, using(crate::proofs::CompressLaws::compressed, crate::proofs::StatusLaws::memory_alone))]
 pub(crate) fn compress(alloc: Global, array: &ArrayRef) -> Result<ArrayRef, Fault>
     ensures { Gives (refusal_in (integer_column (column array.now))) (IsCompressionOf array.now) result }
 {
-    let plain = array.to_primitive(alloc)?;
+    let plain = simplest_of(alloc, array)?;
     Ok(fl_compress::compress(alloc, &plain)?)
 }

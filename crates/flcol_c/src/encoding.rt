@@ -6,6 +6,7 @@ ghost use Rattle.fl_encode.specs.Texts.{scheme_of_text};
 ghost use Rattle.flcol_c.specs.Encoding.{GivesEncoding};
 
 use crate::fault::Fault;
+use crate::plain::simplest_of;
 use fl_array::ArrayRef;
 use fl_encode::text::{SchemeError, parse};
 use fl_encode::{Scheme, encode};
@@ -20,7 +21,7 @@ use std::alloc::Global;
 fn encode_as(alloc: Global, array: &ArrayRef, scheme: &Scheme) -> Result<ArrayRef, Fault>
     ensures { GivesEncoding (Ok (shape scheme.now)) array.now result }
 {
-    let plain = array.to_primitive(alloc)?;
+    let plain = simplest_of(alloc, array)?;
     Ok(encode(alloc, &plain, scheme)?)
 }
 

@@ -1,7 +1,7 @@
 //! Arrays that are taken out of a handle and put into one. No function here names a raw pointer.
 
-ghost use Rattle.std.specs.Prelude.{◌≡◌, ◌≢◌, IsOkAnd, None, Some, pos};
-ghost use Rattle.flcol_c.specs.Statuses.{status_in};
+ghost use Rattle.std.specs.Prelude.{◌≡◌, ◌≢◌, IsOkAnd, MatchResult, None, Some, pos};
+ghost use Rattle.flcol_c.specs.Statuses.{status_of};
 ghost use Rattle.flcol_c.specs.Taken.{IsBoxOf};
 
 use crate::fault::{DONE, Fault};
@@ -35,7 +35,7 @@ fn put(handle: &mut ArrayHandle, alloc: Global, array: Box<ArrayRef>)
 
 /// Puts an array that was made in, and frees the one that was there, if any. The status says what was made.
 pub(crate) fn keep(handle: &mut ArrayHandle, alloc: Global, made: Result<ArrayRef, Fault>) -> i32
-    ensures status { result ≢ pos 1 → result ≡ status_in made }
+    ensures status { MatchResult made (λ _. result ≢ pos 1 → result ≡ pos 0) (λ fault. result ≡ status_of fault) }
     ensures kept { result ≡ pos 0 → IsOkAnd made (λ t. handle.new.tree ≡ Some t) }
     ensures unkept { result ≢ pos 0 → handle.new ≡ handle.old }
 {

@@ -1,11 +1,13 @@
 //! Arrays made of what C hands in.
 
-ghost use Rattle.std.specs.Prelude.{◌≡◌, None, map};
+ghost use Rattle.std.specs.Prelude.{◌≡◌, None, length, map};
 ghost use Rattle.fl_array.specs.Trees.{Constant, Primitive};
+ghost use Rattle.flcol_c.specs.Bitmaps.{short_fault};
 ghost use Rattle.flcol_c.specs.Operations.{repeated};
-ghost use Rattle.flcol_c.specs.Statuses.{Gives, refusal_in};
-ghost use Rattle.flcol_c.specs.Values.{from_values, plain_in};
+ghost use Rattle.flcol_c.specs.Statuses.{Gives, GivesAfter};
+ghost use Rattle.flcol_c.specs.Values.{plain_in};
 
+use crate::bitmaps::short_fault;
 use crate::fault::Fault;
 use crate::values::plain_of;
 use fl_array::{ArrayRef, IntoArray};
@@ -22,8 +24,11 @@ pub(crate) fn from_values<T: NativePType>(
     values: &[T],
     validity: &[u8],
 ) -> Result<ArrayRef, Fault>
-    ensures { Gives (refusal_in (from_values T.PTYPE (map T.value values.now) validity.now)) (λ t. t ≡ Primitive (plain_in T.PTYPE (map T.value values.now) validity.now)) result }
+    ensures { GivesAfter (short_fault validity.now (length values.now)) None (λ t. t ≡ Primitive (plain_in T.PTYPE (map T.value values.now) validity.now)) result }
 {
+    if let Some(fault) = short_fault(validity, values.len()) {
+        return Err(fault);
+    }
     Ok(plain_of(alloc, values, validity)?.into_array())
 }
 

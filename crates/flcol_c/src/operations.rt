@@ -1,13 +1,14 @@
 //! Arrays made of arrays.
 
-ghost use Rattle.std.specs.Prelude.{◌≡◌, None, Some};
+ghost use Rattle.std.specs.Prelude.{◌≡◌, None, Some, length};
 ghost use Rattle.fl_array.specs.Slices.{slice_tree};
 ghost use Rattle.fl_array.specs.ToBlocked.{to_blocked_tree};
 ghost use Rattle.fl_array.specs.Trees.{column};
 ghost use Rattle.fl_column.specs.Operations.{ranges_column, slice_column};
 ghost use Rattle.flcol_container.specs.ContainerReading.{dtype_numbered, dtype_of_byte};
-ghost use Rattle.flcol_c.specs.Operations.{AreTaken, IsCast, IsFilteredBy, IsTaken, cast_fault, filter_fault, pairs_of, take_fault};
-ghost use Rattle.flcol_c.specs.Statuses.{Gives, refusal_in};
+ghost use Rattle.flcol_c.specs.Bitmaps.{short_fault};
+ghost use Rattle.flcol_c.specs.Operations.{AreTaken, IsCast, IsFilteredBy, IsTaken, cast_fault, filter_fault, mask_fault, pairs_of, take_fault, type_fault};
+ghost use Rattle.flcol_c.specs.Statuses.{Gives, GivesAfter, refusal_in};
 
 use crate::fault::Fault;
 use crate::making::from_values;
@@ -29,7 +30,7 @@ pub(crate) fn slice(
     from: usize,
     to: usize,
 ) -> Result<ArrayRef, Fault>
-    ensures { Gives (refusal_in (slice_column from to (column array.now))) (λ u. u ≡ slice_tree from to array.now) result }
+    ensures { GivesAfter (refusal_in (slice_column from to (column array.now))) None (λ u. u ≡ slice_tree from to array.now) result }
 {
     if from > to || to > array.len() {
         return Err(Fault::Refused(FastLanesError::RangeOutOfBounds));
@@ -49,7 +50,7 @@ pub(crate) fn take(
     indices: &[u64],
     validity: &[u8],
 ) -> Result<ArrayRef, Fault>
-    ensures { Gives (take_fault indices.now validity.now (column array.now)) (λ u. IsTaken indices.now validity.now array.now u) result }
+    ensures { GivesAfter (short_fault validity.now (length indices.now)) (take_fault indices.now validity.now (column array.now)) (λ u. IsTaken indices.now validity.now array.now u) result }
 {
     let indices = from_values(alloc, indices, validity)?;
     Ok(array.take(alloc, &indices)?)
@@ -77,7 +78,7 @@ pub(crate) fn take_ranges(
 /// `MaskLength` where the bytes are not those of a bit for each item, then `NotInteger`.
 #[tactic(auto, using(crate::proofs::StatusLaws::refused))]
 pub(crate) fn filter(alloc: Global, array: &ArrayRef, mask: &[u8]) -> Result<ArrayRef, Fault>
-    ensures { Gives (filter_fault mask.now (column array.now)) (λ u. IsFilteredBy mask.now array.now u) result }
+    ensures { GivesAfter (mask_fault (length mask.now) (column array.now)) (filter_fault mask.now (column array.now)) (λ u. IsFilteredBy mask.now array.now u) result }
 {
     let len = array.len();
     if mask.len() != bitmap_len(len) {
@@ -123,7 +124,7 @@ fn dtype_of(byte: u8) -> Option<DType>
 /// `UnknownType` where it says none, then `NotInteger`, `CastNull` and `CastOutOfRange`.
 #[tactic(auto, using(crate::proofs::StatusLaws::refused))]
 pub(crate) fn cast(alloc: Global, array: &ArrayRef, byte: u8) -> Result<ArrayRef, Fault>
-    ensures { Gives (cast_fault (dtype_of_byte byte) (column array.now)) (λ u. IsCast (dtype_of_byte byte) array.now u) result }
+    ensures { GivesAfter (type_fault (dtype_of_byte byte)) (cast_fault (dtype_of_byte byte) (column array.now)) (λ u. IsCast (dtype_of_byte byte) array.now u) result }
 {
     let Some(target) = dtype_of(byte) else {
         return Err(Fault::Refused(FastLanesError::UnknownType));

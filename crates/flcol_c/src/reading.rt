@@ -4,9 +4,9 @@ ghost use Rattle.std.specs.Prelude.{◌≡◌, IsTrue, None, OnErr, OnOk, length
 ghost use Rattle.fl_types.specs.Types.{has_ptype};
 ghost use Rattle.fl_array.specs.Trees.{column};
 ghost use Rattle.fl_column.specs.Columns.{column_of_primitive};
-ghost use Rattle.flcol_c.specs.Bitmaps.{IsClearFrom, items_in, room_fault};
-ghost use Rattle.flcol_c.specs.Reading.{IsItem, get_fault, nulls_in, read_fault};
-ghost use Rattle.flcol_c.specs.Statuses.{Gives, fault_in};
+ghost use Rattle.fl_bitmaps.specs.Bitmaps.{IsClearFrom, items_in};
+ghost use Rattle.flcol_c.specs.Reading.{IsItem, get_fault, nulls_fault, read_fault};
+ghost use Rattle.flcol_c.specs.Statuses.{Gives, GivesAfter, fault_in};
 
 use crate::fault::Fault;
 use crate::validities::{room_fault, write_validity};
@@ -39,7 +39,7 @@ fn read_plain<T: NativePType>(
 ) -> Result<(), Fault>
     requires typed { plain.now.ptype ≡ T.PTYPE }
     requires long { length values.old ≡ length (column_of_primitive plain.now).items }
-    ensures fault { fault_in result ≡ room_fault (length validity.old) (length (column_of_primitive plain.now).items) (nulls_in (column_of_primitive plain.now)) }
+    ensures fault { fault_in result ≡ nulls_fault (length validity.old) (column_of_primitive plain.now) }
     ensures items { OnOk result ((column_of_primitive plain.now).items ≡ items_in (map T.value values.new) validity.new) }
     ensures clear { OnOk result (IsClearFrom (length values.new) validity.new) }
     ensures unread { OnErr result ((values.new ≡ values.old) × (validity.new ≡ validity.old)) }
@@ -66,7 +66,7 @@ fn read_encoded<T: BitPacked + PhysicalPType + WrappingAdd>(
 ) -> Result<(), Fault>
     requires typed { IsTrue (has_ptype T.PTYPE (column array.now).dtype) }
     requires long { length values.old ≡ length (column array.now).items }
-    ensures read { Gives (room_fault (length validity.old) (length (column array.now).items) (nulls_in (column array.now))) (λ _. (column array.now).items ≡ items_in (map T.value values.new) validity.new) result }
+    ensures read { Gives (nulls_fault (length validity.old) (column array.now)) (λ _. (column array.now).items ≡ items_in (map T.value values.new) validity.new) result }
     ensures clear { OnOk result (IsClearFrom (length values.new) validity.new) }
     ensures unread { OnErr result ((values.new ≡ values.old) × (validity.new ≡ validity.old)) }
 {
@@ -91,7 +91,7 @@ pub(crate) fn read<T: BitPacked + PhysicalPType + WrappingAdd>(
     values: &mut [T],
     validity: &mut [u8],
 ) -> Result<(), Fault>
-    ensures read { Gives (read_fault T.PTYPE (length values.old) (length validity.old) (column array.now)) (λ _. (column array.now).items ≡ items_in (map T.value values.new) validity.new) result }
+    ensures read { GivesAfter (read_fault T.PTYPE (length values.old) (column array.now)) (nulls_fault (length validity.old) (column array.now)) (λ _. (column array.now).items ≡ items_in (map T.value values.new) validity.new) result }
     ensures clear { OnOk result (IsClearFrom (length values.new) validity.new) }
     ensures unread { OnErr result ((values.new ≡ values.old) × (validity.new ≡ validity.old)) }
 {
@@ -117,7 +117,7 @@ pub(crate) fn get<T: PhysicalPType + WrappingAdd>(
     array: &ArrayRef,
     index: usize,
 ) -> Result<Option<T>, Fault>
-    ensures { Gives (get_fault T.PTYPE index (column array.now)) (λ item. option_map T.value item ≡ slice_index_or (column array.now).items index None) result }
+    ensures { GivesAfter (get_fault T.PTYPE index (column array.now)) None (λ item. option_map T.value item ≡ slice_index_or (column array.now).items index None) result }
 {
     if !is_of::<T>(array) {
         return Err(Fault::WrongType);
@@ -140,7 +140,7 @@ pub(crate) fn get_into<T: PhysicalPType + WrappingAdd>(
     value: &mut T,
     is_null: &mut u8,
 ) -> Result<(), Fault>
-    ensures got { Gives (get_fault T.PTYPE index (column array.now)) (λ _. IsItem (slice_index_or (column array.now).items index None) (T.value value.new) is_null.new) result }
+    ensures got { GivesAfter (get_fault T.PTYPE index (column array.now)) None (λ _. IsItem (slice_index_or (column array.now).items index None) (T.value value.new) is_null.new) result }
     ensures ungot { OnErr result ((value.new ≡ value.old) × (is_null.new ≡ is_null.old)) }
 {
     match get(alloc, array, index)? {

@@ -4,12 +4,13 @@ ghost use Rattle.std.specs.Prelude.{◌≡◌, ◌≢◌, IfSome, None, Some, le
 ghost use Rattle.fl_array.specs.Trees.{Constant, Primitive, column};
 ghost use Rattle.fl_column.specs.Queries.{holds, is_between};
 ghost use Rattle.flcol_c.specs.Answering.{AreAnswers, compare_fault, operator_of, options_of, test_fault};
-ghost use Rattle.flcol_c.specs.Bitmaps.{IsClearFrom, items_in};
-ghost use Rattle.flcol_c.specs.Held.{IsKept, held_fault};
+ghost use Rattle.fl_bitmaps.specs.Bitmaps.{IsClearFrom, items_in};
+ghost use Rattle.flcol_c.specs.Bitmaps.{short_fault};
+ghost use Rattle.flcol_c.specs.Held.{IsKept, IsStatusOn};
 ghost use Rattle.flcol_c.specs.Operations.{repeated};
-ghost use Rattle.flcol_c.specs.Reading.{IsItem, get_fault, read_fault};
-ghost use Rattle.flcol_c.specs.Statuses.{IsStatusOf, refusal_in};
-ghost use Rattle.flcol_c.specs.Values.{from_values, plain_in};
+ghost use Rattle.flcol_c.specs.Reading.{IsItem, get_fault, nulls_fault, read_fault};
+ghost use Rattle.flcol_c.specs.Statuses.{IsStatusAfter, IsStatusOf};
+ghost use Rattle.flcol_c.specs.Values.{plain_in};
 
 use crate::fault::{Fault, status_of};
 use crate::handle::ArrayHandle;
@@ -27,7 +28,7 @@ pub(crate) fn from_values<T: NativePType>(
     validity: &[u8],
     out: &mut ArrayHandle,
 ) -> i32
-    ensures status { IsStatusOf (refusal_in (from_values T.PTYPE (map T.value values.now) validity.now)) result }
+    ensures status { IsStatusAfter (short_fault validity.now (length values.now)) None result }
     ensures made { result ≡ pos 0 → out.new.tree ≡ Some (Primitive (plain_in T.PTYPE (map T.value values.now) validity.now)) }
     ensures unmade { result ≢ pos 0 → out.new ≡ out.old }
 {
@@ -57,7 +58,7 @@ pub(crate) fn read<T: BitPacked + PhysicalPType + WrappingAdd>(
     validity: &mut [u8],
 ) -> i32
     ensures kept { IsKept array.old array.new }
-    ensures status { IsStatusOf (held_fault (λ t. read_fault T.PTYPE (length values.old) (length validity.old) (column t)) array.old.tree) result }
+    ensures status { IsStatusOn (λ t. read_fault T.PTYPE (length values.old) (column t)) (λ t. nulls_fault (length validity.old) (column t)) array.old.tree result }
     ensures read { result ≡ pos 0 → IfSome array.old.tree (λ t. (column t).items ≡ items_in (map T.value values.new) validity.new) }
     ensures clear { result ≡ pos 0 → IsClearFrom (length values.new) validity.new }
     ensures unread { result ≢ pos 0 → (values.new ≡ values.old) × (validity.new ≡ validity.old) }
@@ -78,7 +79,7 @@ pub(crate) fn get<T: PhysicalPType + WrappingAdd>(
     is_null: &mut u8,
 ) -> i32
     ensures kept { IsKept array.old array.new }
-    ensures status { IsStatusOf (held_fault (λ t. get_fault T.PTYPE index (column t)) array.old.tree) result }
+    ensures status { IsStatusOn (λ t. get_fault T.PTYPE index (column t)) (λ t. None) array.old.tree result }
     ensures got { result ≡ pos 0 → IfSome array.old.tree (λ t. IsItem (slice_index_or (column t).items index None) (T.value value.new) is_null.new) }
     ensures ungot { result ≢ pos 0 → (value.new ≡ value.old) × (is_null.new ≡ is_null.old) }
 {
@@ -98,7 +99,7 @@ pub(crate) fn compare<T: NativePType>(
     validity: &mut [u8],
 ) -> i32
     ensures kept { IsKept array.old array.new }
-    ensures status { IsStatusOf (held_fault (λ t. compare_fault T.PTYPE operator (length bits.old) (length validity.old) (column t)) array.old.tree) result }
+    ensures status { IsStatusOn (λ t. compare_fault T.PTYPE operator (length bits.old) (column t)) (λ t. nulls_fault (length validity.old) (column t)) array.old.tree result }
     ensures compared { result ≡ pos 0 → IfSome array.old.tree (λ t. IfSome (operator_of operator) (λ op. AreAnswers (holds op (T.value constant)) (column t) bits.new validity.new)) }
     ensures clear { result ≡ pos 0 → IfSome array.old.tree (λ t. IsClearFrom (length (column t).items) bits.new × IsClearFrom (length (column t).items) validity.new) }
     ensures unwritten { result ≢ pos 0 → (bits.new ≡ bits.old) × (validity.new ≡ validity.old) }
@@ -120,7 +121,7 @@ pub(crate) fn between<T: NativePType>(
     validity: &mut [u8],
 ) -> i32
     ensures kept { IsKept array.old array.new }
-    ensures status { IsStatusOf (held_fault (λ t. test_fault T.PTYPE (length bits.old) (length validity.old) (column t)) array.old.tree) result }
+    ensures status { IsStatusOn (λ t. test_fault T.PTYPE (length bits.old) (column t)) (λ t. nulls_fault (length validity.old) (column t)) array.old.tree result }
     ensures tested { result ≡ pos 0 → IfSome array.old.tree (λ t. AreAnswers (is_between (options_of strict.0 strict.1) (T.value bounds.0) (T.value bounds.1)) (column t) bits.new validity.new) }
     ensures clear { result ≡ pos 0 → IfSome array.old.tree (λ t. IsClearFrom (length (column t).items) bits.new × IsClearFrom (length (column t).items) validity.new) }
     ensures unwritten { result ≢ pos 0 → (bits.new ≡ bits.old) × (validity.new ≡ validity.old) }

@@ -3,7 +3,8 @@
 ghost use Rattle.std.specs.Prelude.{◌≡◌, ◌<◌, ℕ, IsTrue, None, length};
 ghost use Rattle.fl_types.specs.Validities.{covers, is_valid_at};
 ghost use Rattle.fl_column.specs.Bitmaps.{bit_in, bitmap_len};
-ghost use Rattle.flcol_c.specs.Bitmaps.{IsClearFrom, null_total, room_fault, validity_in};
+ghost use Rattle.fl_bitmaps.specs.Bitmaps.{IsClearFrom, validity_in};
+ghost use Rattle.flcol_c.specs.Bitmaps.{null_total, room_fault};
 
 use crate::bitmaps::write_run;
 use crate::fault::Fault;

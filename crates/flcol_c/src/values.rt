@@ -1,11 +1,12 @@
 //! Values that C hands in, and values and answers that are written for it.
 
-ghost use Rattle.std.specs.Prelude.{◌≡◌, None, length, map};
+ghost use Rattle.std.specs.Prelude.{◌≡◌, None, Ok, false, length, map};
 ghost use Rattle.fl_types.specs.Refusals.{Answers};
 ghost use Rattle.fl_column.specs.Columns.{bools, column_of_primitive};
 ghost use Rattle.fl_column.specs.Bitmaps.{bitmap_len, bits_in};
-ghost use Rattle.flcol_c.specs.Bitmaps.{IsClearFrom, items_in, null_total, room_fault};
-ghost use Rattle.flcol_c.specs.Values.{from_values};
+ghost use Rattle.fl_bitmaps.specs.Bitmaps.{IsClearFrom, items_in};
+ghost use Rattle.flcol_c.specs.Bitmaps.{is_short, null_total, room_fault};
+ghost use Rattle.flcol_c.specs.Values.{plain_in};
 
 use crate::bitmaps::validity_of;
 use crate::validities::write_validity;
@@ -17,14 +18,15 @@ use std::alloc::Global;
 /// there is no byte.
 ///
 /// # Errors
-/// `ValidityLength` where there are bytes, but fewer bits than values.
+/// Only `OutOfMemory`.
 #[tactic(auto, using(crate::proofs::ValueLaws::bitmap_covered))]
 pub(crate) fn plain_of<T: NativePType>(
     alloc: Global,
     values: &[T],
     validity: &[u8],
 ) -> Result<PrimitiveArray, FastLanesError>
-    ensures { Answers (λ a. a) result (from_values T.PTYPE (map T.value values.now) validity.now) }
+    requires { is_short validity.now (length values.now) ≡ false }
+    ensures { Answers (λ a. a) result (Ok (plain_in T.PTYPE (map T.value values.now) validity.now)) }
 {
     let validity = validity_of(alloc, validity, values.len())?;
     let slots = Vec::from_slice(alloc, values)?;

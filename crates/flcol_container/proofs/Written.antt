@@ -8,7 +8,7 @@ use Rattle.std.proofs.lemmas.Grind.{flat_map-append}
 use Rattle.std.proofs.lemmas.List.{append-nil, length-append}
 use Rattle.std.proofs.Math.Seq.{drop-append_seam, take-append_seam, take-suc}
 use Rattle.fl_serialized.specs.Nodes.{And, Head, NoMore, Node, Nodes, Of, children_of, depth, depth_of, head_of, nodes_of}
-use Rattle.flcol_container.specs.Container.{HasNoContainer, HeadFits, IsContainer, NodeFits, NodesFit, head_bytes, length_prefixed, node_bytes, node_count, nodes_bytes}
+use Rattle.flcol_container.specs.Container.{HasNoContainer, HeadFits, IsContainer, NodeFits, NodesFit, container_bytes, head_bytes, length_prefixed, node_bytes, node_count, nodes_bytes}
 use Rattle.flcol_container.specs.Room.{AreInMemory, AreShort, IsInMemory, has_room, have_room, head_has_room, level_has_room}
 use Rattle.flcol_container.proofs.Sizes.{so_far, so_far_all, so_far_next, so_far_none}
 use Rattle.flcol_container.proofs.Steps.{all_ascii, and_split, ascii_all}
@@ -131,10 +131,23 @@ no_container node none bytes is = let some = node_room node 16 is.fits is.shallo
     clash : false ≡ true → ⊥
     clash e = absurd cc
 
-pub short_enough : (len size room cap : ℕ) → size ≡ min len (2 ^ 64 - 1) → room ≡ min (size + 4) (2 ^ 64 - 1) → cap ≡ room → cap < 2 ^ 63 → len < 2 ^ 64
-short_enough len size room cap sized more exact small = omega (arith, sized, more, exact, small)
+-- a container's bytes are those of its node, and four
+container_size : (node : Node) (bytes : List ℕ) → bytes ≡ container_bytes node → length bytes ≡ length (node_bytes node) + 4
+container_size node bytes text = ap length text ∙ (length-append (codes "FLC1") (node_bytes node) ∙ omega arith)
 
-pub is_container : (node : Node) (empty begun bytes : List ℕ) → true ≡ has_room 16 node → IsInMemory node → length (node_bytes node) < 2 ^ 64 → empty ≡ [] → begun ≡ empty ++ codes "FLC1" → bytes ≡ begun ++ node_bytes node → IsContainer bytes node
-is_container node empty begun bytes room memory short none front whole =
-    let fits = node_fits node 16 (sym room) memory short in
-    record { text = whole ∙ ap (λ x. x ++ node_bytes node) (front ∙ ap (λ x. x ++ codes "FLC1") none); shallow = fits.1; fits = fits.0 }
+-- a node that takes so many bytes has a container of four more
+pub measured : (node : Node) (size : ℕ) → true ≡ has_room 16 node → IsInMemory node → size ≡ min (length (node_bytes node)) (2 ^ 64 - 1) → size < 2 ^ 63 - 1 → (bytes : List ℕ) × IsContainer bytes node × (length bytes ≡ size + 4)
+measured node size room memory sized small =
+    let same : size ≡ length (node_bytes node) = omega (arith, sized, small) in
+    let fits = node_fits node 16 (sym room) memory (omega (arith, same, small)) in
+    (container_bytes node, record { text = refl; shallow = fits.1; fits = fits.0 }, container_size node (container_bytes node) refl ∙ ap (λ n. n + 4) (sym same))
+
+pub too_large : (node : Node) (size : ℕ) (bytes : List ℕ) → size ≡ min (length (node_bytes node)) (2 ^ 64 - 1) → 2 ^ 63 - 1 ≤ size → IsContainer bytes node → 2 ^ 63 ≤ length bytes
+too_large node size bytes sized large is =
+    let all = container_size node bytes is.text in
+    omega (arith, sized, large, all)
+
+-- what is written behind the beginning is the container of a node that has one
+pub is_container : (node : Node) (empty begun bytes : List ℕ) → {len : ℕ} → (other : List ℕ) × IsContainer other node × (length other ≡ len) → empty ≡ [] → begun ≡ empty ++ codes "FLC1" → bytes ≡ begun ++ node_bytes node → IsContainer bytes node
+is_container node empty begun bytes some none front whole =
+    record { text = whole ∙ ap (λ x. x ++ node_bytes node) (front ∙ ap (λ x. x ++ codes "FLC1") none); shallow = some.1.shallow; fits = some.1.fits }

@@ -1,5 +1,5 @@
 -- What calls that read and write containers answer.
-use Rattle.std.specs.Prelude.{◌≡◌, ℕ, false, List, Option, Some, None, Result, Ok, Err, ⊤}
+use Rattle.std.specs.Prelude.{◌≡◌, ◌≤◌, ◌^◌, ℕ, false, List, Option, Some, None, Result, Ok, Err, length, ⊤}
 use Rattle.fl_serialized.specs.Nodes.{Node}
 use Rattle.flcol_container.specs.declared.error.ContainerError.{ContainerError}
 use Rattle.flcol_container.specs.declared.error.ContainerError.TheVariants.{BadContainer, OutOfMemory}
@@ -21,6 +21,12 @@ abbrev pub IsWriting : {X : Type 0} → (X → List ℕ) → Node → Result X C
 IsWriting view node (Ok x) = IsContainer (view x) node
 IsWriting view node (Err BadContainer) = LacksRoom node
 IsWriting view node (Err OutOfMemory) = ⊤
+
+-- a node's container has so many bytes, or it has no room in one, or its container has more bytes than memory can hold
+abbrev pub IsMeasuring : Node → Result ℕ ContainerError → Type 0
+IsMeasuring node (Ok len) = (bytes : List ℕ) × IsContainer bytes node × (length bytes ≡ len)
+IsMeasuring node (Err BadContainer) = LacksRoom node
+IsMeasuring node (Err OutOfMemory) = (bytes : List ℕ) → IsContainer bytes node → 2 ^ 63 ≤ length bytes
 
 -- nothing is found where a call answered that these are no container's bytes
 abbrev pub FindsNothing : {Y : Type 0} → ContainerError → Option Y → Type 0

@@ -12,4 +12,4 @@ pub mod writing;
 pub use crate::error::ContainerError;
 pub use crate::limits::MAX_DEPTH;
 pub use crate::reading::read_container;
-pub use crate::writing::write_container;
+pub use crate::writing::{container_len, write_container};

@@ -4,7 +4,7 @@ ghost use Rattle.std.specs.Prelude.{◌≡◌, ◌∷◌, [], ◌+◌, ◌-◌, 
 ghost use Rattle.std.specs.Int.{to_le_bytes, w32, w64};
 ghost use Rattle.fl_serialized.specs.Nodes.{head_of};
 ghost use Rattle.flcol_container.specs.Container.{HeadFits, NodeFits, dtype_byte, head_bytes, length_prefixed, node_bytes};
-ghost use Rattle.flcol_container.specs.Outcomes.{IsWriting};
+ghost use Rattle.flcol_container.specs.Outcomes.{IsMeasuring, IsWriting};
 
 use crate::error::ContainerError;
 use crate::limits::{MAX_DEPTH, child_count, has_room, node_size};
@@ -23,13 +23,27 @@ use std::alloc::{AllocError, Global};
 pub fn write_container(alloc: Global, array: &SerializedArray) -> Result<Vec<u8>, ContainerError>
     ensures { IsWriting (λ v. v.items) array.now result }
 {
-    if !has_room(array, MAX_DEPTH) {
-        return Err(ContainerError::BadContainer);
-    }
-    let mut out = Vec::with_capacity(alloc, node_size(array).saturating_add(4))?;
+    let mut out = Vec::with_capacity(alloc, container_len(array)?)?;
     out.extend_from_slice(b"FLC1")?;
     push_node(&mut out, array)?;
     Ok(out)
+}
+
+/// How many bytes the container of an array has. Nothing is written, and no memory is requested.
+///
+/// # Errors
+/// `BadContainer` where it has none; `OutOfMemory` where it has 2^63 bytes or more.
+pub fn container_len(array: &SerializedArray) -> Result<usize, ContainerError>
+    ensures { IsMeasuring array.now result }
+{
+    if !has_room(array, MAX_DEPTH) {
+        return Err(ContainerError::BadContainer);
+    }
+    let size = node_size(array);
+    if size >= usize::MAX / 2 {
+        return Err(ContainerError::OutOfMemory);
+    }
+    Ok(size + 4)
 }
 
 /// The byte of a type.

@@ -6,11 +6,11 @@ ghost use Rattle.fl_array.specs.Trees.{column};
 ghost use Rattle.fl_column.specs.Queries.{are_constant, is_constant_column, is_sorted_column};
 ghost use Rattle.fl_serde.specs.ByteCounts.{tree_bytes};
 ghost use Rattle.flcol_container.specs.Container.{dtype_byte};
-ghost use Rattle.flcol_c.specs.Held.{IsKept, held_fault};
+ghost use Rattle.flcol_c.specs.Held.{IsKept, IsStatusOn, held_fault};
 ghost use Rattle.flcol_c.specs.Looks.{are_in_order};
 ghost use Rattle.flcol_c.specs.Reading.{nulls_in};
 ghost use Rattle.flcol_c.specs.Schemes.{scheme_fault, text_fault, text_of};
-ghost use Rattle.flcol_c.specs.Statuses.{IsStatusOf, refusal_in, status_at};
+ghost use Rattle.flcol_c.specs.Statuses.{refusal_in, status_at};
 
 use crate::fault::{DONE, Fault, status_of};
 use crate::handle::ArrayHandle;
@@ -22,9 +22,9 @@ use std::alloc::Global;
 /// The version of the calls.
 #[unsafe(no_mangle)]
 pub extern "C" fn flcol_abi_version() -> u32
-    ensures { result ≡ 1 }
+    ensures { result ≡ 2 }
 {
-    1
+    2
 }
 
 /// Writes how many items there are.
@@ -76,7 +76,7 @@ pub extern "C" fn flcol_nbytes(array: &mut ArrayHandle, bytes: &mut u64) -> i32
 #[unsafe(no_mangle)]
 pub extern "C" fn flcol_null_count(alloc: Global, array: &mut ArrayHandle, count: &mut usize) -> i32
     ensures kept { IsKept array.old array.new }
-    ensures status { IsStatusOf (held_fault (λ t. None) array.old.tree) result }
+    ensures status { IsStatusOn (λ t. None) (λ t. None) array.old.tree result }
     ensures found { result ≡ pos 0 → IfSome array.old.tree (λ t. count.new ≡ nulls_in (column t)) }
     ensures unfound { result ≢ pos 0 → count.new ≡ count.old }
 {
@@ -96,7 +96,7 @@ pub extern "C" fn flcol_null_count(alloc: Global, array: &mut ArrayHandle, count
 #[unsafe(no_mangle)]
 pub extern "C" fn flcol_is_constant(alloc: Global, array: &mut ArrayHandle, answer: &mut u8) -> i32
     ensures kept { IsKept array.old array.new }
-    ensures status { IsStatusOf (held_fault (λ t. refusal_in (is_constant_column (column t))) array.old.tree) result }
+    ensures status { IsStatusOn (λ t. None) (λ t. refusal_in (is_constant_column (column t))) array.old.tree result }
     ensures found { result ≡ pos 0 → IfSome array.old.tree (λ t. answer.new ≡ bit_value (are_constant (column t).items)) }
     ensures unfound { result ≢ pos 0 → answer.new ≡ answer.old }
 {
@@ -122,7 +122,7 @@ pub extern "C" fn flcol_is_sorted(
     answer: &mut u8,
 ) -> i32
     ensures kept { IsKept array.old array.new }
-    ensures status { IsStatusOf (held_fault (λ t. refusal_in (is_sorted_column (not (strict == 0)) (column t))) array.old.tree) result }
+    ensures status { IsStatusOn (λ t. None) (λ t. refusal_in (is_sorted_column (not (strict == 0)) (column t))) array.old.tree result }
     ensures found { result ≡ pos 0 → IfSome array.old.tree (λ t. answer.new ≡ bit_value (are_in_order (not (strict == 0)) (column t).items)) }
     ensures unfound { result ≢ pos 0 → answer.new ≡ answer.old }
 {
@@ -142,7 +142,7 @@ pub extern "C" fn flcol_is_sorted(
 #[unsafe(no_mangle)]
 pub extern "C" fn flcol_scheme_len(alloc: Global, array: &mut ArrayHandle, len: &mut usize) -> i32
     ensures kept { IsKept array.old array.new }
-    ensures status { IsStatusOf (held_fault scheme_fault array.old.tree) result }
+    ensures status { IsStatusOn (λ t. None) scheme_fault array.old.tree result }
     ensures found { result ≡ pos 0 → IfSome array.old.tree (λ t. len.new ≡ length (text_of t)) }
     ensures unfound { result ≢ pos 0 → len.new ≡ len.old }
 {
@@ -162,7 +162,7 @@ pub extern "C" fn flcol_scheme_len(alloc: Global, array: &mut ArrayHandle, len: 
 #[unsafe(no_mangle)]
 pub extern "C" fn flcol_scheme(alloc: Global, array: &mut ArrayHandle, text: &mut [u8]) -> i32
     ensures kept { IsKept array.old array.new }
-    ensures status { IsStatusOf (held_fault (text_fault (length text.old)) array.old.tree) result }
+    ensures status { IsStatusOn (λ t. None) (text_fault (length text.old)) array.old.tree result }
     ensures written { result ≡ pos 0 → IfSome array.old.tree (λ t. text.new ≡ text_of t) }
     ensures unwritten { result ≢ pos 0 → text.new ≡ text.old }
 {

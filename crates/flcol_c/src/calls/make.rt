@@ -1,14 +1,17 @@
 //! The calls that make an array of values.
 
-ghost use Rattle.std.specs.Prelude.{◌≡◌, ◌≢◌, None, Some, map, pos};
+ghost use Rattle.std.specs.Prelude.{◌≡◌, ◌≢◌, None, Some, length, map, pos};
 ghost use Rattle.fl_types.specs.declared.dtype.PType.TheVariants.{I16, I32, I64, I8, U16, U32, U64, U8};
-ghost use Rattle.fl_array.specs.Trees.{Constant, Primitive};
+ghost use Rattle.fl_array.specs.Trees.{Bool, Constant, Primitive};
+ghost use Rattle.flcol_c.specs.Booleans.{bits_fault, booleans_in};
 ghost use Rattle.flcol_c.specs.Operations.{repeated};
-ghost use Rattle.flcol_c.specs.Statuses.{IsStatusOf, refusal_in};
-ghost use Rattle.flcol_c.specs.Values.{from_values, plain_in};
+ghost use Rattle.flcol_c.specs.Bitmaps.{short_fault};
+ghost use Rattle.flcol_c.specs.Statuses.{IsStatusAfter, IsStatusOf};
+ghost use Rattle.flcol_c.specs.Values.{plain_in};
 
 use crate::handle::ArrayHandle;
-use crate::typed;
+use crate::kept::keep;
+use crate::{booleans, typed};
 use std::alloc::Global;
 
 /// Makes a plain array of these values. The valid ones are those whose bits are set; without a bitmap all are, and the type is
@@ -20,7 +23,7 @@ pub extern "C" fn flcol_from_u8(
     validity: &[u8],
     out: &mut ArrayHandle,
 ) -> i32
-    ensures status { IsStatusOf (refusal_in (from_values U8 (map pos values.now) validity.now)) result }
+    ensures status { IsStatusAfter (short_fault validity.now (length values.now)) None result }
     ensures made { result ≡ pos 0 → out.new.tree ≡ Some (Primitive (plain_in U8 (map pos values.now) validity.now)) }
     ensures unmade { result ≢ pos 0 → out.new ≡ out.old }
 {
@@ -36,7 +39,7 @@ pub extern "C" fn flcol_from_u16(
     validity: &[u8],
     out: &mut ArrayHandle,
 ) -> i32
-    ensures status { IsStatusOf (refusal_in (from_values U16 (map pos values.now) validity.now)) result }
+    ensures status { IsStatusAfter (short_fault validity.now (length values.now)) None result }
     ensures made { result ≡ pos 0 → out.new.tree ≡ Some (Primitive (plain_in U16 (map pos values.now) validity.now)) }
     ensures unmade { result ≢ pos 0 → out.new ≡ out.old }
 {
@@ -52,7 +55,7 @@ pub extern "C" fn flcol_from_u32(
     validity: &[u8],
     out: &mut ArrayHandle,
 ) -> i32
-    ensures status { IsStatusOf (refusal_in (from_values U32 (map pos values.now) validity.now)) result }
+    ensures status { IsStatusAfter (short_fault validity.now (length values.now)) None result }
     ensures made { result ≡ pos 0 → out.new.tree ≡ Some (Primitive (plain_in U32 (map pos values.now) validity.now)) }
     ensures unmade { result ≢ pos 0 → out.new ≡ out.old }
 {
@@ -68,7 +71,7 @@ pub extern "C" fn flcol_from_u64(
     validity: &[u8],
     out: &mut ArrayHandle,
 ) -> i32
-    ensures status { IsStatusOf (refusal_in (from_values U64 (map pos values.now) validity.now)) result }
+    ensures status { IsStatusAfter (short_fault validity.now (length values.now)) None result }
     ensures made { result ≡ pos 0 → out.new.tree ≡ Some (Primitive (plain_in U64 (map pos values.now) validity.now)) }
     ensures unmade { result ≢ pos 0 → out.new ≡ out.old }
 {
@@ -84,7 +87,7 @@ pub extern "C" fn flcol_from_i8(
     validity: &[u8],
     out: &mut ArrayHandle,
 ) -> i32
-    ensures status { IsStatusOf (refusal_in (from_values I8 values.now validity.now)) result }
+    ensures status { IsStatusAfter (short_fault validity.now (length values.now)) None result }
     ensures made { result ≡ pos 0 → out.new.tree ≡ Some (Primitive (plain_in I8 values.now validity.now)) }
     ensures unmade { result ≢ pos 0 → out.new ≡ out.old }
 {
@@ -100,7 +103,7 @@ pub extern "C" fn flcol_from_i16(
     validity: &[u8],
     out: &mut ArrayHandle,
 ) -> i32
-    ensures status { IsStatusOf (refusal_in (from_values I16 values.now validity.now)) result }
+    ensures status { IsStatusAfter (short_fault validity.now (length values.now)) None result }
     ensures made { result ≡ pos 0 → out.new.tree ≡ Some (Primitive (plain_in I16 values.now validity.now)) }
     ensures unmade { result ≢ pos 0 → out.new ≡ out.old }
 {
@@ -116,7 +119,7 @@ pub extern "C" fn flcol_from_i32(
     validity: &[u8],
     out: &mut ArrayHandle,
 ) -> i32
-    ensures status { IsStatusOf (refusal_in (from_values I32 values.now validity.now)) result }
+    ensures status { IsStatusAfter (short_fault validity.now (length values.now)) None result }
     ensures made { result ≡ pos 0 → out.new.tree ≡ Some (Primitive (plain_in I32 values.now validity.now)) }
     ensures unmade { result ≢ pos 0 → out.new ≡ out.old }
 {
@@ -132,7 +135,7 @@ pub extern "C" fn flcol_from_i64(
     validity: &[u8],
     out: &mut ArrayHandle,
 ) -> i32
-    ensures status { IsStatusOf (refusal_in (from_values I64 values.now validity.now)) result }
+    ensures status { IsStatusAfter (short_fault validity.now (length values.now)) None result }
     ensures made { result ≡ pos 0 → out.new.tree ≡ Some (Primitive (plain_in I64 values.now validity.now)) }
     ensures unmade { result ≢ pos 0 → out.new ≡ out.old }
 {
@@ -265,4 +268,21 @@ pub extern "C" fn flcol_constant_i64(
     ensures unmade { result ≢ pos 0 → out.new ≡ out.old }
 {
     typed::constant(alloc, value, is_null, len, out)
+}
+
+/// Makes a plain array of the first `len` booleans of a bitmap. The valid ones are those whose bits are set; without a bitmap of
+/// these all are, and the type is not nullable.
+#[unsafe(no_mangle)]
+pub extern "C" fn flcol_from_bool(
+    alloc: Global,
+    bits: &[u8],
+    len: usize,
+    validity: &[u8],
+    out: &mut ArrayHandle,
+) -> i32
+    ensures status { IsStatusAfter (bits_fault bits.now len validity.now) None result }
+    ensures made { result ≡ pos 0 → out.new.tree ≡ Some (Bool (booleans_in bits.now len validity.now)) }
+    ensures unmade { result ≢ pos 0 → out.new ≡ out.old }
+{
+    keep(out, alloc, booleans::from_bits(alloc, bits, len, validity))
 }

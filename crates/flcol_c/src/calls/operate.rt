@@ -1,16 +1,17 @@
 //! The calls that make an array of an array.
 
-ghost use Rattle.std.specs.Prelude.{◌≡◌, ◌≢◌, None, pos};
+ghost use Rattle.std.specs.Prelude.{◌≡◌, ◌≢◌, None, length, pos};
 ghost use Rattle.fl_array.specs.Reads.{integer_column};
 ghost use Rattle.fl_array.specs.Slices.{slice_tree};
 ghost use Rattle.fl_array.specs.ToBlocked.{to_blocked_tree};
 ghost use Rattle.fl_array.specs.Trees.{column};
 ghost use Rattle.fl_column.specs.Operations.{ranges_column, slice_column};
 ghost use Rattle.flcol_container.specs.ContainerReading.{dtype_of_byte};
+ghost use Rattle.flcol_c.specs.Bitmaps.{short_fault};
 ghost use Rattle.flcol_c.specs.Compressing.{IsCompressionOf};
-ghost use Rattle.flcol_c.specs.Held.{HoldsFrom, IsKept, held_fault};
-ghost use Rattle.flcol_c.specs.Operations.{AreTaken, IsCast, IsFilteredBy, IsTaken, cast_fault, filter_fault, pairs_of, take_fault};
-ghost use Rattle.flcol_c.specs.Statuses.{IsStatusOf, refusal_in};
+ghost use Rattle.flcol_c.specs.Held.{HoldsFrom, IsKept, IsStatusOn};
+ghost use Rattle.flcol_c.specs.Operations.{AreTaken, IsCast, IsFilteredBy, IsTaken, cast_fault, filter_fault, mask_fault, pairs_of, take_fault, type_fault};
+ghost use Rattle.flcol_c.specs.Statuses.{refusal_in};
 
 use crate::compressing::compress;
 use crate::fault::Fault;
@@ -30,7 +31,7 @@ pub extern "C" fn flcol_slice(
     out: &mut ArrayHandle,
 ) -> i32
     ensures kept { IsKept array.old array.new }
-    ensures status { IsStatusOf (held_fault (λ t. refusal_in (slice_column from to (column t))) array.old.tree) result }
+    ensures status { IsStatusOn (λ t. refusal_in (slice_column from to (column t))) (λ t. None) array.old.tree result }
     ensures made { result ≡ pos 0 → HoldsFrom (λ t u. u ≡ slice_tree from to t) array.old.tree out.new.tree }
     ensures unmade { result ≢ pos 0 → out.new ≡ out.old }
 {
@@ -50,7 +51,7 @@ pub extern "C" fn flcol_take(
     out: &mut ArrayHandle,
 ) -> i32
     ensures kept { IsKept array.old array.new }
-    ensures status { IsStatusOf (held_fault (λ t. take_fault indices.now validity.now (column t)) array.old.tree) result }
+    ensures status { IsStatusOn (λ t. short_fault validity.now (length indices.now)) (λ t. take_fault indices.now validity.now (column t)) array.old.tree result }
     ensures made { result ≡ pos 0 → HoldsFrom (IsTaken indices.now validity.now) array.old.tree out.new.tree }
     ensures unmade { result ≢ pos 0 → out.new ≡ out.old }
 {
@@ -73,7 +74,7 @@ pub extern "C" fn flcol_take_ranges(
     out: &mut ArrayHandle,
 ) -> i32
     ensures kept { IsKept array.old array.new }
-    ensures status { IsStatusOf (held_fault (λ t. refusal_in (ranges_column (pairs_of ranges.now) (column t))) array.old.tree) result }
+    ensures status { IsStatusOn (λ t. None) (λ t. refusal_in (ranges_column (pairs_of ranges.now) (column t))) array.old.tree result }
     ensures made { result ≡ pos 0 → HoldsFrom (AreTaken ranges.now) array.old.tree out.new.tree }
     ensures unmade { result ≢ pos 0 → out.new ≡ out.old }
 {
@@ -92,7 +93,7 @@ pub extern "C" fn flcol_filter(
     out: &mut ArrayHandle,
 ) -> i32
     ensures kept { IsKept array.old array.new }
-    ensures status { IsStatusOf (held_fault (λ t. filter_fault mask.now (column t)) array.old.tree) result }
+    ensures status { IsStatusOn (λ t. mask_fault (length mask.now) (column t)) (λ t. filter_fault mask.now (column t)) array.old.tree result }
     ensures made { result ≡ pos 0 → HoldsFrom (IsFilteredBy mask.now) array.old.tree out.new.tree }
     ensures unmade { result ≢ pos 0 → out.new ≡ out.old }
 {
@@ -111,7 +112,7 @@ pub extern "C" fn flcol_cast(
     out: &mut ArrayHandle,
 ) -> i32
     ensures kept { IsKept array.old array.new }
-    ensures status { IsStatusOf (held_fault (λ t. cast_fault (dtype_of_byte dtype) (column t)) array.old.tree) result }
+    ensures status { IsStatusOn (λ t. type_fault (dtype_of_byte dtype)) (λ t. cast_fault (dtype_of_byte dtype) (column t)) array.old.tree result }
     ensures made { result ≡ pos 0 → HoldsFrom (IsCast (dtype_of_byte dtype)) array.old.tree out.new.tree }
     ensures unmade { result ≢ pos 0 → out.new ≡ out.old }
 {
@@ -129,7 +130,7 @@ pub extern "C" fn flcol_to_blocked(
     out: &mut ArrayHandle,
 ) -> i32
     ensures kept { IsKept array.old array.new }
-    ensures status { IsStatusOf (held_fault (λ t. None) array.old.tree) result }
+    ensures status { IsStatusOn (λ t. None) (λ t. None) array.old.tree result }
     ensures made { result ≡ pos 0 → HoldsFrom (λ t u. u ≡ to_blocked_tree t) array.old.tree out.new.tree }
     ensures unmade { result ≢ pos 0 → out.new ≡ out.old }
 {
@@ -147,7 +148,7 @@ pub extern "C" fn flcol_compress(
     out: &mut ArrayHandle,
 ) -> i32
     ensures kept { IsKept array.old array.new }
-    ensures status { IsStatusOf (held_fault (λ t. refusal_in (integer_column (column t))) array.old.tree) result }
+    ensures status { IsStatusOn (λ t. None) (λ t. refusal_in (integer_column (column t))) array.old.tree result }
     ensures made { result ≡ pos 0 → HoldsFrom IsCompressionOf array.old.tree out.new.tree }
     ensures unmade { result ≢ pos 0 → out.new ≡ out.old }
 {

@@ -5,9 +5,9 @@ ghost use Rattle.fl_types.specs.declared.dtype.PType.TheVariants.{I16, I32, I64,
 ghost use Rattle.fl_array.specs.Trees.{column};
 ghost use Rattle.fl_column.specs.Queries.{holds, is_between};
 ghost use Rattle.flcol_c.specs.Answering.{AreAnswers, compare_fault, operator_of, options_of, test_fault};
-ghost use Rattle.flcol_c.specs.Bitmaps.{IsClearFrom};
-ghost use Rattle.flcol_c.specs.Held.{IsKept, held_fault};
-ghost use Rattle.flcol_c.specs.Statuses.{IsStatusOf};
+ghost use Rattle.fl_bitmaps.specs.Bitmaps.{IsClearFrom};
+ghost use Rattle.flcol_c.specs.Held.{IsKept, IsStatusOn};
+ghost use Rattle.flcol_c.specs.Reading.{nulls_fault};
 
 use crate::handle::ArrayHandle;
 use crate::typed;
@@ -24,7 +24,7 @@ pub extern "C" fn flcol_compare_u8(
     validity: &mut [u8],
 ) -> i32
     ensures kept { IsKept array.old array.new }
-    ensures status { IsStatusOf (held_fault (λ t. compare_fault U8 operator (length bits.old) (length validity.old) (column t)) array.old.tree) result }
+    ensures status { IsStatusOn (λ t. compare_fault U8 operator (length bits.old) (column t)) (λ t. nulls_fault (length validity.old) (column t)) array.old.tree result }
     ensures compared { result ≡ pos 0 → IfSome array.old.tree (λ t. IfSome (operator_of operator) (λ op. AreAnswers (holds op (pos constant)) (column t) bits.new validity.new)) }
     ensures clear { result ≡ pos 0 → IfSome array.old.tree (λ t. IsClearFrom (length (column t).items) bits.new × IsClearFrom (length (column t).items) validity.new) }
     ensures unwritten { result ≢ pos 0 → (bits.new ≡ bits.old) × (validity.new ≡ validity.old) }
@@ -46,7 +46,7 @@ pub extern "C" fn flcol_between_u8(
     validity: &mut [u8],
 ) -> i32
     ensures kept { IsKept array.old array.new }
-    ensures status { IsStatusOf (held_fault (λ t. test_fault U8 (length bits.old) (length validity.old) (column t)) array.old.tree) result }
+    ensures status { IsStatusOn (λ t. test_fault U8 (length bits.old) (column t)) (λ t. nulls_fault (length validity.old) (column t)) array.old.tree result }
     ensures tested { result ≡ pos 0 → IfSome array.old.tree (λ t. AreAnswers (is_between (options_of lower_strict upper_strict) (pos lower) (pos upper)) (column t) bits.new validity.new) }
     ensures clear { result ≡ pos 0 → IfSome array.old.tree (λ t. IsClearFrom (length (column t).items) bits.new × IsClearFrom (length (column t).items) validity.new) }
     ensures unwritten { result ≢ pos 0 → (bits.new ≡ bits.old) × (validity.new ≡ validity.old) }
@@ -66,7 +66,7 @@ pub extern "C" fn flcol_compare_u16(
     validity: &mut [u8],
 ) -> i32
     ensures kept { IsKept array.old array.new }
-    ensures status { IsStatusOf (held_fault (λ t. compare_fault U16 operator (length bits.old) (length validity.old) (column t)) array.old.tree) result }
+    ensures status { IsStatusOn (λ t. compare_fault U16 operator (length bits.old) (column t)) (λ t. nulls_fault (length validity.old) (column t)) array.old.tree result }
     ensures compared { result ≡ pos 0 → IfSome array.old.tree (λ t. IfSome (operator_of operator) (λ op. AreAnswers (holds op (pos constant)) (column t) bits.new validity.new)) }
     ensures clear { result ≡ pos 0 → IfSome array.old.tree (λ t. IsClearFrom (length (column t).items) bits.new × IsClearFrom (length (column t).items) validity.new) }
     ensures unwritten { result ≢ pos 0 → (bits.new ≡ bits.old) × (validity.new ≡ validity.old) }
@@ -88,7 +88,7 @@ pub extern "C" fn flcol_between_u16(
     validity: &mut [u8],
 ) -> i32
     ensures kept { IsKept array.old array.new }
-    ensures status { IsStatusOf (held_fault (λ t. test_fault U16 (length bits.old) (length validity.old) (column t)) array.old.tree) result }
+    ensures status { IsStatusOn (λ t. test_fault U16 (length bits.old) (column t)) (λ t. nulls_fault (length validity.old) (column t)) array.old.tree result }
     ensures tested { result ≡ pos 0 → IfSome array.old.tree (λ t. AreAnswers (is_between (options_of lower_strict upper_strict) (pos lower) (pos upper)) (column t) bits.new validity.new) }
     ensures clear { result ≡ pos 0 → IfSome array.old.tree (λ t. IsClearFrom (length (column t).items) bits.new × IsClearFrom (length (column t).items) validity.new) }
     ensures unwritten { result ≢ pos 0 → (bits.new ≡ bits.old) × (validity.new ≡ validity.old) }
@@ -108,7 +108,7 @@ pub extern "C" fn flcol_compare_u32(
     validity: &mut [u8],
 ) -> i32
     ensures kept { IsKept array.old array.new }
-    ensures status { IsStatusOf (held_fault (λ t. compare_fault U32 operator (length bits.old) (length validity.old) (column t)) array.old.tree) result }
+    ensures status { IsStatusOn (λ t. compare_fault U32 operator (length bits.old) (column t)) (λ t. nulls_fault (length validity.old) (column t)) array.old.tree result }
     ensures compared { result ≡ pos 0 → IfSome array.old.tree (λ t. IfSome (operator_of operator) (λ op. AreAnswers (holds op (pos constant)) (column t) bits.new validity.new)) }
     ensures clear { result ≡ pos 0 → IfSome array.old.tree (λ t. IsClearFrom (length (column t).items) bits.new × IsClearFrom (length (column t).items) validity.new) }
     ensures unwritten { result ≢ pos 0 → (bits.new ≡ bits.old) × (validity.new ≡ validity.old) }
@@ -130,7 +130,7 @@ pub extern "C" fn flcol_between_u32(
     validity: &mut [u8],
 ) -> i32
     ensures kept { IsKept array.old array.new }
-    ensures status { IsStatusOf (held_fault (λ t. test_fault U32 (length bits.old) (length validity.old) (column t)) array.old.tree) result }
+    ensures status { IsStatusOn (λ t. test_fault U32 (length bits.old) (column t)) (λ t. nulls_fault (length validity.old) (column t)) array.old.tree result }
     ensures tested { result ≡ pos 0 → IfSome array.old.tree (λ t. AreAnswers (is_between (options_of lower_strict upper_strict) (pos lower) (pos upper)) (column t) bits.new validity.new) }
     ensures clear { result ≡ pos 0 → IfSome array.old.tree (λ t. IsClearFrom (length (column t).items) bits.new × IsClearFrom (length (column t).items) validity.new) }
     ensures unwritten { result ≢ pos 0 → (bits.new ≡ bits.old) × (validity.new ≡ validity.old) }
@@ -150,7 +150,7 @@ pub extern "C" fn flcol_compare_u64(
     validity: &mut [u8],
 ) -> i32
     ensures kept { IsKept array.old array.new }
-    ensures status { IsStatusOf (held_fault (λ t. compare_fault U64 operator (length bits.old) (length validity.old) (column t)) array.old.tree) result }
+    ensures status { IsStatusOn (λ t. compare_fault U64 operator (length bits.old) (column t)) (λ t. nulls_fault (length validity.old) (column t)) array.old.tree result }
     ensures compared { result ≡ pos 0 → IfSome array.old.tree (λ t. IfSome (operator_of operator) (λ op. AreAnswers (holds op (pos constant)) (column t) bits.new validity.new)) }
     ensures clear { result ≡ pos 0 → IfSome array.old.tree (λ t. IsClearFrom (length (column t).items) bits.new × IsClearFrom (length (column t).items) validity.new) }
     ensures unwritten { result ≢ pos 0 → (bits.new ≡ bits.old) × (validity.new ≡ validity.old) }
@@ -172,7 +172,7 @@ pub extern "C" fn flcol_between_u64(
     validity: &mut [u8],
 ) -> i32
     ensures kept { IsKept array.old array.new }
-    ensures status { IsStatusOf (held_fault (λ t. test_fault U64 (length bits.old) (length validity.old) (column t)) array.old.tree) result }
+    ensures status { IsStatusOn (λ t. test_fault U64 (length bits.old) (column t)) (λ t. nulls_fault (length validity.old) (column t)) array.old.tree result }
     ensures tested { result ≡ pos 0 → IfSome array.old.tree (λ t. AreAnswers (is_between (options_of lower_strict upper_strict) (pos lower) (pos upper)) (column t) bits.new validity.new) }
     ensures clear { result ≡ pos 0 → IfSome array.old.tree (λ t. IsClearFrom (length (column t).items) bits.new × IsClearFrom (length (column t).items) validity.new) }
     ensures unwritten { result ≢ pos 0 → (bits.new ≡ bits.old) × (validity.new ≡ validity.old) }
@@ -192,7 +192,7 @@ pub extern "C" fn flcol_compare_i8(
     validity: &mut [u8],
 ) -> i32
     ensures kept { IsKept array.old array.new }
-    ensures status { IsStatusOf (held_fault (λ t. compare_fault I8 operator (length bits.old) (length validity.old) (column t)) array.old.tree) result }
+    ensures status { IsStatusOn (λ t. compare_fault I8 operator (length bits.old) (column t)) (λ t. nulls_fault (length validity.old) (column t)) array.old.tree result }
     ensures compared { result ≡ pos 0 → IfSome array.old.tree (λ t. IfSome (operator_of operator) (λ op. AreAnswers (holds op constant) (column t) bits.new validity.new)) }
     ensures clear { result ≡ pos 0 → IfSome array.old.tree (λ t. IsClearFrom (length (column t).items) bits.new × IsClearFrom (length (column t).items) validity.new) }
     ensures unwritten { result ≢ pos 0 → (bits.new ≡ bits.old) × (validity.new ≡ validity.old) }
@@ -214,7 +214,7 @@ pub extern "C" fn flcol_between_i8(
     validity: &mut [u8],
 ) -> i32
     ensures kept { IsKept array.old array.new }
-    ensures status { IsStatusOf (held_fault (λ t. test_fault I8 (length bits.old) (length validity.old) (column t)) array.old.tree) result }
+    ensures status { IsStatusOn (λ t. test_fault I8 (length bits.old) (column t)) (λ t. nulls_fault (length validity.old) (column t)) array.old.tree result }
     ensures tested { result ≡ pos 0 → IfSome array.old.tree (λ t. AreAnswers (is_between (options_of lower_strict upper_strict) lower upper) (column t) bits.new validity.new) }
     ensures clear { result ≡ pos 0 → IfSome array.old.tree (λ t. IsClearFrom (length (column t).items) bits.new × IsClearFrom (length (column t).items) validity.new) }
     ensures unwritten { result ≢ pos 0 → (bits.new ≡ bits.old) × (validity.new ≡ validity.old) }
@@ -234,7 +234,7 @@ pub extern "C" fn flcol_compare_i16(
     validity: &mut [u8],
 ) -> i32
     ensures kept { IsKept array.old array.new }
-    ensures status { IsStatusOf (held_fault (λ t. compare_fault I16 operator (length bits.old) (length validity.old) (column t)) array.old.tree) result }
+    ensures status { IsStatusOn (λ t. compare_fault I16 operator (length bits.old) (column t)) (λ t. nulls_fault (length validity.old) (column t)) array.old.tree result }
     ensures compared { result ≡ pos 0 → IfSome array.old.tree (λ t. IfSome (operator_of operator) (λ op. AreAnswers (holds op constant) (column t) bits.new validity.new)) }
     ensures clear { result ≡ pos 0 → IfSome array.old.tree (λ t. IsClearFrom (length (column t).items) bits.new × IsClearFrom (length (column t).items) validity.new) }
     ensures unwritten { result ≢ pos 0 → (bits.new ≡ bits.old) × (validity.new ≡ validity.old) }
@@ -256,7 +256,7 @@ pub extern "C" fn flcol_between_i16(
     validity: &mut [u8],
 ) -> i32
     ensures kept { IsKept array.old array.new }
-    ensures status { IsStatusOf (held_fault (λ t. test_fault I16 (length bits.old) (length validity.old) (column t)) array.old.tree) result }
+    ensures status { IsStatusOn (λ t. test_fault I16 (length bits.old) (column t)) (λ t. nulls_fault (length validity.old) (column t)) array.old.tree result }
     ensures tested { result ≡ pos 0 → IfSome array.old.tree (λ t. AreAnswers (is_between (options_of lower_strict upper_strict) lower upper) (column t) bits.new validity.new) }
     ensures clear { result ≡ pos 0 → IfSome array.old.tree (λ t. IsClearFrom (length (column t).items) bits.new × IsClearFrom (length (column t).items) validity.new) }
     ensures unwritten { result ≢ pos 0 → (bits.new ≡ bits.old) × (validity.new ≡ validity.old) }
@@ -276,7 +276,7 @@ pub extern "C" fn flcol_compare_i32(
     validity: &mut [u8],
 ) -> i32
     ensures kept { IsKept array.old array.new }
-    ensures status { IsStatusOf (held_fault (λ t. compare_fault I32 operator (length bits.old) (length validity.old) (column t)) array.old.tree) result }
+    ensures status { IsStatusOn (λ t. compare_fault I32 operator (length bits.old) (column t)) (λ t. nulls_fault (length validity.old) (column t)) array.old.tree result }
     ensures compared { result ≡ pos 0 → IfSome array.old.tree (λ t. IfSome (operator_of operator) (λ op. AreAnswers (holds op constant) (column t) bits.new validity.new)) }
     ensures clear { result ≡ pos 0 → IfSome array.old.tree (λ t. IsClearFrom (length (column t).items) bits.new × IsClearFrom (length (column t).items) validity.new) }
     ensures unwritten { result ≢ pos 0 → (bits.new ≡ bits.old) × (validity.new ≡ validity.old) }
@@ -298,7 +298,7 @@ pub extern "C" fn flcol_between_i32(
     validity: &mut [u8],
 ) -> i32
     ensures kept { IsKept array.old array.new }
-    ensures status { IsStatusOf (held_fault (λ t. test_fault I32 (length bits.old) (length validity.old) (column t)) array.old.tree) result }
+    ensures status { IsStatusOn (λ t. test_fault I32 (length bits.old) (column t)) (λ t. nulls_fault (length validity.old) (column t)) array.old.tree result }
     ensures tested { result ≡ pos 0 → IfSome array.old.tree (λ t. AreAnswers (is_between (options_of lower_strict upper_strict) lower upper) (column t) bits.new validity.new) }
     ensures clear { result ≡ pos 0 → IfSome array.old.tree (λ t. IsClearFrom (length (column t).items) bits.new × IsClearFrom (length (column t).items) validity.new) }
     ensures unwritten { result ≢ pos 0 → (bits.new ≡ bits.old) × (validity.new ≡ validity.old) }
@@ -318,7 +318,7 @@ pub extern "C" fn flcol_compare_i64(
     validity: &mut [u8],
 ) -> i32
     ensures kept { IsKept array.old array.new }
-    ensures status { IsStatusOf (held_fault (λ t. compare_fault I64 operator (length bits.old) (length validity.old) (column t)) array.old.tree) result }
+    ensures status { IsStatusOn (λ t. compare_fault I64 operator (length bits.old) (column t)) (λ t. nulls_fault (length validity.old) (column t)) array.old.tree result }
     ensures compared { result ≡ pos 0 → IfSome array.old.tree (λ t. IfSome (operator_of operator) (λ op. AreAnswers (holds op constant) (column t) bits.new validity.new)) }
     ensures clear { result ≡ pos 0 → IfSome array.old.tree (λ t. IsClearFrom (length (column t).items) bits.new × IsClearFrom (length (column t).items) validity.new) }
     ensures unwritten { result ≢ pos 0 → (bits.new ≡ bits.old) × (validity.new ≡ validity.old) }
@@ -340,7 +340,7 @@ pub extern "C" fn flcol_between_i64(
     validity: &mut [u8],
 ) -> i32
     ensures kept { IsKept array.old array.new }
-    ensures status { IsStatusOf (held_fault (λ t. test_fault I64 (length bits.old) (length validity.old) (column t)) array.old.tree) result }
+    ensures status { IsStatusOn (λ t. test_fault I64 (length bits.old) (column t)) (λ t. nulls_fault (length validity.old) (column t)) array.old.tree result }
     ensures tested { result ≡ pos 0 → IfSome array.old.tree (λ t. AreAnswers (is_between (options_of lower_strict upper_strict) lower upper) (column t) bits.new validity.new) }
     ensures clear { result ≡ pos 0 → IfSome array.old.tree (λ t. IsClearFrom (length (column t).items) bits.new × IsClearFrom (length (column t).items) validity.new) }
     ensures unwritten { result ≢ pos 0 → (bits.new ≡ bits.old) × (validity.new ≡ validity.old) }

@@ -1,22 +1,22 @@
-use Rattle.std.proofs.Common.{rules, ◌≡◌, ◌∙◌, ap, sym, subst, true, length, map, option_map, count_by, OnOk, IfSome, Some}
+use Rattle.std.proofs.Common.{rules, ◌≡◌, ◌∙◌, ap, sym, subst, true, length, map, option_map, count_by, OnOk}
 use Rattle.std.proofs.lemmas.Result.{IfOk-weaker}
 use Rattle.std.specs.Prelude.{is_none}
 use Rattle.fl_types.specs.Types.{has_ptype}
 use Rattle.fl_types.specs.Values.{scalar_parts}
-use Rattle.fl_types.specs.declared.query.CompareOperator.{CompareOperator}
 use Rattle.fl_array.specs.Trees.{column}
 use Rattle.fl_column.specs.Columns.{bools}
-use Rattle.fl_column.specs.Queries.{holds, is_between}
+use Rattle.fl_column.specs.Queries.{is_between}
 use Rattle.fl_ops.specs.Queries.{integer_in}
-use Rattle.flcol_c.specs.Answering.{AreAnswers, compare_fault, operator_of, options_of, test_fault}
+use Rattle.flcol_c.specs.Answering.{AreAnswers, options_of, test_fault}
 use Rattle.fl_column.specs.Bitmaps.{bitmap_len}
-use Rattle.flcol_c.specs.Bitmaps.{IsClearFrom}
-use Rattle.flcol_c.proofs.AnswerLaws.{answered, answers_counted, compare_room, compared, lies_between, nulls_answered, test_room}
-use Rattle.flcol_c.proofs.StatusLaws.{gives_by_fault}
+use Rattle.flcol_c.specs.Reading.{nulls_fault}
+use Rattle.fl_bitmaps.specs.Bitmaps.{IsClearFrom}
+use Rattle.flcol_c.proofs.AnswerLaws.{answered, answers_counted, lies_between, nulls_answered, test_allowed, test_room}
+use Rattle.flcol_c.proofs.StatusLaws.{gives_by_fault, gives_later}
 use Rattle.flcol_c.proofs.answering.between.Goals as goal
 
-pub write_tested-requires : goal.write_tested-requires
-write_tested-requires g c =
+pub write_booleans-requires : goal.write_booleans-requires
+write_booleans-requires g c =
     let here = column c.args.array.now in
     let b = c.in_ok-answers.answers in
     let low = g.T.Number.value c.args.bounds.0 in
@@ -46,11 +46,11 @@ returns-clause-tested g c =
     let counted : length b.bits ≡ length here.items = answers_counted test here b c.len-count.result c.len-count.ensures.bits c.len-count.ensures.items told in
     let room : length c.args.bits.now ≡ bitmap_len (length here.items) = search rules in
     let nulls : count_by is_none (bools b) ≡ count_by is_none here.items = nulls_answered test here b told in
-    let bits = c.write_tested.new.bits in
-    let validity = c.write_tested.new.validity in
-    gives_by_fault (test_fault g.T.NativePType.PTYPE (length c.args.bits.now) (length c.args.validity.now) here) _ c.write_tested.result
-    (c.write_tested.ensures.fault ∙ test_room g.T.NativePType.PTYPE (length c.args.bits.now) (length c.args.validity.now) (length b.bits) (count_by is_none (bools b)) here typed room counted nulls)
-    (IfOk-weaker c.write_tested.result _ _ (λ _ written. answered test here b bits validity told counted written) c.write_tested.ensures.items)
+    let bits = c.write_booleans.new.bits in
+    let validity = c.write_booleans.new.validity in
+    gives_later (test_fault g.T.NativePType.PTYPE (length c.args.bits.now) here) (nulls_fault (length c.args.validity.now) here) (λ _. AreAnswers test here bits validity) c.write_booleans.result (test_allowed g.T.NativePType.PTYPE (length c.args.bits.now) here typed room)
+    (gives_by_fault (nulls_fault (length c.args.validity.now) here) _ c.write_booleans.result (c.write_booleans.ensures.fault ∙ test_room (length c.args.validity.now) (length b.bits) (count_by is_none (bools b)) here counted nulls)
+    (IfOk-weaker c.write_booleans.result _ _ (λ _ written. answered test here b bits validity told counted written) c.write_booleans.ensures.items))
 
 pub returns-clause-clear : goal.returns-clause-clear
 returns-clause-clear g c =
@@ -65,7 +65,7 @@ returns-clause-clear g c =
     let upper : integer_in (scalar_parts c.primitive-upper.result) ≡ high = search rules in
     let told : bools b ≡ map (option_map test) here.items = lies_between (scalar_parts c.primitive-lower.result) (scalar_parts c.primitive-upper.result) low high options here b g.T.NativePType.PTYPE lower upper typed (search rules) in
     let counted : length b.bits ≡ length here.items = answers_counted test here b c.len-count.result c.len-count.ensures.bits c.len-count.ensures.items told in
-    subst (λ n. OnOk c.write_tested.result (IsClearFrom n c.write_tested.new.bits)) counted c.write_tested.ensures.clear
+    subst (λ n. OnOk c.write_booleans.result (IsClearFrom n c.write_booleans.new.bits)) counted c.write_booleans.ensures.clear
 
 pub returns-clause-clear_valid : goal.returns-clause-clear_valid
 returns-clause-clear_valid g c =
@@ -80,4 +80,4 @@ returns-clause-clear_valid g c =
     let upper : integer_in (scalar_parts c.primitive-upper.result) ≡ high = search rules in
     let told : bools b ≡ map (option_map test) here.items = lies_between (scalar_parts c.primitive-lower.result) (scalar_parts c.primitive-upper.result) low high options here b g.T.NativePType.PTYPE lower upper typed (search rules) in
     let counted : length b.bits ≡ length here.items = answers_counted test here b c.len-count.result c.len-count.ensures.bits c.len-count.ensures.items told in
-    subst (λ n. OnOk c.write_tested.result (IsClearFrom n c.write_tested.new.validity)) counted c.write_tested.ensures.clear_valid
+    subst (λ n. OnOk c.write_booleans.result (IsClearFrom n c.write_booleans.new.validity)) counted c.write_booleans.ensures.clear_valid

@@ -1,5 +1,4 @@
-use Rattle.std.proofs.Common.{rules, ◌≡◌, ◌≢◌, ℕ, ◌<◌, ◌≤◌, ◌+◌, ◌/◌, ◌%◌, ◌*◌, length, true, false, sym, ◌∙◌, arith}
-use Rattle.std.specs.Prelude.{slice_index}
+use Rattle.std.proofs.Common.{rules, ◌≡◌, ◌≢◌, ◌%◌, true, false, sym, ◌∙◌, arith}
 use Rattle.fl_column.proofs.BitmapLaws.{no_bit_behind}
 use Rattle.flcol_c.proofs.BitmapLaws.{all_set, none_set, run_clear, run_set}
 use Rattle.flcol_c.proofs.bitmaps.write_run.Goals as goal

@@ -1,4 +1,4 @@
-use Rattle.std.proofs.Common.{rules, ◌≡◌, length, map, ◌∙◌}
+use Rattle.std.proofs.Common.{rules, ◌≡◌, length, map}
 use Rattle.std.proofs.lemmas.List.{length-map}
 use Rattle.flcol_c.proofs.ValueLaws.{values_of_bitmap}
 use Rattle.flcol_c.proofs.values.plain_of.Goals as goal

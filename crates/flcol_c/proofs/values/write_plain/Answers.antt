@@ -1,4 +1,4 @@
-use Rattle.std.proofs.Common.{rules, ◌≡◌, length, map, ◌∙◌, sym, subst, ap, arith, ℤ, List}
+use Rattle.std.proofs.Common.{rules, ◌≡◌, length, map}
 use Rattle.flcol_c.proofs.ValidityLaws.{items_marked}
 use Rattle.flcol_c.proofs.values.write_plain.Goals as goal
 

@@ -1,0 +1,4 @@
+pub mod Bitmaps
+pub mod Answers
+pub mod Errors
+pub mod Operators
