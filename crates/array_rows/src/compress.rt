@@ -1,7 +1,10 @@
-//! The smallest of all nestings.
+//! The smallest of all nestings, and what a scheme takes by statistics.
 
 use crate::answer_built;
-use fl_compress::{Limits, compress_within};
+use crate::schemes::show_error;
+use fl_compress::{Limits, compress_within, size_of, statistics_of};
+use fl_encode::Scheme;
+use fl_encode::text::parse;
 use fl_serde::nbytes;
 use row_reader::asked::Asked;
 use row_reader::columns::width_of;
@@ -34,8 +37,32 @@ fn show(asked: Asked, limits: &Limits, answer: &mut Text) {
     answer_built(asked.with_words(&["back"]), &compressed, 0, answer);
 }
 
-/// Answers a question about the smallest array that the encodings within limits make of a column.
+/// Answers the bytes that the first column takes by a scheme, as its statistics say.
+fn show_size(asked: Asked, scheme: &Scheme, answer: &mut Text) {
+    match statistics_of(asked.alloc, asked.column(0)) {
+        Ok(statistics) => match size_of(scheme, &statistics) {
+            Some(bytes) => answer.count(bytes as usize),
+            None => answer.word("no size"),
+        },
+        Err(error) => answer.refusal(error),
+    }
+}
+
+/// Answers the bytes that the first column takes by the scheme of a text.
+fn ask_size(asked: Asked, answer: &mut Text) {
+    match parse(asked.alloc, asked.word(1).as_bytes()) {
+        Ok(scheme) => show_size(asked, &scheme, answer),
+        Err(error) => show_error(error, answer),
+    }
+}
+
+/// Answers a question about the smallest array that the encodings within limits make of a column, or about the bytes that a
+/// scheme takes.
 pub(crate) fn ask(asked: Asked, answer: &mut Text) -> bool {
+    if asked.word(0) == "size" {
+        ask_size(asked, answer);
+        return true;
+    }
     if asked.word(0) != "compress" {
         return false;
     }

@@ -9,7 +9,7 @@ use row_reader::text::Text;
 use std::alloc::Global;
 
 /// Adds why a text gives no scheme: the position of its first wrong byte, or that memory ran out.
-fn show_error(error: SchemeError, answer: &mut Text) {
+pub(crate) fn show_error(error: SchemeError, answer: &mut Text) {
     match error {
         SchemeError::WrongByte(position) => {
             answer.word("wrong byte");

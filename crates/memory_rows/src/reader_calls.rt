@@ -10,7 +10,7 @@ use fl_bitpacking::unpack_iter::{
     BitPacked, BitPackingStrategy, BitUnpackedChunks, UnpackedChunks, UnpackedItems,
 };
 use fl_column::{PhysicalPType, PrimitiveArray};
-use fl_types::{FastLanesError, NativePType, match_each_integer_ptype};
+use fl_types::{FastLanesError, NativePType, PType, match_each_integer_ptype};
 use row_reader::columns::Made;
 use std::alloc::Global;
 
@@ -135,4 +135,28 @@ pub(crate) fn data_with(array: &BitPackedArray, width: usize, offset: usize) -> 
 pub(crate) fn lent(array: &BitPackedArray) -> Number {
     let ptype = array.packed_data().ptype();
     match_each_integer_ptype!(ptype, sum_lent(array))
+}
+
+/// The sum of the items of whole blocks, at most five, that a reader lends one after another.
+fn sum_of_whole(chunks: &mut BitUnpackedChunks<'_, u16>) -> usize {
+    let mut sum = 0usize;
+    let mut blocks = chunks.full_chunks();
+    for _ in 0..5usize {
+        if let Some(items) = blocks.next() {
+            sum = sum.saturating_add(sum_of(items));
+        }
+    }
+    sum
+}
+
+/// The sum of the whole blocks that a reader of an array of `u16` lends.
+pub(crate) fn lent_whole(array: &BitPackedArray) -> Number {
+    if array.packed_data().ptype() != PType::U16 {
+        return Err(FastLanesError::TypeMismatch);
+    }
+    let mut scratch = [0u16; FL_CHUNK_SIZE];
+    match BitPackedArrayExt::unpacked_chunks::<u16>(array, &mut scratch) {
+        Ok(mut chunks) => Ok(sum_of_whole(&mut chunks)),
+        Err(refusal) => Err(refusal),
+    }
 }
