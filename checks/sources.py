@@ -10,7 +10,7 @@ from typing import NamedTuple
 ROOT = pathlib.Path(__file__).resolve().parent.parent
 CHANGED = {}  # texts that are looked at in place of what a file has, or as a file of their own, by path
 LISTED = re.compile(r"(?m)^(\w+)[^:#\n]*:(.*)$")
-LIBRARY = re.compile(r"fastlanes|vortex_fastlanes|fl_\w+")
+USERS = {"vortex_fastlanes": True, "flcol_c": False}  # what stands on the library, and whether it is of it
 BLANKED = re.compile(r"//[^\n]*|/\*.*?\*/|\"(?:\\.|[^\"\\])*\"|b?'(?:\\.|[^'\\\n])'", re.S)
 TEST = re.compile(r"#\[(?:test|cfg\(test\))\]\s*(?:pub )?(?:fn|mod)\b[^{;]*")
 FUNCTION = re.compile(r"\bfn\s+(\w+)")
@@ -18,8 +18,13 @@ OWNER = re.compile(r"(?m)^(?:pub(?:\([a-z]+\))? )?(?:impl|trait)\b([^{;]*)\{")
 CLAUSE = re.compile(r"\b(?:requires|ensures|ghost)\b[^{}]*$")
 RETURNED = re.compile(r"\s*->\s*(.*?)\s*(?:\b(?:requires|ensures|ghost|where)\b|$)", re.S)
 USE = re.compile(r"(?m)^\s*(?:pub(?:\([a-z]+\))? )?use ([^;]+);")
-CALL = re.compile(r"(\bself\.|(?<!\.)\.|\b(?:\w+(?:::<[^()]*?>)?::)+|\b)(\w+)(?:::<[^()]*?>)?\(")
-HANDED = re.compile(r"(?<=[(,\s])((?:\w+(?:::<[^()]*?>)?::)*)(\w+)(?=\s*[,)])")
+TYPES = r"::<(?:->|\{[^{}]*\}|[^<>;{}]|<(?:->|[^<>;{}]|<[^<>;{}]*>)*>)*>"  # what a name is called for, in brackets
+KEYWORD = r"(?!(?:as|break|else|for|if|impl|in|let|loop|match|move|mut|return|unsafe|where|while)\b)"
+CALL = re.compile(rf"(\bself\.|(?<!\.)\.\s*|\b(?:\w+(?:{TYPES})?::)+|\b){KEYWORD}(\w+)(?:{TYPES})?\s*\(")
+NAMED = re.compile(rf"(?<![.\w:])((?:\w+(?:{TYPES})?::)*){KEYWORD}(\w+)\b(?!\s*(?:{TYPES})?\(|\s*::\w|\s*:(?!:)|!)")  # no call
+SPACED = re.compile(r"[ \n]*::[ \n]*(?=[\w<{{*])")
+CONSTANT = re.compile(r"(?m)^ *(?:pub(?:\([a-z]+\))? )?(?:const|static) (\w+):")
+UNSURE = re.compile(r"\||<[<= ]|(?<![-=])>[>= ]")  # commas that may stand in no list, or signs that may be no brackets
 QUALIFIED = re.compile(r"(?<!::)<((?:[^<>(){};]|<[^<>(){};]*>)*)>::")  # a path that begins with a type in brackets
 MACRO = re.compile(r"\bmacro_rules!\s*(\w+)\s*(?=[{(\[])")
 CLOSURE = re.compile(r"(?:[(,={]|\bmove|\breturn)\s*(\|[^|\n]*\|)(?!\|)")
@@ -29,14 +34,21 @@ BRACKETS = {it: re.compile(rf"\{it}|(?<![-=])\{CLOSING[it]}" if it == "<" else r
 
 
 class Call(NamedTuple):
-    """A call: 'self.', '.', a path that ends in '::', or nothing; the name; what a method is called on; how many
-    arguments there are, with what it is called on; and what stands before it."""
+    """A call: 'self.', '.', a path that ends in '::', or nothing; the name; what a method is called on; the arguments, with
+    what it is called on; whether these are all told apart; what stands before it, and where it stands."""
 
     before: str
     name: str
     receiver: str
-    arguments: int
+    given: tuple
+    is_sure: bool
     behind: str
+    at: int
+
+    @property
+    def arguments(self):
+        """How many arguments there are, or None."""
+        return len(self.given) if self.is_sure else None
 
 
 class Function:
@@ -79,22 +91,37 @@ class Function:
         return calls_in(self.body)
 
     @functools.cached_property
-    def handed(self):
-        """What stands alone as an argument and may be a function: its path and its name."""
-        bound = {name for name, _ in self.parameters} | {*re.findall(r"\w+", " ".join(re.findall(r"\blet\b([^=;]*)=", self.body)))}
-        return [(path, name) for path, name in HANDED.findall(self.body) if path or name not in bound]
+    def let(self):
+        """The names that the body binds, but for those of patterns of a match."""
+        patterns = re.findall(r"\blet\b([^=;]*)=|\bfor\b([^{;]*?)\bin\b|\|([^|;{}]*)\|", self.body)
+        return {*re.findall(r"\w+", " ".join(map(" ".join, patterns)))}
+
+    @functools.cached_property
+    def named_values(self):
+        """What is named and not called, and may be a function: its path and its name."""
+        bound = self.let | {name for name, _ in self.parameters}
+        return [(path, name) for path, name in NAMED.findall(self.body) if path or name not in bound]
 
 
 class File:
-    """A source file: its text without comments and tests, its imports and its functions."""
+    """A source file: its text without comments, and that without tests too, its impls, its imports and its functions."""
 
     def __init__(self, crate, path, text):
         self.crate = crate
         self.module = "::".join(path.relative_to(ROOT / "crates" / crate / "src").with_suffix("").parts)
-        self.text = with_plain_paths(without_tests(blanked(text)))
+        self.whole = blanked(text)
+        self.text = with_plain_paths(without_tests(self.whole))
+        self.owners = [*owners_of(self.text)]
         self.imports = dict(it for use in USE.findall(self.text) if "Rattle." not in use for it in imported(use))
-        self.functions = [*functions_of(self)]
+        self.functions, self.constants = [*functions_of(self)], [*constants_of(self)]
         self.macros = {it.group(1): self.text[it.end() : end_of(self.text, it.end())] for it in MACRO.finditer(self.text)}
+        self.looked = {}  # what was asked of it before
+
+    def has(self, pattern):
+        """Whether the text has such a text."""
+        if pattern not in self.looked:
+            self.looked[pattern] = pattern.search(self.text) is not None
+        return self.looked[pattern]
 
 
 @functools.cache
@@ -111,7 +138,8 @@ def files_of(crate):
 
 def crates():
     """The crates of the repository, each with all those that it stands on, and itself."""
-    below = {name: on.split() for name, on in LISTED.findall((ROOT / "crates.txt").read_text(encoding="utf-8"))}
+    listed = ROOT / "crates.txt"
+    below = {name: on.split() for name, on in LISTED.findall(CHANGED.get(listed) or listed.read_text(encoding="utf-8"))}
     found = {}
     while len(found) < len(below):
         ready = [it for it in below if it not in found and all(on in found for on in below[it] if on in below)]
@@ -120,8 +148,10 @@ def crates():
 
 
 def library():
-    """The files of the library's crates."""
-    return [file for crate in crates() if LIBRARY.fullmatch(crate) for file in files_of(crate)]
+    """The files of the library's crates: those on which its users stand."""
+    below = crates()
+    of_library = set().union(*(below[it] for it in USERS)) - {it for it, is_part in USERS.items() if not is_part}
+    return [file for crate in below if crate in of_library for file in files_of(crate)]
 
 
 def blanked(text):
@@ -130,7 +160,8 @@ def blanked(text):
 
 
 def with_plain_paths(text):
-    """The text with `Trait::name` for `<Type as Trait>::name`, and `Type::name` for `<Type>::name`."""
+    """The text with `Trait::name` for `<Type as Trait>::name`, `Type::name` for `<Type>::name`, and no blanks in paths."""
+    text = SPACED.sub("::", text)
     return QUALIFIED.sub(lambda it: re.sub(r"<.*", "", it.group(1).rpartition(" as ")[2].strip()) + "::", text)
 
 
@@ -166,12 +197,14 @@ def calls_in(body):
     """The calls in a text."""
     found = []
     for call in CALL.finditer(body):
-        before, name = call.groups()
+        before, name = call.group(1).rstrip(), call.group(2)
         is_method = before in (".", "self.")
-        start = receiver_start(body, call.end(1) - 1) if is_method else call.start()
-        receiver = re.sub(r"\s+", "", body[start : call.end(1) - 1]) if is_method else ""
-        arguments = len(parts_of(body[call.end() : end_of(body, call.end() - 1) - 1])) + is_method
-        found.append(Call(before, name, receiver, arguments, body[:start].rstrip()[-12:]))
+        dot = call.start(1) + len(before) - 1
+        start = receiver_start(body, dot) if is_method else call.start()
+        receiver = re.sub(r"\s+", "", body[start:dot]) if is_method else ""
+        said = body[call.end() : end_of(body, call.end() - 1) - 1]
+        given, is_sure = (*[receiver][:is_method], *parts_of(said)), not UNSURE.search(said)
+        found.append(Call(before, name, receiver, given, is_sure, body[:start].rstrip()[-12:], call.start(2)))
     return found
 
 
@@ -215,12 +248,12 @@ def owners_of(text):
         said = head.group(1).strip()
         said = said[end_of(said, 0) :] if said.startswith("<") else said
         trait, _, type_ = said.partition(" where ")[0].rpartition(" for ")
-        name = re.match(r"\s*&?(?:'\w+ )?(?:\w+::)*(\w+)", type_).group(1)
+        name = re.match(r"[\s&(\[]*(?:'\w+ )?(?:\w+::)*(\w+)", type_).group(1)
         yield head.end() - 1, end_of(text, head.end() - 1), name, re.sub(r"<.*", "", trait.strip()).rpartition("::")[2]
 
 
 def functions_of(file):
-    text, owners = file.text, [*owners_of(file.text)]
+    text = file.text
     for found in FUNCTION.finditer(text):
         at = found.end()
         if text[at] == "<":
@@ -228,10 +261,36 @@ def functions_of(file):
         generics, end = text[found.end() : at], end_of(text, at)
         parameters = [parameter(it) for it in parts_of(text[at + 1 : end - 1])]
         returned, body = rest_of(text, end)
-        owner, trait = next(((name, of) for start, stop, name, of in owners if start < found.start() < stop), ("", ""))
+        owner, trait = owner_at(file.owners, found.start())
         line = text[text.rfind("\n", 0, found.start()) + 1 : found.start()]
         is_public = line.lstrip().startswith("pub ") or trait != ""
         yield Function(file, owner, trait, found.group(1), generics, parameters, returned, body, is_public)
+
+
+def constants_of(file):
+    """The constants and statics that have a value, as functions without parameters."""
+    for found in CONSTANT.finditer(file.text):
+        signs = signs_outside(file.text, found.end())
+        equals = next(at for at, sign in signs if sign in "=;,)>")
+        if file.text[equals] == "=":
+            value = file.text[equals + 1 : next(at for at, sign in signs if sign == ";")]
+            owner, trait = owner_at(file.owners, found.start())
+            yield Function(file, owner, trait, found.group(1), "", [], "", value, False)
+
+
+def signs_outside(text, start):
+    """The signs of a text from there on that stand in no brackets, each with its place. An arrow closes nothing."""
+    depth = 0
+    for at in range(start, len(text)):
+        sign, is_arrow = text[at], text[at - 1] in "-=" and text[at] == ">"
+        if depth == 0 and not is_arrow:
+            yield at, sign
+        depth += (sign in "([{<") - (sign in ")]}>" and not is_arrow)
+
+
+def owner_at(owners, at):
+    """The type or trait in whose impl this place lies, and the trait that it is an impl of."""
+    return next(((name, of) for start, stop, name, of in owners if start < at < stop), ("", ""))
 
 
 def parameter(said):
