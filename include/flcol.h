@@ -23,9 +23,10 @@
  *   - one call at a time works on an array, reads too. An array may be passed to another thread, by what orders the two:
  *     a lock, the start or the end of a thread. Arrays made of one another may be used by different threads.
  *
- * Each call but flcol_free and flcol_abi_version answers a status, 0 where it did what it is for. With any other status
- * it has written nothing, and each array is as it was. The first status that applies in the order of a call's list is
- * the answer. FLCOL_OUT_OF_MEMORY may come from any call that makes or decodes an array, and is in no list.
+ * Each call but flcol_free and those that say a version or what a status means answers a status, 0 where it did what it
+ * is for. With any other status it has written nothing, and each array is as it was. The first status that applies in the
+ * order of a call's list is the answer. FLCOL_OUT_OF_MEMORY may come from any call that makes, decodes, describes
+ * or writes an array, and is in no list.
  *
  * A call with `out` makes a new array there, and frees the one that `out` held before.
  *
@@ -42,8 +43,14 @@
 extern "C" {
 #endif
 
+/* The version of the library. */
+#define FLCOL_VERSION_MAJOR 1
+#define FLCOL_VERSION_MINOR 1
+#define FLCOL_VERSION_PATCH 0
+#define FLCOL_VERSION "1.1.0"
+
 /* The version of this interface. */
-#define FLCOL_ABI_VERSION 1
+#define FLCOL_ABI_VERSION 2
 
 /* An array on the heap, or none. */
 typedef struct flcol_array {
@@ -62,7 +69,8 @@ typedef struct flcol_range {
     size_t len;
 } flcol_range;
 
-/* Statuses. 1 to 40 are the refusals of the library, 42 that of a container; from 100 on those of this interface. */
+/* Statuses. 1 to 40 are the refusals of the library, 42 that of a container; from 100 on those of this interface.
+   flcol_status_message says what each means. */
 enum {
     FLCOL_OK = 0,
     FLCOL_OUT_OF_MEMORY = 1,
@@ -110,7 +118,8 @@ enum {
     FLCOL_WRONG_TYPE = 101,   /* the array is not of the integers that the call's name says */
     FLCOL_WRONG_LENGTH = 102, /* a buffer has not the length that is needed */
     FLCOL_BAD_SCHEME = 103,   /* the text says no scheme */
-    FLCOL_BAD_OPERATOR = 104  /* no operator has the number */
+    FLCOL_BAD_OPERATOR = 104, /* no operator has the number */
+    FLCOL_STREAM = 105        /* the stream failed */
 };
 
 /* Types, by the numbers that containers have; with FLCOL_NULLABLE added items may be null. FLCOL_BOOL is the type of
@@ -174,6 +183,11 @@ int32_t flcol_constant_i16(int16_t value, uint8_t is_null, size_t len, flcol_arr
 int32_t flcol_constant_i32(int32_t value, uint8_t is_null, size_t len, flcol_array *out);
 int32_t flcol_constant_i64(int64_t value, uint8_t is_null, size_t len, flcol_array *out);
 
+/* A plain array of booleans: the first `len` bits of a bitmap, of which those are null whose bits of validity are not set.
+   Validity as of flcol_from_u8. FLCOL_WRONG_LENGTH: there are fewer bits than booleans. FLCOL_VALIDITY_LENGTH. */
+int32_t flcol_from_bool(const uint8_t *bits, size_t bits_len, size_t len, const uint8_t *validity, size_t validity_len,
+                        flcol_array *out);
+
 /* The array of a container's bytes, which are copied.
    FLCOL_BAD_CONTAINER: the bytes are none. Any of 2 to 40: its array is not sound. */
 int32_t flcol_deserialize(const uint8_t *bytes, size_t len, flcol_array *out);
@@ -182,12 +196,13 @@ int32_t flcol_deserialize(const uint8_t *bytes, size_t len, flcol_array *out);
 
 /* The same column by a scheme, such as `for(bitpacked)`; the text needs no 0 behind it. The words are `primitive`,
    `constant`, `bitpacked`, `bitpacked:7`, `blocked`, `for`, `forc`, `forw`, `forcw`, `delta`, `rle`, in parentheses the
-   schemes of the children, `_` for a plain one. A text from a stranger should be short: nesting has no limit.
+   schemes of the children, `_` for a plain one. At most fourteen words stand in one another, so that what
+   is made has a container.
    FLCOL_NO_ARRAY. FLCOL_BAD_SCHEME. FLCOL_NOT_INTEGER: an array of booleans. Then the encoding's own refusal. */
 int32_t flcol_encode(flcol_array *array, const char *scheme, size_t scheme_len, flcol_array *out);
 
-/* The smallest array of the same column that any of the library's candidate schemes makes, the first of several.
-   FLCOL_NO_ARRAY. FLCOL_NOT_INTEGER. */
+/* The smallest array of the same column that any of the library's candidate schemes makes, the first of several, where
+   the validity has no bits if no item is null, or each is. FLCOL_NO_ARRAY. FLCOL_NOT_INTEGER. */
 int32_t flcol_compress(flcol_array *array, flcol_array *out);
 
 /* ---- Look ---- */
@@ -213,6 +228,11 @@ int32_t flcol_scheme_len(flcol_array *array, size_t *len);
    and that `forc` is `for` where one reference serves all chunks. FLCOL_NO_ARRAY. FLCOL_NOT_INTEGER. FLCOL_WRONG_LENGTH. */
 int32_t flcol_scheme(flcol_array *array, char *text, size_t len);
 
+/* What a container holds, as text: `u32? for(bitpacked:7), 1000 items, 3.25 bits an item`. The bits are those of the whole
+   container; booleans have no scheme, and no items no bits. At most `room` bytes are written, the text's first, with no 0
+   behind; `text_len` is how many the whole text has. The statuses of flcol_deserialize. */
+int32_t flcol_inspect(const uint8_t *container, size_t len, char *text, size_t room, size_t *text_len);
+
 /* 1 where all items are equal, a null to a null, else 0. FLCOL_NO_ARRAY. FLCOL_NOT_INTEGER. */
 int32_t flcol_is_constant(flcol_array *array, uint8_t *answer);
 
@@ -235,6 +255,10 @@ int32_t flcol_read_i16(flcol_array *array, int16_t *values, size_t len, uint8_t 
 int32_t flcol_read_i32(flcol_array *array, int32_t *values, size_t len, uint8_t *validity, size_t validity_len);
 int32_t flcol_read_i64(flcol_array *array, int64_t *values, size_t len, uint8_t *validity, size_t validity_len);
 
+/* The same of an array of booleans, a bit each. `bits_len` is (n + 7) / 8 for n items; the bit at a null says nothing.
+   FLCOL_NO_ARRAY. FLCOL_WRONG_TYPE: the array is of integers. FLCOL_WRONG_LENGTH. FLCOL_VALIDITY_LENGTH. */
+int32_t flcol_read_bool(flcol_array *array, uint8_t *bits, size_t bits_len, uint8_t *validity, size_t validity_len);
+
 /* The item at an index: `*is_null` is 1 at a null, and `*value` 0 then; else 0.
    FLCOL_NO_ARRAY. FLCOL_WRONG_TYPE. FLCOL_INDEX_OUT_OF_BOUNDS. */
 int32_t flcol_get_u8(flcol_array *array, size_t index, uint8_t *value, uint8_t *is_null);
@@ -250,6 +274,11 @@ int32_t flcol_get_i64(flcol_array *array, size_t index, int64_t *value, uint8_t 
 
 /* The items from `from` to below `to`, in the same encodings. FLCOL_NO_ARRAY. FLCOL_RANGE_OUT_OF_BOUNDS. */
 int32_t flcol_slice(flcol_array *array, size_t from, size_t to, flcol_array *out);
+
+/* The array cut into `count` slices, one after another, for as many workers: each begins at a whole block of 1024 items, and
+   they have as many blocks as one another, the first ones one more; some are empty where there are fewer blocks. The slices
+   share the array's bytes, and each may be used by a thread of its own. FLCOL_NO_ARRAY. */
+int32_t flcol_split(flcol_array *array, flcol_array *out, size_t count);
 
 /* The items at these indices, null where an index is null. An index under a null is not looked at.
    FLCOL_NO_ARRAY. FLCOL_VALIDITY_LENGTH. FLCOL_NOT_INTEGER. FLCOL_INDEX_OUT_OF_BOUNDS. */
@@ -310,6 +339,28 @@ int32_t flcol_between_i32(flcol_array *array, int32_t lower, int32_t upper, uint
                           uint8_t *bits, size_t bits_len, uint8_t *validity, size_t validity_len);
 int32_t flcol_between_i64(flcol_array *array, int64_t lower, int64_t upper, uint8_t lower_strict, uint8_t upper_strict,
                           uint8_t *bits, size_t bits_len, uint8_t *validity, size_t validity_len);
+
+/* ---- Answers ---- */
+
+/* Bitmaps of answers, joined by SQL's logic, where a null stands for an answer that isn't known: an `and` is false where
+   either answer is false, an `or` is true where either is true, and else each is null where either answer is. The result is
+   written over the first answers. A bitmap of validity has as many bytes as its answers, or none, where no answer is null.
+   FLCOL_WRONG_LENGTH: `other_len` is not `bits_len`, or a validity has another length than these and 0.
+   FLCOL_VALIDITY_LENGTH: there is no room for the result's validity, as only the other answers have one. */
+int32_t flcol_and(uint8_t *bits, size_t bits_len, uint8_t *validity, size_t validity_len, const uint8_t *other,
+                  size_t other_len, const uint8_t *other_validity, size_t other_validity_len);
+int32_t flcol_or(uint8_t *bits, size_t bits_len, uint8_t *validity, size_t validity_len, const uint8_t *other,
+                 size_t other_len, const uint8_t *other_validity, size_t other_validity_len);
+int32_t flcol_xor(uint8_t *bits, size_t bits_len, uint8_t *validity, size_t validity_len, const uint8_t *other,
+                  size_t other_len, const uint8_t *other_validity, size_t other_validity_len);
+
+/* The first `len` answers turned, the bits behind them 0. FLCOL_WRONG_LENGTH: `bits_len` is not (len + 7) / 8. */
+int32_t flcol_not(uint8_t *bits, size_t bits_len, size_t len);
+
+/* How many of the first `len` answers are true, and not null. FLCOL_WRONG_LENGTH: `bits_len` is not (len + 7) / 8, or
+   `validity_len` is neither that nor 0. */
+int32_t flcol_count_bits(const uint8_t *bits, size_t bits_len, const uint8_t *validity, size_t validity_len, size_t len,
+                         size_t *total);
 
 /* ---- Blocks ---- */
 
@@ -382,6 +433,82 @@ int32_t flcol_undelta_u32(const uint32_t *deltas, size_t delta_blocks, const uin
 int32_t flcol_undelta_u64(const uint64_t *deltas, size_t delta_blocks, const uint64_t *bases, size_t bases_len, uint64_t *items,
                           size_t blocks);
 
+/* ---- Arrow ---- */
+
+/* The structs of Arrow's C Data Interface and C Stream Interface, for programs that have them from nowhere else. Whoever
+   holds one calls its `release`, once; a struct whose `release` is NULL has been released, or moved away. */
+#ifndef ARROW_C_DATA_INTERFACE
+#define ARROW_C_DATA_INTERFACE
+
+#define ARROW_FLAG_DICTIONARY_ORDERED 1
+#define ARROW_FLAG_NULLABLE 2
+#define ARROW_FLAG_MAP_KEYS_SORTED 4
+
+struct ArrowSchema {
+    const char *format;
+    const char *name;
+    const char *metadata;
+    int64_t flags;
+    int64_t n_children;
+    struct ArrowSchema **children;
+    struct ArrowSchema *dictionary;
+    void (*release)(struct ArrowSchema *);
+    void *private_data;
+};
+
+struct ArrowArray {
+    int64_t length;
+    int64_t null_count;
+    int64_t offset;
+    int64_t n_buffers;
+    int64_t n_children;
+    const void **buffers;
+    struct ArrowArray **children;
+    struct ArrowArray *dictionary;
+    void (*release)(struct ArrowArray *);
+    void *private_data;
+};
+
+#endif
+
+#ifndef ARROW_C_STREAM_INTERFACE
+#define ARROW_C_STREAM_INTERFACE
+
+struct ArrowArrayStream {
+    int (*get_schema)(struct ArrowArrayStream *, struct ArrowSchema *out);
+    int (*get_next)(struct ArrowArrayStream *, struct ArrowArray *out);
+    const char *(*get_last_error)(struct ArrowArrayStream *);
+    void (*release)(struct ArrowArrayStream *);
+    void *private_data;
+};
+
+#endif
+
+/* The column as an array of Arrow, decoded into memory of its own, and its type. Both structs are the caller's to release,
+   in either order and by any thread; what they held before is not looked at. The array is as it was. FLCOL_NO_ARRAY. */
+int32_t flcol_export_arrow(flcol_array *array, struct ArrowArray *out_array, struct ArrowSchema *out_schema);
+
+/* A plain array of what an array of Arrow holds, at any offset, from buffers at any address. It is nullable where the schema
+   says so, or an item is null: the bits of validity decide that. Both structs are then taken: they are released, after all
+   was copied. With any other status neither is.
+   FLCOL_NO_ARRAY: one of them has been released. FLCOL_WRONG_TYPE: the type is none of integers or booleans, or is of a
+   dictionary. FLCOL_BUFFER_COUNT: there are not two buffers. FLCOL_WRONG_LENGTH: a length, an offset or a count of nulls
+   that no array has, or items without values. FLCOL_VALIDITY_LENGTH: the nulls that are counted have no bits. */
+int32_t flcol_import_arrow(struct ArrowArray *array, struct ArrowSchema *schema, flcol_array *out);
+
+/* A stream of these arrays as chunks, each decoded when it is asked for, and freed then. They must be of one type, but that
+   only some may be nullable; the stream's type is nullable then. The stream takes the arrays, whose words are empty from then
+   on; it is the caller's to release.
+   FLCOL_NO_ARRAY: there is no array, or one of the words holds none. FLCOL_TYPE_MISMATCH. */
+int32_t flcol_export_arrow_stream(flcol_array *arrays, size_t count, struct ArrowArrayStream *out);
+
+/* The next chunk of a stream of integers or booleans, as flcol_import_arrow makes it. At the end of the stream `out` is
+   freed, and holds none from then on. The stream stays the caller's to release; after a failure nothing more should be read
+   from it, as the chunk that failed may be lost.
+   FLCOL_NO_ARRAY: the stream has been released. FLCOL_STREAM: it failed; its `get_last_error` may say why. Then the statuses
+   of flcol_import_arrow, of which FLCOL_WRONG_TYPE of the schema comes before a chunk is read. */
+int32_t flcol_import_arrow_stream(struct ArrowArrayStream *stream, flcol_array *out);
+
 /* ---- Give back ---- */
 
 /* How many bytes flcol_serialize writes. FLCOL_NO_ARRAY. FLCOL_BAD_CONTAINER: the array has no container, as where more
@@ -394,21 +521,13 @@ int32_t flcol_serialize(flcol_array *array, uint8_t *bytes, size_t len);
 /* Frees the array, if one is held, which is none from then on. */
 void flcol_free(flcol_array *array);
 
-/* The name of a status, as `OutOfMemory`. */
-static inline const char *flcol_status_name(int32_t status) {
-    static const char *const names[] = {
-        "Ok", "OutOfMemory", "NotInteger", "NegativeValue", "WidthTooLarge", "AllBlocksNative", "BlockCount",
-        "OffsetTooLarge", "LengthOverflow", "ValidityLength", "PatchType", "PatchLength", "PatchContent", "PackedLength",
-        "BlockOffsetsType", "BlockOffsetsCount", "BlockBoundary", "BlockSpan", "TypeMismatch", "NullReference",
-        "ReferenceCount", "NoMinimum", "ChildNullable", "ChildLength", "RangeBeyondChild", "RunIndexType", "RunOffsets",
-        "RunIndex", "TooManyWidths", "NotGlobal", "IndexOutOfBounds", "RangeOutOfBounds", "MaskLength", "CastNull",
-        "CastOutOfRange", "UnknownId", "BadMetadata", "UnknownType", "BufferCount", "ChildCount", "ChildMismatch"};
-    static const char *const own[] = {"NoArray", "WrongType", "WrongLength", "BadScheme", "BadOperator"};
-    if (status >= 0 && status <= 40) return names[status];
-    if (status == FLCOL_BAD_CONTAINER) return "BadContainer";
-    if (status >= 100 && status <= 104) return own[status - 100];
-    return "Unknown";
-}
+/* ---- Statuses ---- */
+
+/* The name of a status, as `OutOfMemory`, or `Unknown` where the number is none. */
+const char *flcol_status_name(int32_t status);
+
+/* What a status says: a sentence without a capital and a dot, as `an index is not below the number of items`. */
+const char *flcol_status_message(int32_t status);
 
 #ifdef __cplusplus
 }

@@ -5,6 +5,9 @@
 # The processor of most machines of today, and what the kernel calls that it has beyond x86-64-v2.
 newer=x86-64-v3 newer_has=(avx2 bmi1 bmi2 fma f16c movbe abm)
 
+# What a product is made of besides crates, which the script may set.
+sources=()
+
 rooms=$here/out/rooms crates=()
 declare -A below=() niceness=() begun=() share=() crate_of=() proved=()
 
@@ -34,9 +37,9 @@ measure_chains() {
   done
 }
 
-# Whether the product is there, and newer than all that its crates are made of.
+# Whether the product is there, and newer than all that it and its crates are made of.
 is_current() {
-  [ -e "$product" ] && [ -z "$(find "$here/crates.txt" "${crates[@]/#/$here/crates/}" -path '*/out' -prune \
+  [ -e "$product" ] && [ -z "$(find "$here/crates.txt" "${sources[@]}" "${crates[@]/#/$here/crates/}" -path '*/out' -prune \
     -o -newer "$product" -type f -print -quit)" ]
 }
 

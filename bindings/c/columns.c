@@ -25,6 +25,29 @@ static size_t segment(size_t l) {
 #define UNSIGNED_ONLY
 #include "each_type.h"
 
+/* Each status has a name and a sentence of its own, and every other number those of none. */
+static void statuses(void) {
+    const char *no_name = flcol_status_name(-1), *no_message = flcol_status_message(-1);
+    CHECK(strcmp(no_name, "Unknown") == 0 && strcmp(no_message, "no status has this number") == 0);
+    for (int32_t status = -300; status <= 300; status++) {
+        const char *name = flcol_status_name(status), *message = flcol_status_message(status);
+        int is_refusal = status >= FLCOL_OK && status <= FLCOL_CHILD_MISMATCH;
+        int is_own = status == FLCOL_BAD_CONTAINER || (status >= FLCOL_NO_ARRAY && status <= FLCOL_STREAM);
+        CHECK((strcmp(name, no_name) != 0) == (is_refusal || is_own) && (strcmp(message, no_message) != 0) == (is_refusal || is_own));
+        CHECK(strlen(name) > 1 && strlen(message) > 10 && message[strlen(message) - 1] != '.');
+    }
+    CHECK(strcmp(flcol_status_name(FLCOL_OK), "Ok") == 0 && strcmp(flcol_status_name(FLCOL_BAD_CONTAINER), "BadContainer") == 0);
+    CHECK(strcmp(flcol_status_message(FLCOL_INDEX_OUT_OF_BOUNDS), "an index is not below the number of items") == 0);
+    CHECK(strcmp(flcol_status_name(INT32_MIN), no_name) == 0 && strcmp(flcol_status_message(INT32_MAX), no_message) == 0);
+}
+
+/* The version in words is the one in numbers. */
+static void version(void) {
+    char said[40];
+    snprintf(said, sizeof said, "%d.%d.%d", FLCOL_VERSION_MAJOR, FLCOL_VERSION_MINOR, FLCOL_VERSION_PATCH);
+    CHECK(strcmp(said, FLCOL_VERSION) == 0 && flcol_abi_version() == FLCOL_ABI_VERSION);
+}
+
 /* Calls that have no type, on none and with what no call takes. */
 static void refusals(void) {
     flcol_array none = {NULL}, out = {NULL};
@@ -33,7 +56,6 @@ static void refusals(void) {
     uint8_t byte = 0;
     uint64_t index = 0;
     flcol_range range = {0, 1};
-    CHECK(flcol_abi_version() == FLCOL_ABI_VERSION);
     CHECK(flcol_len(&none, &number) == FLCOL_NO_ARRAY && flcol_dtype(&none, &byte) == FLCOL_NO_ARRAY);
     CHECK(flcol_null_count(&none, &number) == FLCOL_NO_ARRAY && flcol_is_constant(&none, &byte) == FLCOL_NO_ARRAY);
     CHECK(flcol_is_sorted(&none, 1, &byte) == FLCOL_NO_ARRAY);
@@ -55,7 +77,6 @@ static void refusals(void) {
     }
     CHECK(encode(&out, "bitpacked:33", &none) == FLCOL_WIDTH_TOO_LARGE && encode(&out, "constant", &none) == FLCOL_CAST_OUT_OF_RANGE);
     CHECK(flcol_deserialize(NULL, 0, &out) == FLCOL_BAD_CONTAINER && out.at == held);
-    CHECK(strcmp(flcol_status_name(FLCOL_BAD_CONTAINER), "BadContainer") == 0 && strcmp(flcol_status_name(-1), "Unknown") == 0);
     flcol_free(&out);
 }
 
@@ -118,6 +139,8 @@ static void booleans(void) {
 }
 
 int main(void) {
+    statuses();
+    version();
     columns_u8(), columns_u16(), columns_u32(), columns_u64();
     columns_i8(), columns_i16(), columns_i32(), columns_i64();
     blocks_u8(), blocks_u16(), blocks_u32(), blocks_u64();

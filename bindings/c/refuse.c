@@ -1,44 +1,8 @@
 /* Each request for memory of each call refused in turn: the call answers FLCOL_OUT_OF_MEMORY, has written nothing, holds no more
    memory than before, and its array is as it was. It is linked with --wrap=malloc, --wrap=realloc and --wrap=free. */
-#include "checking.h"
+#include "refusing.h"
 
-enum { ALL = -1, LAST_CALL = -1, ITEMS = 2500, ITEM_BYTES = (ITEMS + 7) / 8 };
-
-/* How many requests are granted before one is refused, how many pieces of memory are held, how many were refused. */
-static long granted = ALL, live, refusals;
-
-static int is_refused(void) {
-    if (granted > 0) granted--;
-    else if (granted == 0) return 1;
-    return 0;
-}
-
-#ifdef __cplusplus
-extern "C" {
-#endif
-void *__real_malloc(size_t len);
-void *__real_realloc(void *old, size_t len);
-void __real_free(void *old);
-
-void *__wrap_malloc(size_t len) {
-    if (is_refused()) return NULL;
-    live++;
-    return __real_malloc(len);
-}
-
-void *__wrap_realloc(void *old, size_t len) {
-    if (is_refused()) return NULL;
-    live += old == NULL;
-    return __real_realloc(old, len);
-}
-
-void __wrap_free(void *old) {
-    live -= old != NULL;
-    __real_free(old);
-}
-#ifdef __cplusplus
-}
-#endif
+enum { LAST_CALL = -1, ITEMS = 2500, ITEM_BYTES = (ITEMS + 7) / 8 };
 
 static flcol_array array = {NULL}, out = {NULL};
 static uint8_t validity[ITEM_BYTES], bits[ITEM_BYTES], container[60000], written[60000];
