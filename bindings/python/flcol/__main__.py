@@ -2,23 +2,31 @@
 
     python3 -m flcol inspect FILE..
     python3 -m flcol compress [--type u32] [--scheme 'for(bitpacked)'] IN OUT
-    python3 -m flcol decode IN OUT
-    python3 -m flcol copy [--type i64] [--scheme 'for(bitpacked)'] [--chunk 1000000] IN
+    python3 -m flcol decode [--limit 1000000] IN OUT
+    python3 -m flcol copy [--type i64] [--scheme 'for(bitpacked)'] [--chunk 1000000] [--closed] IN
 
 A file is a container, a .npy file of one dimension, or text with an integer or `null` in each line, which needs a type.
 What is decoded is text, or a .npy file where its name ends so. `copy` writes a line for each chunk of a column, as COPY of
-PostgreSQL reads it: its number, a tab, and its container in hexadecimal digits. `-` is standard input or output.
+PostgreSQL reads it: its number, a tab, and its container in hexadecimal digits. With --closed a last line follows when the
+whole column was written, with the number of lines before it and a null, which whoever reads from a pipe can ask for. `-` is
+standard input or output. An error is one line on standard error, and the status 1.
 """
 from __future__ import annotations
 
 import argparse
+import os
 import sys
 import time
 from contextlib import contextmanager
-from typing import BinaryIO, Iterator, Optional
+from typing import Any, BinaryIO, Iterator, Optional
 
-from . import Array, Error, __version__
+from . import __version__
+from ._column import Column
+from ._dtypes import full_name
 from ._files import BadFile, Tell, pieces, read, writer
+
+#: So many items are decoded unasked, though the container has few bytes.
+UNASKED = 1 << 28
 
 
 @contextmanager
@@ -45,13 +53,16 @@ def progress(what: str) -> Iterator[Tell]:
 def opened(name: str, mode: str) -> Iterator[BinaryIO]:
     """A file, or a standard stream for `-`."""
     if name == "-":
-        yield sys.stdin.buffer if "r" in mode else sys.stdout.buffer
+        stream = sys.stdin if "r" in mode else sys.stdout
+        if stream is None:
+            raise BadFile("the standard stream is closed")
+        yield stream.buffer
     else:
         with open(name, mode) as file:
             yield file  # type: ignore[misc]
 
 
-def column_of(name: str, dtype: Optional[str]) -> Array:
+def column_of(name: str, dtype: Optional[str]) -> Column:
     with opened(name, "rb") as file, progress("reading") as tell:
         return read(file, dtype, tell)
 
@@ -60,15 +71,18 @@ def inspect(words: argparse.Namespace) -> None:
     """Says what each file holds."""
     for name in words.files:
         column = column_of(name, words.type)
-        items, taken = len(column), column.nbytes
+        items, taken = column.size, column.nbytes
         each = f", {8 * taken / items:.2f} bits an item" if items else ""
         scheme = "" if column.dtype.startswith("bool") else f", {column.scheme}"
-        print(f"{name}: {items} items of {column.dtype}, {column.null_count} null, {taken} bytes{each}{scheme}")
+        say(f"{name}: {items} items of {column.dtype}, {column.null_count} null, {taken} bytes{each}{scheme}")
 
 
-def encoded(column: Array, scheme: Optional[str]) -> Array:
+def encoded(column: Any, scheme: Optional[str]) -> Column:
     """The column by a scheme, or by the one of the fewest bytes."""
-    return column.encode(scheme) if scheme else column.compress()
+    if column.dtype.startswith("bool"):
+        raise BadFile("no scheme encodes booleans")
+    made: Column = column.encode(scheme) if scheme else column.compress()
+    return made
 
 
 def compress(words: argparse.Namespace) -> None:
@@ -84,18 +98,30 @@ def compress(words: argparse.Namespace) -> None:
 def decode(words: argparse.Namespace) -> None:
     """Writes the items of a container."""
     column = column_of(words.source, None)
+    most = max(UNASKED, 8 * column.nbytes) if words.limit is None else words.limit
+    if column.size > most:
+        raise BadFile(f"{words.source} has {column.size} items, more than {most}: --limit {column.size} decodes it all the same")
     write = writer(column, words.target)
     with opened(words.target, "wb") as file, progress("writing") as tell:
         write(column, file, tell)
 
 
 def copy(words: argparse.Namespace) -> None:
-    """Writes a line for each chunk of a column."""
+    """Writes a line for each chunk of a column as COPY reads it, and one that closes them: how many there are, and a null."""
+    written = 0
     with opened(words.source, "rb") as file, progress("reading") as tell:
-        for number, chunk in enumerate(pieces(file, words.type, words.chunk, tell)):
-            container = bytes(encoded(chunk, words.scheme))
-            sys.stdout.write(f"{number}\t\\\\x{container.hex()}\n")
-        sys.stdout.flush()
+        for chunk in pieces(file, words.type, words.chunk, tell):
+            say(f"{written}\t\\\\x{bytes(encoded(chunk, words.scheme)).hex()}")
+            written += 1
+        if words.closed:
+            say(f"{written}\t\\N")
+
+
+def say(line: str) -> None:
+    """Writes a line to standard output."""
+    if sys.stdout is None:
+        raise BadFile("the standard stream is closed")
+    print(line)
 
 
 def count(word: str) -> int:
@@ -121,10 +147,12 @@ def parser() -> argparse.ArgumentParser:
     makes.set_defaults(run=compress)
 
     copies = commands.add_parser("copy", help="write a line for each chunk of a column, as COPY reads it")
+    copies.add_argument("--closed", action="store_true", help="write a last line, which says that all chunks were written")
     copies.add_argument("--chunk", type=count, default=1_000_000, help="how many items a chunk has")
     copies.set_defaults(run=copy)
 
     reads = commands.add_parser("decode", help="write the items of a container as text or .npy")
+    reads.add_argument("--limit", type=count, help=f"the most items to write; {UNASKED}, or 8 for each byte, if it is left out")
     reads.set_defaults(run=decode)
 
     for command in (makes, copies, reads):
@@ -134,7 +162,8 @@ def parser() -> argparse.ArgumentParser:
     for command in (makes, copies):
         command.add_argument("--scheme", help="the tree of encodings; that of the fewest bytes if it is left out")
     for command in (looks, makes, copies):
-        command.add_argument("--type", help="the type of lines of text, u8 to u64 or i8 to i64, with a ? behind for nulls")
+        said = "the type of lines of text, u8 to u64 or i8 to i64, or by NumPy's name, with a ? behind for nulls"
+        command.add_argument("--type", type=full_name, help=said)
     return whole
 
 
@@ -142,10 +171,24 @@ def main() -> int:
     words = parser().parse_args()
     try:
         words.run(words)
-    except (Error, BadFile, OSError, TypeError, MemoryError) as error:
-        print(f"flcol: {error}", file=sys.stderr)
-        return 1
+        if sys.stdout is not None:
+            sys.stdout.flush()
+    except (ValueError, TypeError, ArithmeticError, LookupError, OSError, MemoryError, RecursionError, NotImplementedError) as error:
+        return failed(" ".join(str(error).split()) or type(error).__name__)
+    except KeyboardInterrupt:
+        return failed("interrupted")
     return 0
+
+
+def failed(said: str) -> int:
+    """The status of an error, which is said in a line. What standard output does not take is thrown away."""
+    try:
+        if sys.stdout is not None:
+            sys.stdout.flush()
+    except OSError:
+        os.dup2(os.open(os.devnull, os.O_WRONLY), 1)
+    print(f"flcol: {said}", file=sys.stderr)
+    return 1
 
 
 if __name__ == "__main__":

@@ -1,112 +1,274 @@
-"""A bit for each item."""
+"""Arrays of booleans."""
 from __future__ import annotations
 
-import sys
-from typing import Any, Iterator, Optional
+import operator
+import threading
+from ctypes import byref
+from typing import Any, Callable, Optional
 
-from ._buffers import both, bytes_of_bits, numpy, unpack_bits
+from ._bits import bit, both, bytes_of_bits, count, integer_of, inverted, is_flag, joined, ones, pack_bits, some, unpack_bits
+from ._buffers import address, kind_of
+from ._column import Column
+from ._dtypes import BOOL, NULLABLE, UINT8, numpy, parsed
+from ._library import CAST_NULL, Error, Handle, call
+
+_NOT_EQ = 1
 
 
-class BoolArray:
-    """What a comparison answers: True, False, or None where the item is null. It doesn't change.
+class BoolArray(Column):
+    """A column of True, False and None (null), as a comparison answers it. It doesn't change.
 
     ``bits`` and ``validity`` are bitmaps in Arrow's order; the bit at a null says nothing, and a validity of None says
-    that no item is null. ``&``, ``|`` and ``~`` go by SQL's logic, where null is unknown.
+    that no item is null. ``&``, ``|``, ``^`` and ``~`` go by SQL's logic, where null is unknown: ``False & None`` is False,
+    ``True | None`` is True, and any other result with a null in it is null. Either side may be a mask of NumPy. An array
+    has no truth of its own: ``any()`` or ``all()`` says which one is meant.
     """
 
-    __slots__ = ("bits", "validity", "_len")
-    __array_ufunc__ = None
+    __slots__ = ("_answers",)
 
     def __init__(self, bits: bytes, validity: Optional[bytes], length: int) -> None:
-        self.bits, self.validity, self._len = bits, validity, length
+        self._size, self._handle, self._lock = operator.index(length), None, threading.RLock()
+        self._answers: Any = bytes(memoryview(bits)), None if validity is None else bytes(memoryview(validity))
+        needed = bytes_of_bits(max(self._size, 0))
+        if self._size < 0 or any(it is not None and len(it) != needed for it in self._answers):
+            raise ValueError(f"{length} answers need {needed} bytes of bits, and as many of validity or None")
+        self._number = BOOL.number + NULLABLE * (validity is not None)
 
-    def __len__(self) -> int:
-        return self._len
+    @classmethod
+    def _of(cls, handle: Handle) -> BoolArray:
+        made = cls.__new__(cls)
+        Column.__init__(made, handle)
+        made._answers = None
+        return made
 
-    def __getitem__(self, index: int) -> Optional[bool]:
-        at = index + self._len if index < 0 else index
-        if not 0 <= at < self._len:
-            raise IndexError("an index is out of bounds")
-        return _bit(self.bits, at) if self.validity is None or _bit(self.validity, at) else None
+    @property
+    def bits(self) -> bytes:
+        """The answers as a bitmap."""
+        return self.to_buffers()[0]
 
-    def __iter__(self) -> Iterator[Optional[bool]]:
-        flags = map(bool, unpack_bits(self.bits, self._len))
-        if self.validity is None:
-            return flags
-        return (flag if valid else None for flag, valid in zip(flags, unpack_bits(self.validity, self._len)))
+    @property
+    def validity(self) -> Optional[bytes]:
+        """Which answers are known, as a bitmap; None where the type isn't nullable."""
+        return self.to_buffers()[1]
+
+    def to_buffers(self) -> tuple[bytes, Optional[bytes]]:
+        """The bits and the validity."""
+        with self._lock:
+            if self._answers is None:
+                self._answers = self._answered("read_")
+            answers: tuple[bytes, Optional[bytes]] = self._answers
+            return answers
+
+    def _call(self, name: str, *arguments: Any) -> None:
+        with self._lock:
+            if self._handle is None:
+                self._handle = _handle_of(*self._answers, self._size)
+            call(name, byref(self._handle), *arguments)
 
     def __repr__(self) -> str:
-        return f"<flcol.BoolArray, {self._len} items, {self.true_count} true, {self.null_count} null>"
+        return f"<flcol.BoolArray, {self._size} items, {self.true_count} true, {self.null_count} null>"
+
+    def __reduce__(self) -> tuple[Any, tuple[bytes, Optional[bytes], int]]:
+        return BoolArray, (*self.to_buffers(), self._size)
+
+    # Reading
+
+    def to_list(self) -> list[Optional[bool]]:
+        """The answers as a list."""
+        bits, validity = self.to_buffers()
+        flags = map(bool, unpack_bits(bits, self._size))
+        if validity is None:
+            return list(flags)
+        return [flag if valid else None for flag, valid in zip(flags, unpack_bits(validity, self._size))]
+
+    def to_numpy(self, fill_value: Optional[bool] = None) -> Any:
+        """The answers as an array of NumPy, a masked one where some may be null.
+
+        With a value to fill in, the array is plain, and each null is that value.
+        """
+        if numpy is None:
+            raise ImportError("to_numpy needs NumPy")
+        if fill_value is not None and not is_flag(fill_value):
+            raise TypeError(f"the fill_value for booleans is True or False, and not {fill_value!r}")
+        bits, validity = self.to_buffers()
+        flags = numpy.unpackbits(numpy.frombuffer(bits, numpy.uint8), count=self._size, bitorder="little")
+        return self._fill(flags.view(bool), validity, fill_value)
+
+    def read_into(self, buffer: Any) -> Optional[bytes]:
+        """Writes a byte, 0 or 1, for each answer into a buffer of bools or of uint8; the validity is the result."""
+        view = memoryview(buffer)
+        if view.ndim != 1 or not view.c_contiguous or kind_of(view) not in (BOOL, UINT8):
+            raise TypeError("a buffer of bool or uint8 one behind the other is needed")
+        if view.nbytes != self._size or view.readonly:
+            raise ValueError(f"a buffer of {view.nbytes} bytes{', not writable,' * view.readonly} for {self._size} answers")
+        bits, validity = self.to_buffers()
+        view.cast("B")[:] = unpack_bits(bits, self._size)
+        return validity
+
+    def _item(self, index: int) -> Optional[bool]:
+        at, (bits, validity) = self._place(index), self.to_buffers()
+        return bit(bits, at) if validity is None or bit(validity, at) else None
+
+    def _chosen(self, name: str, *arguments: Any) -> BoolArray:
+        """The answers that a call chooses, by way of a byte for each, since the library chooses integers."""
+        bits, validity = self.bits, some(self.validity)
+        flags, unpacked = Handle(), unpack_bits(bits, self._size)
+        with address(unpacked) as at, address(validity) as valid:
+            call("from_u8", at, len(unpacked), valid, len(validity or b""), byref(flags))
+        column = Column(flags)._made(name, *arguments)
+        return BoolArray(*column._answered("compare_", _NOT_EQ, 0), column._size)
+
+    # Counting
 
     @property
     def true_count(self) -> int:
         """How many answers are True."""
-        return _ones(self.mask())
+        bits, validity = self.to_buffers()
+        return count(bits, validity, self._size)
 
     @property
     def null_count(self) -> int:
         """How many answers are None."""
-        return 0 if self.validity is None else self._len - _ones(self.validity)
+        validity = self.validity
+        return 0 if validity is None else self._size - count(validity, None, self._size)
+
+    def any(self) -> Optional[bool]:
+        """The answers joined by SQL's OR: True where one is True, else None where one is null, else False."""
+        if self.true_count:
+            return True
+        return None if self.null_count else False
+
+    def all(self) -> Optional[bool]:
+        """The answers joined by SQL's AND: False where one is False, else None where one is null, else True."""
+        nulls = self.null_count
+        if self.true_count + nulls < self._size:
+            return False
+        return None if nulls else True
+
+    def sum(self) -> int:
+        """How many answers are True; as in SQL nulls are left out."""
+        return self.true_count
+
+    def __bool__(self) -> bool:
+        raise ValueError("the truth value of an array is ambiguous: use any() or all(), or between() for two bounds")
+
+    def __contains__(self, item: Any) -> bool:
+        """Whether an answer is True or False as this item is, or null for None."""
+        if item is None:
+            return self.null_count > 0
+        return integer_of(item) in (0, 1) and (self == item).true_count > 0
+
+    # Joining
 
     def mask(self) -> bytes:
         """A bitmap of the items whose answer is True."""
-        return self.bits if self.validity is None else both(self.bits, self.validity)
+        bits, validity = self.to_buffers()
+        return bits if validity is None else both(bits, validity)
 
-    def to_list(self) -> list[Optional[bool]]:
-        """The answers as a list."""
-        return list(self)
+    _as_mask = mask
 
-    def to_numpy(self) -> Any:
-        """The answers as an array of NumPy, a masked one where some may be null."""
-        if numpy is None:
-            raise ImportError("to_numpy needs NumPy")
-        flags = numpy.frombuffer(unpack_bits(self.bits, self._len), bool)
-        if self.validity is None:
-            return flags
-        return numpy.ma.array(flags, mask=~numpy.frombuffer(unpack_bits(self.validity, self._len), bool))
+    def __and__(self, other: Any) -> BoolArray:
+        return self._joined("and", other)
 
-    def __array__(self, dtype: Any = None, copy: Any = None) -> Any:
-        if copy is False:
-            raise ValueError("what is encoded has no array of NumPy without a copy")
-        answers = self.to_numpy()
-        return answers if dtype is None else answers.astype(dtype)
+    def __or__(self, other: Any) -> BoolArray:
+        return self._joined("or", other)
 
-    def __and__(self, other: BoolArray) -> BoolArray:
-        return self._joined(other, lambda true, more: true & more, lambda false, more: false | more)
+    def __xor__(self, other: Any) -> BoolArray:
+        return self._joined("xor", other)
 
-    def __or__(self, other: BoolArray) -> BoolArray:
-        return self._joined(other, lambda true, more: true | more, lambda false, more: false & more)
+    __rand__, __ror__, __rxor__ = __and__, __or__, __xor__
 
     def __invert__(self) -> BoolArray:
-        true, false = self._true_and_false()
-        return self._of(false, true, self.validity is not None)
+        bits, validity = self.to_buffers()
+        return BoolArray(inverted(bits, self._size), validity, self._size)
 
-    def _true_and_false(self) -> tuple[int, int]:
-        """The bits of the answers True and of the answers False, as two integers."""
-        every = (1 << self._len) - 1
-        valid = every if self.validity is None else int.from_bytes(self.validity, "little") & every
-        bits = int.from_bytes(self.bits, "little")
-        return bits & valid, ~bits & valid
-
-    def _of(self, true: int, false: int, nullable: bool) -> BoolArray:
-        size = bytes_of_bits(self._len)
-        validity = (true | false).to_bytes(size, "little") if nullable else None
-        return BoolArray(true.to_bytes(size, "little"), validity, self._len)
-
-    def _joined(self, other: BoolArray, of_true: Any, of_false: Any) -> BoolArray:
-        if not isinstance(other, BoolArray):
+    def _joined(self, operation: str, other: Any) -> BoolArray:
+        operand = self._operand(other)
+        if operand is None:
             return NotImplemented
-        if len(other) != self._len:
-            raise ValueError(f"answers of {self._len} and of {len(other)} items")
-        (true, false), (more_true, more_false) = self._true_and_false(), other._true_and_false()
-        nullable = self.validity is not None or other.validity is not None
-        return self._of(of_true(true, more_true), of_false(false, more_false), nullable)
+        return BoolArray(*joined(operation, *self.to_buffers(), *operand, self._size), self._size)
+
+    def _operand(self, other: Any) -> Optional[tuple[bytes, Optional[bytes]]]:
+        """The bits and the validity of a mask that answers may be joined with, None of anything else."""
+        if is_flag(other):
+            return (ones(self._size) if other else bytes(bytes_of_bits(self._size))), None
+        if isinstance(other, BoolArray):
+            length, answers = other._size, other.to_buffers()
+        elif numpy is not None and hasattr(other, "__array__") and not isinstance(other, Column):
+            flags = numpy.asanyarray(other)
+            if flags.dtype.kind != "b" or flags.ndim != 1:
+                return None
+            length, answers = len(flags), _of_numpy(flags)
+        else:
+            return None
+        if length != self._size:
+            raise ValueError(f"answers of {self._size} and of {length} items")
+        return answers
+
+    # Comparing
+
+    def __eq__(self, other: Any) -> BoolArray:  # type: ignore[override]
+        return ~(self ^ other) if self._operand(other) else self._compared(operator.eq, other)
+
+    def __ne__(self, other: Any) -> BoolArray:  # type: ignore[override]
+        return self ^ other if self._operand(other) else self._compared(operator.ne, other)
+
+    def __gt__(self, other: Any) -> BoolArray:
+        return self._compared(operator.gt, other)
+
+    def __ge__(self, other: Any) -> BoolArray:
+        return self._compared(operator.ge, other)
+
+    def __lt__(self, other: Any) -> BoolArray:
+        return self._compared(operator.lt, other)
+
+    def __le__(self, other: Any) -> BoolArray:
+        return self._compared(operator.le, other)
+
+    __hash__ = None  # type: ignore[assignment]
+
+    def _compared(self, holds: Callable[[int, int], bool], other: Any) -> BoolArray:
+        """How False, which is 0, and True, which is 1, compare with an integer."""
+        constant = integer_of(other)
+        if constant is None:
+            raise TypeError(f"booleans are compared with a bool, and by == and != with as many bools, and not with {other!r}")
+        of_false, of_true = holds(0, constant), holds(1, constant)
+        if of_false != of_true:
+            return self if of_true else ~self
+        bits = ones(self._size) if of_true else bytes(bytes_of_bits(self._size))
+        return BoolArray(bits, self.validity, self._size)
+
+    # Other forms
+
+    def astype(self, dtype: Any) -> BoolArray:
+        """The same answers of the type ``bool`` or ``bool?``. ``flcol.array(answers, dtype=..)`` makes integers of them."""
+        kind, nullable = parsed(dtype)
+        if kind is not BOOL:
+            raise TypeError(f"booleans as {dtype!r} are made by flcol.array(answers, dtype={dtype!r})")
+        return self._with_validity(nullable)
+
+    cast = astype
+
+    def _with_validity(self, nullable: bool) -> BoolArray:
+        """The same answers of a type that is nullable or not."""
+        bits, validity = self.to_buffers()
+        if not nullable and self.null_count:
+            raise Error(CAST_NULL)
+        valid = (ones(self._size) if validity is None else validity) if nullable else None
+        return BoolArray(bits, valid, self._size)
 
 
-def _bit(bits: bytes, at: int) -> bool:
-    return bool(bits[at // 8] >> at % 8 & 1)
+def _handle_of(bits: bytes, validity: Optional[bytes], length: int) -> Handle:
+    """A plain array of so many bits."""
+    handle, validity = Handle(), some(validity)
+    with address(bits) as at, address(validity) as valid:
+        call("from_bool", at, len(bits), length, valid, len(validity or b""), byref(handle))
+    return handle
 
 
-def _ones(bits: bytes) -> int:
-    number = int.from_bytes(bits, "little")
-    return number.bit_count() if sys.version_info >= (3, 10) else bin(number).count("1")
+def _of_numpy(flags: Any) -> tuple[bytes, Optional[bytes]]:
+    """The bits and the validity of bools of NumPy, of which those that are masked are null."""
+    size, validity = bytes_of_bits(len(flags)), None
+    if isinstance(flags, numpy.ma.MaskedArray):
+        validity = pack_bits(~numpy.ma.getmaskarray(flags))[:size]
+    return pack_bits(numpy.ascontiguousarray(numpy.ma.getdata(flags)))[:size], validity

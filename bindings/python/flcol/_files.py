@@ -6,32 +6,36 @@ import mmap
 import os
 import re
 import struct
-import sys
 from array import array as list_of_numbers
 from typing import Any, BinaryIO, Callable, Iterator, Optional
 
-from ._array import Array, array, frombytes
-from ._buffers import code_of
-from ._library import NULLABLE, SIZES, number_of
+from ._array import frombytes
+from ._column import Column
+from ._dtypes import BOOL, INTEGERS, integers, name_of
+from ._making import array
 
 #: Tells how much of a whole is done.
 Tell = Callable[[int, int], None]
 
 _CONTAINER, _NPY = b"FLC1", b"\x93NUMPY"
-_LINES = re.compile(rb"(?:(?:-?[0-9]+|null)\n)*")
+_LINES = re.compile(rb"(?:(?:-?[0-9]{1,40}|null)\n)*")  # no integer of a type has as many digits
+_WORDS = {None: "null", False: "false", True: "true"}
 _AT_ONCE = 1 << 16  # bytes or items
+_WHOLE = 1 << 64  # more items than a column has
+_NPY_NAMES = {kind: f"{'|' if kind.size == 1 else '<'}{kind.short[0]}{kind.size}" for kind in (*INTEGERS, BOOL)}
+_NPY_TYPES = {name: kind for kind, name in _NPY_NAMES.items()}
 
 
 class BadFile(ValueError):
     """A file that is none of a column."""
 
 
-def read(file: BinaryIO, dtype: Optional[str], tell: Tell) -> Array:
+def read(file: BinaryIO, dtype: Optional[str], tell: Tell) -> Column:
     """The array of a file: a container, a ``.npy`` file of one dimension, or lines of a type."""
-    return next(pieces(file, dtype, sys.maxsize, tell))
+    return next(pieces(file, dtype, _WHOLE, tell))
 
 
-def pieces(file: BinaryIO, dtype: Optional[str], size: int, tell: Tell) -> Iterator[Array]:
+def pieces(file: BinaryIO, dtype: Optional[str], size: int, tell: Tell) -> Iterator[Column]:
     """The column of a file in arrays of so many items, the last of which may be shorter; one at least.
 
     Lines are read as they are needed, and other files are mapped, so that a column may be longer than memory.
@@ -39,7 +43,7 @@ def pieces(file: BinaryIO, dtype: Optional[str], size: int, tell: Tell) -> Itera
     head = file.read(len(_NPY))
     if head.startswith(_CONTAINER):
         whole = frombytes(_content(file, head))
-        return (whole[start : start + size] for start in range(0, len(whole) or 1, size))
+        return (whole[start : start + size] for start in range(0, whole.size or 1, size))
     if head == _NPY:
         items = _of_npy(memoryview(_content(file, head)))
         return (array(items[start : start + size], dtype=dtype) for start in range(0, len(items) or 1, size))
@@ -57,40 +61,42 @@ def _content(file: BinaryIO, head: bytes) -> Any:
 
 
 def _of_npy(content: memoryview) -> memoryview:
-    """The integers of a ``.npy`` file."""
+    """The integers or booleans of a ``.npy`` file."""
     try:
         wide = content[6] > 1
         (size,) = struct.unpack_from("<I" if wide else "<H", content, 8)
         begin = 12 if wide else 10
         header = ast.literal_eval(bytes(content[begin : begin + size]).decode("latin1"))
-        descr, shape = header["descr"], header["shape"]
-    except (ValueError, KeyError, TypeError, IndexError, SyntaxError, struct.error):
+        descr, (length,) = header["descr"], header["shape"]
+        kind = _NPY_TYPES[descr]
+    except (KeyError, ValueError, TypeError):
+        raise BadFile("the .npy file has no little-endian integers or booleans in one dimension") from None
+    except (IndexError, SyntaxError, RecursionError, MemoryError, struct.error):
         raise BadFile("the header of the .npy file is malformed") from None
-    if not isinstance(descr, str) or not re.fullmatch("[<|][iu][1248]", descr) or len(shape) != 1:
-        raise BadFile(f"the .npy file has items {descr!r} in shape {shape}: little-endian integers in one dimension are needed")
     items = content[begin + size :]
-    if len(items) != int(descr[2]) * shape[0]:
+    if not isinstance(length, int) or len(items) != kind.size * length:
         raise BadFile("the .npy file has not as many items as its header says")
-    return items.cast(code_of(f"{descr[1]}{8 * int(descr[2])}"))
+    return items.cast(kind.code)
 
 
-def _of_lines(file: BinaryIO, head: bytes, dtype: str, size: int, tell: Tell) -> Iterator[Array]:
+def _of_lines(file: BinaryIO, head: bytes, dtype: str, size: int, tell: Tell) -> Iterator[Column]:
     """The arrays of lines, each an integer or ``null``."""
-    nullable, name = number_of(dtype) >= NULLABLE, dtype.rstrip("?")
-    values, nulls, is_first = list_of_numbers(code_of(name)), bytearray(), True
+    kind, nullable = integers(dtype)
+    name = name_of(kind, nullable)
+    values, nulls, is_first = list_of_numbers(kind.code), bytearray(), True
 
-    def taken() -> Array:
+    def taken() -> Column:
         made = array(values[:size], mask=nulls[:size] if nullable else None)
         del values[:size], nulls[:size]
         return made
 
     for lines in _some_lines(file, head, tell):
-        items = _items(lines, dtype, nullable)
+        items = _items(lines, name, nullable)
         nulls += bytes(item is None for item in items)
         try:
             values.extend(item or 0 for item in items)
         except OverflowError:
-            raise BadFile(f"an item does not fit {dtype}: one of those from {lines[:20]!r}") from None
+            raise BadFile(f"an item does not fit {name}: one of those from {lines[:20]!r}") from None
         while len(values) >= size:
             is_first = False
             yield taken()
@@ -119,28 +125,30 @@ def _items(lines: bytes, dtype: str, nullable: bool) -> list[Optional[int]]:
     return items
 
 
-def write_lines(column: Array, file: BinaryIO, tell: Tell) -> None:
+def write_lines(column: Column, file: BinaryIO, tell: Tell) -> None:
     """Writes a line for each item."""
-    for start in range(0, len(column), _AT_ONCE):
+    is_bool = column.dtype.startswith("bool")
+    for start in range(0, column.size, _AT_ONCE):
         items = column[start : start + _AT_ONCE].to_list()
-        file.write("".join(f"{'null' if item is None else item}\n" for item in items).encode())
-        tell(start + len(items), len(column))
+        file.write("".join(f"{_WORDS[item] if is_bool or item is None else item}\n" for item in items).encode())
+        tell(start + len(items), column.size)
 
 
-def write_npy(column: Array, file: BinaryIO, tell: Tell) -> None:
+def write_npy(column: Column, file: BinaryIO, tell: Tell) -> None:
     """Writes a ``.npy`` file of a column without nulls."""
-    name = column.dtype.rstrip("?")
-    descr = f"{'|' if SIZES[name] == 1 else '<'}{name[0]}{SIZES[name]}"
-    header = f"{{'descr': '{descr}', 'fortran_order': False, 'shape': ({len(column)},), }}"
+    kind = column._kind
+    header = f"{{'descr': '{_NPY_NAMES[kind]}', 'fortran_order': False, 'shape': ({column.size},), }}"
     header += " " * (-(len(header) + 11) % 64) + "\n"
     file.write(_NPY + b"\x01\x00" + struct.pack("<H", len(header)) + header.encode())
-    for start in range(0, len(column), _AT_ONCE):
-        values, _ = column[start : start + _AT_ONCE].to_buffers()
-        file.write(memoryview(values).cast("B"))
-        tell(start + len(values), len(column))
+    for start in range(0, column.size, _AT_ONCE):
+        part = column[start : start + _AT_ONCE]
+        values = bytearray(kind.size * part.size)
+        part.read_into(memoryview(values).cast(kind.code))
+        file.write(values)
+        tell(start + part.size, column.size)
 
 
-def writer(column: Array, name: str) -> Callable[[Array, BinaryIO, Tell], None]:
+def writer(column: Column, name: str) -> Callable[[Column, BinaryIO, Tell], None]:
     """How a column is written to a file of a name."""
     if not name.endswith(".npy"):
         return write_lines

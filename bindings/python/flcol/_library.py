@@ -2,94 +2,66 @@
 from __future__ import annotations
 
 import ctypes
+import operator
 import os
-from ctypes import POINTER, c_char_p, c_size_t, c_uint8, c_uint64, c_void_p
-from typing import Any
+from ctypes import c_int32, c_void_p
+from typing import Any, Callable, NamedTuple, Optional
 
-#: The types of items by their numbers, and the ctypes of their values.
-TYPES = ("u8", "u16", "u32", "u64", "i8", "i16", "i32", "i64")
-SIZES = {name: int(name[1:]) // 8 for name in TYPES}
-_VALUES = {name: getattr(ctypes, f"c_{'u' if name[0] == 'u' else ''}int{name[1:]}") for name in TYPES}
-BOOL, NULLABLE = 8, 16
+from . import _interface
+from ._interface import ABI_VERSION, CALLS, LIBRARY, STATUSES, UNKNOWN
 
-_NAME = "libflcol.so.0"
 #: What Linux calls the abilities that a processor of x86-64-v3 has beyond x86-64-v2.
 _NEWER = frozenset(("avx2", "bmi1", "bmi2", "fma", "f16c", "movbe", "abm"))
-_VERSION = 1
 
-_REFUSALS = {
-    1: "OutOfMemory", 2: "NotInteger", 3: "NegativeValue", 4: "WidthTooLarge", 5: "AllBlocksNative", 6: "BlockCount",
-    7: "OffsetTooLarge", 8: "LengthOverflow", 9: "ValidityLength", 10: "PatchType", 11: "PatchLength",
-    12: "PatchContent", 13: "PackedLength", 14: "BlockOffsetsType", 15: "BlockOffsetsCount", 16: "BlockBoundary",
-    17: "BlockSpan", 18: "TypeMismatch", 19: "NullReference", 20: "ReferenceCount", 21: "NoMinimum",
-    22: "ChildNullable", 23: "ChildLength", 24: "RangeBeyondChild", 25: "RunIndexType", 26: "RunOffsets",
-    27: "RunIndex", 28: "TooManyWidths", 29: "NotGlobal", 30: "IndexOutOfBounds", 31: "RangeOutOfBounds",
-    32: "MaskLength", 33: "CastNull", 34: "CastOutOfRange", 35: "UnknownId", 36: "BadMetadata", 37: "UnknownType",
-    38: "BufferCount", 39: "ChildCount", 40: "ChildMismatch", 42: "BadContainer", 100: "NoArray", 101: "WrongType",
-    102: "WrongLength", 103: "BadScheme", 104: "BadOperator",
-}  # fmt: skip
+OUT_OF_MEMORY, INDEX_OUT_OF_BOUNDS, RANGE_OUT_OF_BOUNDS, CAST_NULL, CAST_OUT_OF_RANGE = 1, 30, 31, 33, 34
+BAD_CONTAINER, NO_ARRAY = 42, 100
+
+
+class Handle(_interface.Handle):
+    """The word by which C holds an array, which is freed with it."""
+
+    def __del__(self) -> None:
+        if self.at:
+            free(ctypes.byref(self))
+
+
+#: Calls that take no longer than to let go of the interpreter's lock and to wait for it again.
+_BRIEF = ("flcol_len", "flcol_dtype", "flcol_nbytes", "flcol_scheme", "flcol_get")
+
+# ---- Errors ----
 
 
 class Error(ValueError):
-    """An error of the library: its number in flcol.h, and its name. Nothing has changed."""
+    """An error of the library: its number in flcol.h, its name, and a sentence. Nothing has changed."""
 
-    def __init__(self, number: int) -> None:
+    def __init__(self, number: int, sentence: Optional[str] = None) -> None:
         self.number = number
-        self.name = _REFUSALS.get(number, "Unknown")
-        super().__init__(f"{self.name} ({number})")
+        self.name, known = STATUSES.get(number, UNKNOWN)
+        self.sentence = sentence or known
+        super().__init__(f"{self.sentence} ({self.name}, {number})")
 
-    def __reduce__(self) -> tuple[type[Error], tuple[int]]:
-        return Error, (self.number,)
-
-
-class Handle(ctypes.Structure):
-    """The word by which C holds an array."""
-
-    _fields_ = [("at", c_void_p)]
+    def __reduce__(self) -> tuple[type[Error], tuple[int, str]]:
+        return Error, (self.number, self.sentence)
 
 
-class Range(ctypes.Structure):
-    """The items from a start on."""
-
-    _fields_ = [("start", c_size_t), ("len", c_size_t)]
-
-
-_ARRAY, _COUNT, _BYTE = POINTER(Handle), POINTER(c_size_t), POINTER(c_uint8)
-_BUFFER = [c_void_p, c_size_t]  # where it begins, and its length
-
-_CALLS: dict[str, list[Any]] = {
-    "deserialize": [*_BUFFER, _ARRAY],
-    "encode": [_ARRAY, c_char_p, c_size_t, _ARRAY],
-    "len": [_ARRAY, _COUNT],
-    "dtype": [_ARRAY, _BYTE],
-    "null_count": [_ARRAY, _COUNT],
-    "scheme_len": [_ARRAY, _COUNT],
-    "scheme": [_ARRAY, *_BUFFER],
-    "compress": [_ARRAY, _ARRAY],
-    "nbytes": [_ARRAY, POINTER(c_uint64)],
-    "is_constant": [_ARRAY, _BYTE],
-    "is_sorted": [_ARRAY, c_uint8, _BYTE],
-    "slice": [_ARRAY, c_size_t, c_size_t, _ARRAY],
-    "take": [_ARRAY, *_BUFFER, *_BUFFER, _ARRAY],
-    "take_ranges": [_ARRAY, POINTER(Range), c_size_t, _ARRAY],
-    "filter": [_ARRAY, *_BUFFER, _ARRAY],
-    "cast": [_ARRAY, c_uint8, _ARRAY],
-    "to_blocked": [_ARRAY, _ARRAY],
-    "serialized_len": [_ARRAY, _COUNT],
-    "serialize": [_ARRAY, *_BUFFER],
-}
+def refusal(status: int) -> Exception:
+    """The error that says a status."""
+    if status == OUT_OF_MEMORY:
+        return MemoryError(STATUSES[status][1])
+    if status == INDEX_OUT_OF_BOUNDS:
+        return IndexError(STATUSES[status][1])
+    return Error(status)
 
 
-def _typed_calls(value: Any) -> dict[str, list[Any]]:
-    """The calls that have a type in their names."""
-    return {
-        "from": [*_BUFFER, *_BUFFER, _ARRAY],
-        "constant": [value, c_uint8, c_size_t, _ARRAY],
-        "read": [_ARRAY, *_BUFFER, *_BUFFER],
-        "get": [_ARRAY, c_size_t, POINTER(value), _BYTE],
-        "compare": [_ARRAY, c_uint8, value, *_BUFFER, *_BUFFER],
-        "between": [_ARRAY, value, value, c_uint8, c_uint8, *_BUFFER, *_BUFFER],
-    }
+def within(number: Any, least: int, greatest: int, what: str = "an integer") -> int:
+    """A number that is passed to C, which would take it modulo a power of two where it is not in the range."""
+    integer = operator.index(number)
+    if not least <= integer <= greatest:
+        raise OverflowError(f"{what} is {integer}, and not within {least} to {greatest}")
+    return integer
+
+
+# ---- Loading ----
 
 
 def _abilities() -> frozenset[str]:
@@ -108,63 +80,74 @@ def _path() -> str:
     if named:
         return named
     inside = os.path.join(os.path.dirname(__file__), "lib")
-    newer, portable = os.path.join(inside, "glibc-hwcaps", "x86-64-v3", _NAME), os.path.join(inside, _NAME)
+    newer, portable = os.path.join(inside, "glibc-hwcaps", "x86-64-v3", LIBRARY), os.path.join(inside, LIBRARY)
     if os.path.exists(newer) and _NEWER <= _abilities():
         return newer
-    return portable if os.path.exists(portable) else _NAME
+    return portable if os.path.exists(portable) else LIBRARY
 
 
-def _load() -> ctypes.PyDLL:
-    # A PyDLL keeps Python's lock during a call, so that no two calls run at the same time.
+class _Call(NamedTuple):
+    """A function of the library, and which of its arguments are integers, with their ranges."""
+
+    function: Callable[..., int]
+    integers: tuple[tuple[int, int, int], ...]
+
+
+def _range_of(kind: Any) -> Optional[tuple[int, int]]:
+    """The range of a type of ctypes, where it is one of integers."""
+    if kind is c_void_p or not issubclass(kind, ctypes._SimpleCData):
+        return None
+    bits = 8 * ctypes.sizeof(kind)
+    return (-(2 ** (bits - 1)), 2 ** (bits - 1) - 1) if kind(-1).value < 0 else (0, 2**bits - 1)
+
+
+def _opened(path: str) -> tuple[ctypes.CDLL, ctypes.PyDLL]:
+    """The library twice: a call by the first lets go of the interpreter's lock, one by the second keeps it."""
     try:
-        library = ctypes.PyDLL(_path())
+        library = ctypes.CDLL(path), ctypes.PyDLL(path)
     except OSError as fault:
-        raise ImportError(f"{fault}; ./library of flcol makes it, and FLCOL_LIBRARY may name its file") from None
-    version = library.flcol_abi_version()
-    if version != _VERSION:
-        raise ImportError(f"{library._name} has version {version} of its interface, and {_VERSION} is needed")
-    typed = {f"{call}_{name}": types for name in TYPES for call, types in _typed_calls(_VALUES[name]).items()}
-    for call, types in {**_CALLS, **typed}.items():
-        getattr(library, f"flcol_{call}").argtypes = types
-    library.flcol_free.argtypes, library.flcol_free.restype = [_ARRAY], None
+        said = f"{fault}; ./library of flcol makes it, and FLCOL_LIBRARY may name its file"
+        raise ImportError(said, name="flcol") from None
+    version_of = getattr(library[0], "flcol_abi_version", None)
+    version = version_of() if version_of else None
+    if version != ABI_VERSION:
+        said = f"{path} has version {version} of its interface" if version_of else f"{path} is no library of flcol"
+        raise ImportError(f"{said}, and {ABI_VERSION} is needed", name="flcol")
     return library
 
 
-_library = _load()
-free = _library.flcol_free
+def _load() -> tuple[dict[str, _Call], Callable[..., None]]:
+    """The calls that the library has, and the one that frees."""
+    letting_go, keeping = _opened(_path())
+    calls = {}
+    for name, (answer, types) in CALLS.items():
+        function = getattr(keeping if name.startswith(_BRIEF) else letting_go, name, None)
+        if function is not None and answer is c_int32:
+            function.restype, function.argtypes = answer, types
+            ranges = ((at, _range_of(kind)) for at, kind in enumerate(types))
+            calls[name[len("flcol_") :]] = _Call(function, tuple((at, *range_) for at, range_ in ranges if range_))
+    frees = keeping.flcol_free
+    frees.restype, frees.argtypes = CALLS["flcol_free"]
+    return calls, frees
+
+
+_calls, free = _load()
+
+
+def has(name: str) -> bool:
+    """Whether the library has a call."""
+    return name in _calls
 
 
 def call(name: str, *arguments: Any) -> None:
     """Makes a call of the library, and raises what it refuses."""
-    status: int = getattr(_library, f"flcol_{name}")(*arguments)
-    if status == 1:
-        raise MemoryError("the library found no memory")
-    if status == 30:
-        raise IndexError("an index is out of bounds")
+    if name not in _calls:
+        raise NotImplementedError(f"this library of flcol has no flcol_{name}")
+    function, integers = _calls[name]
+    for at, least, greatest in integers:
+        number = arguments[at]
+        if type(number) is not int or not least <= number <= greatest:
+            within(number, least, greatest)
+    status = function(*arguments)
     if status:
-        raise Error(status)
-
-
-def value_type(name: str) -> Any:
-    """The ctypes type of a type's values."""
-    return _VALUES[name]
-
-
-def bounds(name: str) -> tuple[int, int]:
-    """The least and the greatest integer of a type."""
-    bits = 8 * SIZES[name]
-    return (0, 2**bits - 1) if name[0] == "u" else (-(2 ** (bits - 1)), 2 ** (bits - 1) - 1)
-
-
-def number_of(dtype: str) -> int:
-    """The number of a type such as ``u32`` or ``u32?``."""
-    name = dtype[:-1] if dtype.endswith("?") else dtype
-    if name not in TYPES:
-        raise TypeError(f"there is no type {dtype!r}; the types are {', '.join(TYPES)}, with a ? behind for nulls")
-    return TYPES.index(name) + (NULLABLE if dtype.endswith("?") else 0)
-
-
-def dtype_of(number: int) -> str:
-    """The type with a number."""
-    name = "bool" if number % NULLABLE == BOOL else TYPES[number % NULLABLE]
-    return name + ("?" if number >= NULLABLE else "")
+        raise refusal(status)

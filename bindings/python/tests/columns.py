@@ -3,7 +3,7 @@ import random
 
 import flcol
 
-TYPES = ("u8", "u16", "u32", "u64", "i8", "i16", "i32", "i64")
+TYPES = ("uint8", "uint16", "uint32", "uint64", "int8", "int16", "int32", "int64")
 SCHEMES = (
     "primitive", "bitpacked", "blocked", "for", "for(bitpacked)", "forc", "forc(blocked,_)", "forc(delta,_)", "forc(rle,for)",
     "delta", "delta(for(bitpacked),_)", "rle", "rle(for(bitpacked),bitpacked,_)",
@@ -15,7 +15,7 @@ CANNOT = {3, 4, 5, 21}
 
 
 def bounds(dtype):
-    bits = int(dtype[1:])
+    bits = int(dtype.lstrip("uint"))
     return (0, 2**bits - 1) if dtype[0] == "u" else (-(2 ** (bits - 1)), 2 ** (bits - 1) - 1)
 
 
