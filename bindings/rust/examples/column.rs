@@ -23,7 +23,7 @@ macro_rules! at_type {
             PType::I16 => $call::<i16>($($argument),*),
             PType::I32 => $call::<i32>($($argument),*),
             PType::I64 => $call::<i64>($($argument),*),
-            PType::Bool => Err("an array of booleans".into()),
+            _ => Err("not a column of integers".into()),
         }
     };
 }
@@ -55,19 +55,12 @@ fn print<T: Item + Display>(array: &Array) -> Outcome<String> {
     Ok(lines)
 }
 
-fn dtype(word: &str) -> Outcome<DType> {
-    use PType::*;
-    let name = word.trim_end_matches('?');
-    let known = [U8, U16, U32, U64, I8, I16, I32, I64].into_iter().find(|it| DType::from(*it).to_string() == name);
-    Ok(DType { ptype: known.ok_or("no such type")?, nullable: word.ends_with('?') })
-}
-
 fn run(words: &[String]) -> Outcome<Vec<u8>> {
     let mut input = Vec::new();
     io::stdin().read_to_end(&mut input)?;
     match words.iter().map(String::as_str).collect::<Vec<_>>()[..] {
         ["encode", word, scheme] => {
-            let (dtype, lines) = (dtype(word)?, String::from_utf8(input)?);
+            let (dtype, lines) = (word.parse::<DType>()?, String::from_utf8(input)?);
             let array = at_type!(dtype.ptype, parse(&lines, dtype.nullable))?;
             Ok(array.encode(scheme)?.to_bytes()?)
         }

@@ -1,7 +1,11 @@
 //! Lists of bits.
 
+use crate::error::{checked, Error};
+use crate::ffi;
+use crate::indexed::{ByIndex, Indexed};
+use crate::memory::{filled, push};
 use std::fmt;
-use std::ops::BitAnd;
+use std::ptr;
 
 /// A list of bits, in Arrow's order: bit i is bit `i % 8` of byte `i / 8`, the lowest first. The bits behind the last one
 /// are 0.
@@ -11,30 +15,53 @@ use std::ops::BitAnd;
 ///
 /// let mask: Bitmap = [true, false, true].into_iter().collect();
 /// assert_eq!((mask.len(), mask.count_ones(), mask.as_bytes()), (3, 2, &[0b101][..]));
+/// let other: Bitmap = [true, true, false].into_iter().collect();
+/// assert_eq!((&mask & &other).as_bytes(), [0b001]);
+/// assert_eq!((&mask | &other).as_bytes(), [0b111]);
+/// assert_eq!((mask ^ !other).as_bytes(), [0b001]);
 /// ```
+///
+/// `&`, `|`, `^`, `!` and the forms that assign, as `&=`, join lists of one length.
+///
+/// # Panics
+/// An operator does so where one list is longer than the other, and where the linked library is of another version.
 #[derive(Clone, PartialEq, Eq, Hash, Default)]
 pub struct Bitmap {
     bytes: Vec<u8>,
     len: usize,
 }
 
+/// A call that joins two bitmaps with their validities.
+pub(crate) type Join = unsafe extern "C" fn(*mut u8, usize, *mut u8, usize, *const u8, usize, *const u8, usize) -> i32;
+
 impl Bitmap {
     /// So many bits, none of them set.
+    ///
+    /// # Panics
+    /// As `Vec` does where there is no memory for them; [`Bitmap::try_zeros`] answers an error.
     pub fn zeros(len: usize) -> Bitmap {
         Bitmap { bytes: vec![0; len.div_ceil(8)], len }
     }
 
+    /// So many bits, none of them set.
+    ///
+    /// # Errors
+    /// `OutOfMemory`.
+    pub fn try_zeros(len: usize) -> Result<Bitmap, Error> {
+        Ok(Bitmap { bytes: filled(0, len.div_ceil(8))?, len })
+    }
+
     /// The first `len` bits of these bytes.
     ///
-    /// # Panics
-    /// If there are fewer bits than `len`.
-    pub fn from_bytes(mut bytes: Vec<u8>, len: usize) -> Bitmap {
-        assert!(len.div_ceil(8) <= bytes.len(), "{} bytes have no {len} bits", bytes.len());
-        bytes.truncate(len.div_ceil(8));
-        if len % 8 != 0 {
-            bytes[len / 8] &= (1 << (len % 8)) - 1;
+    /// # Errors
+    /// `WrongLength` if there are fewer bits than `len`.
+    pub fn from_bytes(bytes: Vec<u8>, len: usize) -> Result<Bitmap, Error> {
+        if bytes.len() < len.div_ceil(8) {
+            return Err(Error::WrongLength);
         }
-        Bitmap { bytes, len }
+        let mut bitmap = Bitmap { bytes, len };
+        bitmap.truncate(len);
+        Ok(bitmap)
     }
 
     /// How many bits there are.
@@ -71,13 +98,18 @@ impl Bitmap {
     }
 
     /// How many bits are set.
+    ///
+    /// # Panics
+    /// If the linked library is of another version.
     pub fn count_ones(&self) -> usize {
-        self.bytes.iter().map(|byte| byte.count_ones() as usize).sum()
+        let (bits, bytes, mut count) = (self.bytes.as_ptr(), self.bytes.len(), 0);
+        sound(checked(|| unsafe { ffi::flcol_count_bits(bits, bytes, ptr::null(), 0, self.len, &mut count) }));
+        count
     }
 
     /// The bits, one by one.
-    pub fn iter(&self) -> impl Iterator<Item = bool> + '_ {
-        (0..self.len).map(|index| self.get(index))
+    pub fn iter(&self) -> Indexed<&Bitmap> {
+        Indexed::new(self, self.len)
     }
 
     /// The bytes, as many as the bits need.
@@ -85,36 +117,161 @@ impl Bitmap {
         &self.bytes
     }
 
+    /// The bytes, as many as the bits need.
+    pub fn into_bytes(self) -> Vec<u8> {
+        self.bytes
+    }
+
     pub(crate) fn as_mut_bytes(&mut self) -> &mut [u8] {
         &mut self.bytes
+    }
+
+    /// Keeps the first `len` bits, of so many at least.
+    pub(crate) fn truncate(&mut self, len: usize) {
+        self.bytes.truncate(len.div_ceil(8));
+        if len % 8 != 0 {
+            self.bytes[len / 8] &= (1 << (len % 8)) - 1;
+        }
+        self.len = len;
+    }
+
+    /// Adds a bit, where there is memory for it.
+    pub(crate) fn try_push(&mut self, bit: bool) -> Result<(), Error> {
+        if self.len % 8 == 0 {
+            push(&mut self.bytes, 0)?;
+        }
+        self.len += 1;
+        self.set(self.len - 1, bit);
+        Ok(())
+    }
+
+    /// Joins another list to this one.
+    pub(crate) fn join(&mut self, other: &Bitmap, call: Join) -> Result<(), Error> {
+        assert_eq!(self.len, other.len, "lists of bits of two lengths");
+        let (bits, bytes, other) = (self.bytes.as_mut_ptr(), self.bytes.len(), other.bytes.as_ptr());
+        checked(|| unsafe { call(bits, bytes, ptr::null_mut(), 0, other, bytes, ptr::null(), 0) })
+    }
+
+    /// Turns each bit.
+    pub(crate) fn turn(&mut self) -> Result<(), Error> {
+        checked(|| unsafe { ffi::flcol_not(self.bytes.as_mut_ptr(), self.bytes.len(), self.len) })
+    }
+}
+
+/// Panics after a call whose lengths are right, so that only a library of another version refuses it.
+pub(crate) fn sound(outcome: Result<(), Error>) {
+    if let Err(error) = outcome {
+        panic!("{error}");
+    }
+}
+
+/// Writes the operators of lists that have `join` and `turn`.
+macro_rules! operators {
+    ($list:ident: $($operator:ident $name:ident $assigning:ident $assigning_name:ident $call:ident;)+) => {
+        $(impl std::ops::$assigning<&$list> for $list {
+            fn $assigning_name(&mut self, other: &$list) {
+                crate::bitmap::sound(self.join(other, crate::ffi::$call));
+            }
+        }
+
+        impl std::ops::$assigning for $list {
+            fn $assigning_name(&mut self, other: $list) {
+                crate::bitmap::sound(self.join(&other, crate::ffi::$call));
+            }
+        }
+
+        impl std::ops::$operator<&$list> for $list {
+            type Output = $list;
+
+            fn $name(mut self, other: &$list) -> $list {
+                crate::bitmap::sound(self.join(other, crate::ffi::$call));
+                self
+            }
+        }
+
+        impl std::ops::$operator for $list {
+            type Output = $list;
+
+            fn $name(self, other: $list) -> $list {
+                std::ops::$operator::$name(self, &other)
+            }
+        }
+
+        impl std::ops::$operator<&$list> for &$list {
+            type Output = $list;
+
+            fn $name(self, other: &$list) -> $list {
+                std::ops::$operator::$name(self.clone(), other)
+            }
+        }
+
+        impl std::ops::$operator<$list> for &$list {
+            type Output = $list;
+
+            fn $name(self, other: $list) -> $list {
+                std::ops::$operator::$name(self.clone(), &other)
+            }
+        })+
+
+        impl std::ops::Not for $list {
+            type Output = $list;
+
+            fn not(mut self) -> $list {
+                crate::bitmap::sound(self.turn());
+                self
+            }
+        }
+
+        impl std::ops::Not for &$list {
+            type Output = $list;
+
+            fn not(self) -> $list {
+                !self.clone()
+            }
+        }
+    };
+    ($list:ident) => {
+        crate::bitmap::operators! {
+            $list:
+            BitAnd bitand BitAndAssign bitand_assign flcol_and;
+            BitOr bitor BitOrAssign bitor_assign flcol_or;
+            BitXor bitxor BitXorAssign bitxor_assign flcol_xor;
+        }
+    };
+}
+
+pub(crate) use operators;
+
+operators!(Bitmap);
+
+impl ByIndex for &Bitmap {
+    type Item = bool;
+
+    fn at(self, index: usize) -> bool {
+        self.get(index)
+    }
+}
+
+impl<'a> IntoIterator for &'a Bitmap {
+    type Item = bool;
+    type IntoIter = Indexed<&'a Bitmap>;
+
+    fn into_iter(self) -> Indexed<&'a Bitmap> {
+        self.iter()
+    }
+}
+
+impl Extend<bool> for Bitmap {
+    fn extend<I: IntoIterator<Item = bool>>(&mut self, bits: I) {
+        bits.into_iter().for_each(|bit| self.try_push(bit).expect("there is memory for a bit"));
     }
 }
 
 impl FromIterator<bool> for Bitmap {
     fn from_iter<I: IntoIterator<Item = bool>>(bits: I) -> Bitmap {
         let mut bitmap = Bitmap::default();
-        for bit in bits {
-            if bitmap.len % 8 == 0 {
-                bitmap.bytes.push(0);
-            }
-            bitmap.len += 1;
-            bitmap.set(bitmap.len - 1, bit);
-        }
+        bitmap.extend(bits);
         bitmap
-    }
-}
-
-/// The bits that are set in both.
-///
-/// # Panics
-/// If one is longer than the other.
-impl BitAnd for &Bitmap {
-    type Output = Bitmap;
-
-    fn bitand(self, other: &Bitmap) -> Bitmap {
-        assert_eq!(self.len, other.len, "lists of bits of two lengths");
-        let bytes = self.bytes.iter().zip(&other.bytes).map(|(left, right)| left & right).collect();
-        Bitmap { bytes, len: self.len }
     }
 }
 

@@ -9,7 +9,7 @@
 //! use flcol::blocks::{self, Word};
 //!
 //! let mut items = [[0_u32; 1024]; 2];
-//! for (i, item) in items.as_flattened_mut().iter_mut().enumerate() {
+//! for (i, item) in items.iter_mut().flatten().enumerate() {
 //!     *item = i as u32 % 100;
 //! }
 //! let mut packed = vec![0; 2 * 7 * u32::LANES];
@@ -20,51 +20,27 @@
 //! # Ok::<(), flcol::Error>(())
 //! ```
 
-use crate::error::{check, Error};
+use crate::error::{checked, Error};
+use crate::ffi;
 
 /// How many items a block has.
 pub const BLOCK: usize = 1024;
 
 mod calls {
-    use super::BLOCK;
+    pub type Pack<W> = unsafe extern "C" fn(usize, *const W, usize, *mut W, usize) -> i32;
+    pub type UnforPack<W> = unsafe extern "C" fn(usize, *const W, usize, W, *mut W, usize) -> i32;
+    pub type Move<W> = unsafe extern "C" fn(*const W, usize, *mut W, usize) -> i32;
+    pub type Delta<W> = unsafe extern "C" fn(*const W, usize, *const W, usize, *mut W, usize) -> i32;
 
-    /// # Safety
-    /// Each method is the call of `flcol.h`, and what that owes about pointers and lengths is the caller's.
+    /// The calls of `flcol.h` that have a type of words in their names.
     pub trait Calls: Sized {
-        unsafe fn pack(width: usize, items: *const [Self; BLOCK], blocks: usize, packed: *mut Self, len: usize) -> i32;
-        unsafe fn unpack(
-            width: usize,
-            packed: *const Self,
-            len: usize,
-            items: *mut [Self; BLOCK],
-            blocks: usize,
-        ) -> i32;
-        unsafe fn unfor_pack(
-            width: usize,
-            packed: *const Self,
-            len: usize,
-            reference: Self,
-            items: *mut [Self; BLOCK],
-            blocks: usize,
-        ) -> i32;
-        unsafe fn transpose(from: *const [Self; BLOCK], blocks: usize, to: *mut [Self; BLOCK], room: usize) -> i32;
-        unsafe fn untranspose(from: *const [Self; BLOCK], blocks: usize, to: *mut [Self; BLOCK], room: usize) -> i32;
-        unsafe fn delta(
-            from: *const [Self; BLOCK],
-            blocks: usize,
-            bases: *const Self,
-            len: usize,
-            to: *mut [Self; BLOCK],
-            room: usize,
-        ) -> i32;
-        unsafe fn undelta(
-            from: *const [Self; BLOCK],
-            blocks: usize,
-            bases: *const Self,
-            len: usize,
-            to: *mut [Self; BLOCK],
-            room: usize,
-        ) -> i32;
+        const PACK: Pack<Self>;
+        const UNPACK: Pack<Self>;
+        const UNFOR_PACK: UnforPack<Self>;
+        const TRANSPOSE: Move<Self>;
+        const UNTRANSPOSE: Move<Self>;
+        const DELTA: Delta<Self>;
+        const UNDELTA: Delta<Self>;
     }
 }
 
@@ -75,34 +51,51 @@ pub trait Word: Copy + calls::Calls + 'static {
 }
 
 macro_rules! words {
-    ($($word:ident),+) => {
+    ($($word:ident: $pack:ident $unpack:ident $unfor_pack:ident $transpose:ident $untranspose:ident $delta:ident $undelta:ident;)+) => {
         $(impl Word for $word {
             const LANES: usize = BLOCK / $word::BITS as usize;
         }
 
         impl calls::Calls for $word {
-            crate::item::linked! {
-                $word,
-                pack(width: usize, items: *const [$word; BLOCK], blocks: usize, packed: *mut $word, len: usize);
-                unpack(width: usize, packed: *const $word, len: usize, items: *mut [$word; BLOCK], blocks: usize);
-                unfor_pack(width: usize, packed: *const $word, len: usize, reference: $word, items: *mut [$word; BLOCK], blocks: usize);
-                transpose(from: *const [$word; BLOCK], blocks: usize, to: *mut [$word; BLOCK], room: usize);
-                untranspose(from: *const [$word; BLOCK], blocks: usize, to: *mut [$word; BLOCK], room: usize);
-                delta(from: *const [$word; BLOCK], blocks: usize, bases: *const $word, len: usize, to: *mut [$word; BLOCK], room: usize);
-                undelta(from: *const [$word; BLOCK], blocks: usize, bases: *const $word, len: usize, to: *mut [$word; BLOCK], room: usize);
-            }
+            const PACK: calls::Pack<$word> = ffi::$pack;
+            const UNPACK: calls::Pack<$word> = ffi::$unpack;
+            const UNFOR_PACK: calls::UnforPack<$word> = ffi::$unfor_pack;
+            const TRANSPOSE: calls::Move<$word> = ffi::$transpose;
+            const UNTRANSPOSE: calls::Move<$word> = ffi::$untranspose;
+            const DELTA: calls::Delta<$word> = ffi::$delta;
+            const UNDELTA: calls::Delta<$word> = ffi::$undelta;
         })+
     };
 }
 
-words!(u8, u16, u32, u64);
+words! {
+    u8: flcol_pack_u8 flcol_unpack_u8 flcol_unfor_pack_u8 flcol_transpose_u8 flcol_untranspose_u8
+        flcol_delta_u8 flcol_undelta_u8;
+    u16: flcol_pack_u16 flcol_unpack_u16 flcol_unfor_pack_u16 flcol_transpose_u16 flcol_untranspose_u16
+        flcol_delta_u16 flcol_undelta_u16;
+    u32: flcol_pack_u32 flcol_unpack_u32 flcol_unfor_pack_u32 flcol_transpose_u32 flcol_untranspose_u32
+        flcol_delta_u32 flcol_undelta_u32;
+    u64: flcol_pack_u64 flcol_unpack_u64 flcol_unfor_pack_u64 flcol_transpose_u64 flcol_untranspose_u64
+        flcol_delta_u64 flcol_undelta_u64;
+}
+
+/// The first word of blocks, and how many blocks there are.
+fn from<W>(blocks: &[[W; BLOCK]]) -> (*const W, usize) {
+    (blocks.as_ptr().cast(), blocks.len())
+}
+
+/// The first word of blocks that are written, and how many blocks there are.
+fn to<W>(blocks: &mut [[W; BLOCK]]) -> (*mut W, usize) {
+    (blocks.as_mut_ptr().cast(), blocks.len())
+}
 
 /// Packs the low `width` bits of each item, block after block, into `width * LANES` words a block.
 ///
 /// # Errors
 /// `WidthTooLarge` where the width is above the bits of the type, `WrongLength` where there are more or fewer words.
 pub fn pack<W: Word>(width: usize, items: &[[W; BLOCK]], packed: &mut [W]) -> Result<(), Error> {
-    check(unsafe { W::pack(width, items.as_ptr(), items.len(), packed.as_mut_ptr(), packed.len()) })
+    let (items, blocks) = from(items);
+    checked(|| unsafe { W::PACK(width, items, blocks, packed.as_mut_ptr(), packed.len()) })
 }
 
 /// Writes the items of packed blocks, with their bits from `width` on 0.
@@ -110,7 +103,8 @@ pub fn pack<W: Word>(width: usize, items: &[[W; BLOCK]], packed: &mut [W]) -> Re
 /// # Errors
 /// Those of `pack`.
 pub fn unpack<W: Word>(width: usize, packed: &[W], items: &mut [[W; BLOCK]]) -> Result<(), Error> {
-    check(unsafe { W::unpack(width, packed.as_ptr(), packed.len(), items.as_mut_ptr(), items.len()) })
+    let (items, blocks) = to(items);
+    checked(|| unsafe { W::UNPACK(width, packed.as_ptr(), packed.len(), items, blocks) })
 }
 
 /// Writes the items of packed blocks plus a reference, modulo 2 to the bits of the type.
@@ -118,7 +112,8 @@ pub fn unpack<W: Word>(width: usize, packed: &[W], items: &mut [[W; BLOCK]]) -> 
 /// # Errors
 /// Those of `pack`.
 pub fn unfor_pack<W: Word>(width: usize, packed: &[W], reference: W, items: &mut [[W; BLOCK]]) -> Result<(), Error> {
-    check(unsafe { W::unfor_pack(width, packed.as_ptr(), packed.len(), reference, items.as_mut_ptr(), items.len()) })
+    let (items, blocks) = to(items);
+    checked(|| unsafe { W::UNFOR_PACK(width, packed.as_ptr(), packed.len(), reference, items, blocks) })
 }
 
 /// Moves the items of each block to the rows at which deltas are taken: runs of as many items as a word has bits become
@@ -127,7 +122,8 @@ pub fn unfor_pack<W: Word>(width: usize, packed: &[W], reference: W, items: &mut
 /// # Errors
 /// `WrongLength` where there is not room for a block each.
 pub fn transpose<W: Word>(items: &[[W; BLOCK]], stored: &mut [[W; BLOCK]]) -> Result<(), Error> {
-    check(unsafe { W::transpose(items.as_ptr(), items.len(), stored.as_mut_ptr(), stored.len()) })
+    let ((items, blocks), (stored, room)) = (from(items), to(stored));
+    checked(|| unsafe { W::TRANSPOSE(items, blocks, stored, room) })
 }
 
 /// Moves the items of each block back.
@@ -135,7 +131,8 @@ pub fn transpose<W: Word>(items: &[[W; BLOCK]], stored: &mut [[W; BLOCK]]) -> Re
 /// # Errors
 /// `WrongLength` where there is not room for a block each.
 pub fn untranspose<W: Word>(stored: &[[W; BLOCK]], items: &mut [[W; BLOCK]]) -> Result<(), Error> {
-    check(unsafe { W::untranspose(stored.as_ptr(), stored.len(), items.as_mut_ptr(), items.len()) })
+    let ((stored, blocks), (items, room)) = (from(stored), to(items));
+    checked(|| unsafe { W::UNTRANSPOSE(stored, blocks, items, room) })
 }
 
 /// The difference of each item from the one a row before in its lane, at row 0 from the lane's base, modulo 2 to the bits
@@ -144,8 +141,8 @@ pub fn untranspose<W: Word>(stored: &[[W; BLOCK]], items: &mut [[W; BLOCK]]) -> 
 /// # Errors
 /// `WrongLength` where there are more or fewer bases, or not room for a block each.
 pub fn delta<W: Word>(items: &[[W; BLOCK]], bases: &[W], deltas: &mut [[W; BLOCK]]) -> Result<(), Error> {
-    let (from, to) = (items.as_ptr(), deltas.as_mut_ptr());
-    check(unsafe { W::delta(from, items.len(), bases.as_ptr(), bases.len(), to, deltas.len()) })
+    let ((items, blocks), (deltas, room)) = (from(items), to(deltas));
+    checked(|| unsafe { W::DELTA(items, blocks, bases.as_ptr(), bases.len(), deltas, room) })
 }
 
 /// The items of such differences: at each row the lane's base and the differences up to it.
@@ -153,6 +150,6 @@ pub fn delta<W: Word>(items: &[[W; BLOCK]], bases: &[W], deltas: &mut [[W; BLOCK
 /// # Errors
 /// `WrongLength` where there are more or fewer bases, or not room for a block each.
 pub fn undelta<W: Word>(deltas: &[[W; BLOCK]], bases: &[W], items: &mut [[W; BLOCK]]) -> Result<(), Error> {
-    let (from, to) = (deltas.as_ptr(), items.as_mut_ptr());
-    check(unsafe { W::undelta(from, deltas.len(), bases.as_ptr(), bases.len(), to, items.len()) })
+    let ((deltas, blocks), (items, room)) = (from(deltas), to(items));
+    checked(|| unsafe { W::UNDELTA(deltas, blocks, bases.as_ptr(), bases.len(), items, room) })
 }

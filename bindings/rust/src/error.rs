@@ -1,6 +1,8 @@
 //! Why a call gives no result.
 
+use crate::ffi;
 use std::fmt;
+use std::sync::OnceLock;
 
 macro_rules! errors {
     ($($(#[doc = $doc:literal])+ $name:ident = $number:literal, $text:literal;)+) => {
@@ -9,15 +11,18 @@ macro_rules! errors {
         #[non_exhaustive]
         pub enum Error {
             $($(#[doc = $doc])+ $name,)+
+            /// The library that is linked has this version of its interface, which is not the one of this crate.
+            LibraryVersion(u32),
             /// A status that this crate has no name for.
             Other(i32),
         }
 
         impl Error {
-            /// The status of `flcol.h` that stands for it.
+            /// The status of `flcol.h` that stands for it, -1 for `LibraryVersion`, which is no status.
             pub fn number(self) -> i32 {
                 match self {
                     $(Error::$name => $number,)+
+                    Error::LibraryVersion(_) => -1,
                     Error::Other(number) => number,
                 }
             }
@@ -34,6 +39,9 @@ macro_rules! errors {
             fn fmt(&self, f: &mut fmt::Formatter<'_>) -> fmt::Result {
                 match self {
                     $(Error::$name => f.write_str($text),)+
+                    Error::LibraryVersion(found) => {
+                        write!(f, "libflcol has version {found} of its interface, and {} is needed", ffi::ABI_VERSION)
+                    }
                     Error::Other(number) => write!(f, "status {number}"),
                 }
             }
@@ -42,106 +50,119 @@ macro_rules! errors {
 }
 
 errors! {
-    /// A growth of memory was refused.
-    OutOfMemory = 1, "out of memory";
-    /// Booleans where integers are needed.
-    NotInteger = 2, "booleans where integers are needed";
-    /// A valid item is negative, so it can't be bit-packed.
-    NegativeValue = 3, "a valid item is negative";
-    /// A width above the bits of the type, or that leaves nothing to pack.
-    WidthTooLarge = 4, "the width is too large for the type";
-    /// A list of widths that has only widths of the whole type.
-    AllBlocksNative = 5, "each block needs all bits of the type";
-    /// Not one width for each block.
-    BlockCount = 6, "not one width for each block";
-    /// An offset of 1024 or more.
-    OffsetTooLarge = 7, "an offset is 1024 or more";
-    /// A length is too large, rounded up to whole blocks where they are counted.
-    LengthOverflow = 8, "a length is too large";
-    /// The bits of a validity are not one for each item, or there are none and an item is null.
-    ValidityLength = 9, "the validity doesn't fit the items";
-    /// Indices or chunk offsets of patches are not unsigned, or values of another type than the column.
-    PatchType = 10, "patches have a wrong type";
-    /// The parts of patches have lengths that don't fit.
-    PatchLength = 11, "patches have wrong lengths";
-    /// Indices of patches don't rise or lie outside, or a value is null.
-    PatchContent = 12, "patches are not sound";
-    /// A buffer is not as long as its array needs.
-    PackedLength = 13, "a buffer has a wrong length";
-    /// Boundaries of blocks, or offsets of runs, are not unsigned and non-nullable.
-    BlockOffsetsType = 14, "boundaries of blocks have a wrong type";
-    /// Boundaries are not one more than the blocks, or offsets of runs not one for each chunk.
-    BlockOffsetsCount = 15, "not one boundary for each block";
-    /// Two neighbouring boundaries that no block lies between.
-    BlockBoundary = 16, "no block lies between two boundaries";
-    /// The last boundary less the first is not the length of the packed buffer.
-    BlockSpan = 17, "boundaries don't span the packed buffer";
-    /// Types of items differ.
-    TypeMismatch = 18, "types of items differ";
+    /// A request for memory was refused.
+    OutOfMemory = 1, "a request for memory was refused";
+    /// The array or the type is of booleans, where integers are needed.
+    NotInteger = 2, "the array or the type is of booleans, where integers are needed";
+    /// An item is below 0.
+    NegativeValue = 3, "an item is below 0";
+    /// A width is too large for the type of the items.
+    WidthTooLarge = 4, "a width is too large for the type of the items";
+    /// Each block needs all bits of the type, so that nothing can be packed.
+    AllBlocksNative = 5, "each block needs all bits of the type, so that nothing can be packed";
+    /// There is not one width for each block of 1024 items.
+    BlockCount = 6, "there is not one width for each block of 1024 items";
+    /// An offset into the first block is not below 1024.
+    OffsetTooLarge = 7, "an offset into the first block is not below 1024";
+    /// There would be more items than a length can count.
+    LengthOverflow = 8, "there would be more items than a length can count";
+    /// The validity bitmap is too short for the items, or is missing where an item is null.
+    ValidityLength = 9, "the validity bitmap is too short for the items, or is missing where an item is null";
+    /// The indices or the chunk offsets of patches are not unsigned without nulls, or their values are of another type.
+    PatchType = 10, "the indices or the chunk offsets of patches are not unsigned without nulls, or their values are of another type";
+    /// The indices, values and chunk offsets of patches have lengths that don't fit one another.
+    PatchLength = 11, "the indices, values and chunk offsets of patches have lengths that don't fit one another";
+    /// The indices of patches don't rise or lie outside of the array, a value is null, or a chunk offset is wrong.
+    PatchContent = 12, "the indices of patches don't rise or lie outside of the array, a value is null, or a chunk offset is wrong";
+    /// A packed buffer doesn't have the length that its items need.
+    PackedLength = 13, "a packed buffer doesn't have the length that its items need";
+    /// Block boundaries or run offsets are not unsigned integers without nulls.
+    BlockOffsetsType = 14, "block boundaries or run offsets are not unsigned integers without nulls";
+    /// There is not one more block boundary than blocks, or not one run offset for each chunk.
+    BlockOffsetsCount = 15, "there is not one more block boundary than blocks, or not one run offset for each chunk";
+    /// Two neighbouring block boundaries enclose no block of any width.
+    BlockBoundary = 16, "two neighbouring block boundaries enclose no block of any width";
+    /// The block boundaries don't span the packed buffer.
+    BlockSpan = 17, "the block boundaries don't span the packed buffer";
+    /// Two types of items differ that have to be the same.
+    TypeMismatch = 18, "two types of items differ that have to be the same";
     /// A reference is null.
     NullReference = 19, "a reference is null";
-    /// Not one reference for each chunk.
-    ReferenceCount = 20, "not one reference for each chunk";
-    /// An empty column, or one of nulls alone, has no least item.
-    NoMinimum = 21, "there is no least item";
-    /// A child that must be non-nullable is nullable.
-    ChildNullable = 22, "a child is nullable";
+    /// There is not one reference for each chunk.
+    ReferenceCount = 20, "there is not one reference for each chunk";
+    /// A column without an item that is not null has no minimum.
+    NoMinimum = 21, "a column without an item that is not null has no minimum";
+    /// A child may have nulls where none are allowed.
+    ChildNullable = 22, "a child may have nulls where none are allowed";
     /// A child's length is no multiple of 1024, or doesn't fit that of another child.
-    ChildLength = 23, "a child has a wrong length";
-    /// The items reach beyond the child.
-    RangeBeyondChild = 24, "the items reach beyond the child";
-    /// Run indices are neither `u8` nor `u16`.
-    RunIndexType = 25, "run indices have a wrong type";
-    /// Offsets of runs fall, or a chunk has no run or more than 1024.
-    RunOffsets = 26, "offsets of runs are not sound";
-    /// A valid run index is not below the number of runs of its chunk.
-    RunIndex = 27, "a run index is too large";
-    /// A histogram of more than 255 entries.
-    TooManyWidths = 28, "too many widths";
-    /// The array has a width for each block.
-    NotGlobal = 29, "the array has a width for each block";
-    /// An index is not below the length.
-    IndexOutOfBounds = 30, "an index is out of bounds";
-    /// A range reaches beyond the length, or its start lies behind its end.
-    RangeOutOfBounds = 31, "a range is out of bounds";
-    /// A mask is not as long as the array.
+    ChildLength = 23, "a child's length is no multiple of 1024, or doesn't fit that of another child";
+    /// The items of the array reach beyond the end of its child.
+    RangeBeyondChild = 24, "the items of the array reach beyond the end of its child";
+    /// The run indices are neither of 8 nor of 16 unsigned bits.
+    RunIndexType = 25, "the run indices are neither of 8 nor of 16 unsigned bits";
+    /// The run offsets fall, or give a chunk no run or more than 1024.
+    RunOffsets = 26, "the run offsets fall, or give a chunk no run or more than 1024";
+    /// A run index is not below the number of runs of its chunk.
+    RunIndex = 27, "a run index is not below the number of runs of its chunk";
+    /// A histogram of widths has more than 255 entries.
+    TooManyWidths = 28, "a histogram of widths has more than 255 entries";
+    /// The array has a width for each block, where one for all is needed.
+    NotGlobal = 29, "the array has a width for each block, where one for all is needed";
+    /// An index is not below the number of items.
+    IndexOutOfBounds = 30, "an index is not below the number of items";
+    /// A range reaches beyond the last item, or starts behind its end.
+    RangeOutOfBounds = 31, "a range reaches beyond the last item, or starts behind its end";
+    /// The mask is not as long as the array.
     MaskLength = 32, "the mask is not as long as the array";
-    /// A null meets a type without nulls.
-    CastNull = 33, "a null meets a type without nulls";
-    /// An item doesn't fit the type, or not all items are the same constant.
-    CastOutOfRange = 34, "an item doesn't fit";
-    /// The name of an encoding is not known.
-    UnknownId = 35, "an encoding is not known";
-    /// Metadata are no message of their kind.
-    BadMetadata = 36, "metadata are malformed";
-    /// A type has a number that no type has.
-    UnknownType = 37, "a type is not known";
-    /// A node has another number of buffers than its kind.
-    BufferCount = 38, "a node has a wrong number of buffers";
-    /// A node has another number of children than its kind.
-    ChildCount = 39, "a node has a wrong number of children";
-    /// A child is not of the type or the length that its place needs.
-    ChildMismatch = 40, "a child doesn't fit its place";
-    /// The bytes are no container.
-    BadContainer = 42, "the bytes are no container";
-    /// A handle that is read holds no array; no call of this crate makes one.
+    /// An item is null, and the type that is asked for has no nulls.
+    CastNull = 33, "an item is null, and the type that is asked for has no nulls";
+    /// An item doesn't fit the type that is asked for, or two items differ where a constant is asked for.
+    CastOutOfRange = 34, "an item doesn't fit the type that is asked for, or two items differ where a constant is asked for";
+    /// The container names an encoding that is not known.
+    UnknownId = 35, "the container names an encoding that is not known";
+    /// The metadata of an array in the container are malformed.
+    BadMetadata = 36, "the metadata of an array in the container are malformed";
+    /// The type of items is not known.
+    UnknownType = 37, "the type of items is not known";
+    /// An array in the container has more or fewer buffers than its encoding.
+    BufferCount = 38, "an array in the container has more or fewer buffers than its encoding";
+    /// An array in the container has more or fewer children than its encoding.
+    ChildCount = 39, "an array in the container has more or fewer children than its encoding";
+    /// A child in the container doesn't have the type or the length that its place needs.
+    ChildMismatch = 40, "a child in the container doesn't have the type or the length that its place needs";
+    /// The bytes are no container, or the array is nested too deep for one.
+    BadContainer = 42, "the bytes are no container, or the array is nested too deep for one";
+    /// There is no array.
     NoArray = 100, "there is no array";
-    /// The array's items are of another type than the call's.
-    WrongType = 101, "the items are of another type";
-    /// A buffer has not the length that is needed.
-    WrongLength = 102, "a buffer has a wrong length";
-    /// The text says no scheme.
-    BadScheme = 103, "the text says no scheme";
-    /// No operator has the number.
-    BadOperator = 104, "no operator has the number";
+    /// The items of the array are of another type.
+    WrongType = 101, "the items of the array are of another type";
+    /// A buffer doesn't have the length that is needed.
+    WrongLength = 102, "a buffer doesn't have the length that is needed";
+    /// The text says no scheme, or nests too deep.
+    BadScheme = 103, "the text says no scheme, or nests too deep";
+    /// The operator of comparison is not known.
+    BadOperator = 104, "the operator of comparison is not known";
+    /// The stream failed.
+    Stream = 105, "the stream failed";
 }
 
 impl std::error::Error for Error {}
 
-/// What a call's status says.
-pub(crate) fn check(status: i32) -> Result<(), Error> {
-    match status {
+/// Whether the linked library has the version of the interface that this crate is written for. It is asked once.
+fn check_version() -> Result<(), Error> {
+    static FOUND: OnceLock<u32> = OnceLock::new();
+    // SAFETY: the call asks for nothing.
+    match *FOUND.get_or_init(|| unsafe { ffi::flcol_abi_version() }) {
+        ffi::ABI_VERSION => Ok(()),
+        found => Err(Error::LibraryVersion(found)),
+    }
+}
+
+/// What the status of a call says. Nothing is called of a library of another version.
+pub(crate) fn checked(call: impl FnOnce() -> i32) -> Result<(), Error> {
+    check_version()?;
+    match call() {
         0 => Ok(()),
-        _ => Err(Error::of(status)),
+        status => Err(Error::of(status)),
     }
 }

@@ -1,57 +1,42 @@
-//! The eight types of items.
+//! The eight types of items, and the integers that items are compared with.
 
-use crate::array::Handle;
+use crate::ffi::{self, Handle};
 use crate::types::PType;
+use std::fmt::{Debug, Display};
+use std::hash::Hash;
 
 /// The calls of `flcol.h` that have a type in their names. No other crate can add a type.
 pub(crate) mod calls {
-    use crate::array::Handle;
+    use super::Handle;
 
-    /// # Safety
-    /// Each method is the call of `flcol.h`, and what that owes about pointers and lengths is the caller's.
-    #[allow(clippy::too_many_arguments)]
+    pub type From<T> = unsafe extern "C" fn(*const T, usize, *const u8, usize, *mut Handle) -> i32;
+    pub type Constant<T> = unsafe extern "C" fn(T, u8, usize, *mut Handle) -> i32;
+    pub type Read<T> = unsafe extern "C" fn(*mut Handle, *mut T, usize, *mut u8, usize) -> i32;
+    pub type Get<T> = unsafe extern "C" fn(*mut Handle, usize, *mut T, *mut u8) -> i32;
+    pub type Compare<T> = unsafe extern "C" fn(*mut Handle, u8, T, *mut u8, usize, *mut u8, usize) -> i32;
+    pub type Between<T> = unsafe extern "C" fn(*mut Handle, T, T, u8, u8, *mut u8, usize, *mut u8, usize) -> i32;
+
     pub trait Calls: Sized {
-        unsafe fn from(
-            values: *const Self,
-            len: usize,
-            validity: *const u8,
-            validity_len: usize,
-            out: *mut Handle,
-        ) -> i32;
-        unsafe fn constant(value: Self, is_null: u8, len: usize, out: *mut Handle) -> i32;
-        unsafe fn read(
-            array: *mut Handle,
-            values: *mut Self,
-            len: usize,
-            validity: *mut u8,
-            validity_len: usize,
-        ) -> i32;
-        unsafe fn get(array: *mut Handle, index: usize, value: *mut Self, is_null: *mut u8) -> i32;
-        unsafe fn compare(
-            array: *mut Handle,
-            op: u8,
-            constant: Self,
-            bits: *mut u8,
-            bits_len: usize,
-            validity: *mut u8,
-            validity_len: usize,
-        ) -> i32;
-        unsafe fn between(
-            array: *mut Handle,
-            lower: Self,
-            upper: Self,
-            lower_strict: u8,
-            upper_strict: u8,
-            bits: *mut u8,
-            bits_len: usize,
-            validity: *mut u8,
-            validity_len: usize,
-        ) -> i32;
+        const FROM: From<Self>;
+        const CONSTANT: Constant<Self>;
+        const READ: Read<Self>;
+        const GET: Get<Self>;
+        const COMPARE: Compare<Self>;
+        const BETWEEN: Between<Self>;
+
+        /// The integer, if the type has it.
+        fn narrowed(integer: i128) -> Option<Self>;
+    }
+
+    /// The integers of all types. No other crate can add one.
+    pub trait Widened {
+        /// The integer, or the greatest of the type where it is above: no item is as great.
+        fn to_i128(self) -> i128;
     }
 }
 
 /// A type that the items of an array can have: `u8` to `u64` and `i8` to `i64`.
-pub trait Item: Copy + Default + PartialOrd + calls::Calls + 'static {
+pub trait Item: Default + Ord + Hash + Debug + Display + Integer + calls::Calls + 'static {
     /// The type's name as a value.
     const PTYPE: PType;
     /// The least integer of the type.
@@ -60,23 +45,8 @@ pub trait Item: Copy + Default + PartialOrd + calls::Calls + 'static {
     const MAX: Self;
 }
 
-/// Writes for each method of `Calls` the one that hands its arguments to the call of `flcol.h`.
-macro_rules! linked {
-    ($item:ident, $($call:ident($($name:ident: $type:ty),*);)+) => {
-        $(unsafe fn $call($($name: $type),*) -> i32 {
-            extern "C" {
-                #[link_name = concat!("flcol_", stringify!($call), "_", stringify!($item))]
-                fn call($($name: $type),*) -> i32;
-            }
-            call($($name),*)
-        })+
-    };
-}
-
-pub(crate) use linked;
-
 macro_rules! items {
-    ($($item:ident $ptype:ident),+) => {
+    ($($item:ident $ptype:ident: $from:ident $constant:ident $read:ident $get:ident $compare:ident $between:ident;)+) => {
         $(impl Item for $item {
             const PTYPE: PType = PType::$ptype;
             const MIN: $item = $item::MIN;
@@ -84,17 +54,44 @@ macro_rules! items {
         }
 
         impl calls::Calls for $item {
-            linked! {
-                $item,
-                from(values: *const $item, len: usize, validity: *const u8, validity_len: usize, out: *mut Handle);
-                constant(value: $item, is_null: u8, len: usize, out: *mut Handle);
-                read(array: *mut Handle, values: *mut $item, len: usize, validity: *mut u8, validity_len: usize);
-                get(array: *mut Handle, index: usize, value: *mut $item, is_null: *mut u8);
-                compare(array: *mut Handle, op: u8, constant: $item, bits: *mut u8, bits_len: usize, validity: *mut u8, validity_len: usize);
-                between(array: *mut Handle, lower: $item, upper: $item, lower_strict: u8, upper_strict: u8, bits: *mut u8, bits_len: usize, validity: *mut u8, validity_len: usize);
+            const FROM: calls::From<$item> = ffi::$from;
+            const CONSTANT: calls::Constant<$item> = ffi::$constant;
+            const READ: calls::Read<$item> = ffi::$read;
+            const GET: calls::Get<$item> = ffi::$get;
+            const COMPARE: calls::Compare<$item> = ffi::$compare;
+            const BETWEEN: calls::Between<$item> = ffi::$between;
+
+            fn narrowed(integer: i128) -> Option<$item> {
+                integer.try_into().ok()
             }
         })+
     };
 }
 
-items!(u8 U8, u16 U16, u32 U32, u64 U64, i8 I8, i16 I16, i32 I32, i64 I64);
+items! {
+    u8 U8: flcol_from_u8 flcol_constant_u8 flcol_read_u8 flcol_get_u8 flcol_compare_u8 flcol_between_u8;
+    u16 U16: flcol_from_u16 flcol_constant_u16 flcol_read_u16 flcol_get_u16 flcol_compare_u16 flcol_between_u16;
+    u32 U32: flcol_from_u32 flcol_constant_u32 flcol_read_u32 flcol_get_u32 flcol_compare_u32 flcol_between_u32;
+    u64 U64: flcol_from_u64 flcol_constant_u64 flcol_read_u64 flcol_get_u64 flcol_compare_u64 flcol_between_u64;
+    i8 I8: flcol_from_i8 flcol_constant_i8 flcol_read_i8 flcol_get_i8 flcol_compare_i8 flcol_between_i8;
+    i16 I16: flcol_from_i16 flcol_constant_i16 flcol_read_i16 flcol_get_i16 flcol_compare_i16 flcol_between_i16;
+    i32 I32: flcol_from_i32 flcol_constant_i32 flcol_read_i32 flcol_get_i32 flcol_compare_i32 flcol_between_i32;
+    i64 I64: flcol_from_i64 flcol_constant_i64 flcol_read_i64 flcol_get_i64 flcol_compare_i64 flcol_between_i64;
+}
+
+/// An integer of any type of Rust, with which items of any type are compared as numbers.
+pub trait Integer: Copy + calls::Widened {}
+
+macro_rules! integers {
+    ($($integer:ident)+) => {
+        $(impl Integer for $integer {}
+
+        impl calls::Widened for $integer {
+            fn to_i128(self) -> i128 {
+                i128::try_from(self).unwrap_or(i128::MAX)
+            }
+        })+
+    };
+}
+
+integers!(u8 u16 u32 u64 u128 usize i8 i16 i32 i64 i128 isize);

@@ -15,28 +15,52 @@
 //! assert_eq!(large.iter().collect::<Vec<_>>(), [Some(true), None, Some(true), Some(false)]);
 //!
 //! let kept = Array::from_bytes(&packed.to_bytes()?)?;
-//! assert_eq!(kept.between(..0)?.to_mask().count_ones(), 1);
+//! assert_eq!(kept.between(..0)?.count_true(), 1);
 //! # Ok::<(), flcol::Error>(())
 //! ```
 //!
 //! An [`Array`] owns its items and does not change. Each call that makes one takes new memory, but for what is packed,
 //! which slices and copies share. After an [`Error`] nothing has changed.
+//!
+//! # Containers from strangers
+//! Any bytes make an array or an error. A few bytes may claim any number of items: no call panics or aborts for that, and
+//! what needs more memory than there is answers [`Error::OutOfMemory`]. [`Array::len`] says the number before.
+//!
+//! # The version of the library
+//! Before the first call of the library the crate asks it for the version of its interface. With another one each call
+//! answers [`Error::LibraryVersion`], and the operators of [`Bitmap`] and [`Answers`], which answer no `Result`, panic.
+//!
+//! # Features
+//! `arrow` adds the module `arrow` for Arrow's C Data Interface. `dynamic` links `libflcol.so` in place of `libflcol.a`.
 
 #![warn(missing_docs)]
 
 mod answers;
 mod array;
+#[cfg(feature = "arrow")]
+pub mod arrow;
 mod bitmap;
 pub mod blocks;
+mod chunks;
 mod error;
+mod ffi;
+mod indexed;
 mod item;
 mod iter;
+mod memory;
 mod types;
 
 pub use answers::Answers;
-pub use array::Array;
+pub use array::{Array, Element};
 pub use bitmap::Bitmap;
+pub use chunks::{Chunk, Chunks};
 pub use error::Error;
-pub use item::Item;
+pub use indexed::Indexed;
+pub use item::{Integer, Item};
 pub use iter::Iter;
 pub use types::{DType, Op, PType};
+
+/// The examples of the README, which are tested as those of these pages.
+#[cfg(doctest)]
+#[doc = include_str!("../README.md")]
+struct Readme;

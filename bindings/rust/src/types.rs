@@ -1,10 +1,18 @@
 //! What an array's items are.
 
 use crate::error::Error;
+use crate::item::Item;
 use std::fmt;
+use std::str::FromStr;
 
-/// A type of items. The number is that of `flcol.h` and of containers.
+/// A type of items. The number is that of `flcol.h` and of containers. It is printed as in Rust, and read so.
+///
+/// ```
+/// # use flcol::PType;
+/// assert_eq!((PType::U32.to_string(), "i64".parse()), ("u32".into(), Ok(PType::I64)));
+/// ```
 #[derive(Clone, Copy, Debug, PartialEq, Eq, Hash)]
+#[non_exhaustive]
 #[allow(missing_docs)]
 pub enum PType {
     U8 = 0,
@@ -15,23 +23,64 @@ pub enum PType {
     I16 = 5,
     I32 = 6,
     I64 = 7,
-    /// Booleans, which some containers hold; no call reads them.
+    /// Booleans: [`Array::from_bools`](crate::Array::from_bools) makes arrays of them.
     Bool = 8,
 }
 
+/// The types by their numbers, with their names.
+const TYPES: [(PType, &str); 9] = {
+    use PType::*;
+    [
+        (U8, "u8"),
+        (U16, "u16"),
+        (U32, "u32"),
+        (U64, "u64"),
+        (I8, "i8"),
+        (I16, "i16"),
+        (I32, "i32"),
+        (I64, "i64"),
+        (Bool, "bool"),
+    ]
+};
+
 impl PType {
-    const ALL: [PType; 9] = {
-        use PType::*;
-        [U8, U16, U32, U64, I8, I16, I32, I64, Bool]
-    };
+    /// The type without nulls of the items of Rust.
+    pub fn of<T: Item>() -> PType {
+        T::PTYPE
+    }
 
     /// The type with nulls.
     pub fn nullable(self) -> DType {
         DType { ptype: self, nullable: true }
     }
+
+    fn name(self) -> &'static str {
+        TYPES[self as usize].1
+    }
 }
 
-/// A type of items, and whether they may be null. It is printed as `u32` or `u32?`.
+impl fmt::Display for PType {
+    fn fmt(&self, f: &mut fmt::Formatter<'_>) -> fmt::Result {
+        f.pad(self.name())
+    }
+}
+
+/// Refuses what is no name of a type with `UnknownType`.
+impl FromStr for PType {
+    type Err = Error;
+
+    fn from_str(text: &str) -> Result<PType, Error> {
+        TYPES.iter().find(|(_, name)| *name == text).map(|(ptype, _)| *ptype).ok_or(Error::UnknownType)
+    }
+}
+
+/// A type of items, and whether they may be null. It is printed as `u32` or `u32?`, and read so.
+///
+/// ```
+/// # use flcol::{DType, PType};
+/// assert_eq!("u32?".parse(), Ok(PType::U32.nullable()));
+/// assert_eq!(DType::from(PType::I8).to_string(), "i8");
+/// ```
 #[derive(Clone, Copy, Debug, PartialEq, Eq, Hash)]
 pub struct DType {
     /// The type of the items that aren't null.
@@ -49,7 +98,7 @@ impl DType {
     }
 
     pub(crate) fn of(number: u8) -> Result<DType, Error> {
-        let ptype = PType::ALL.get(usize::from(number & !NULLABLE)).ok_or(Error::UnknownType)?;
+        let (ptype, _) = TYPES.get(usize::from(number & !NULLABLE)).ok_or(Error::UnknownType)?;
         Ok(DType { ptype: *ptype, nullable: number & NULLABLE != 0 })
     }
 }
@@ -63,13 +112,34 @@ impl From<PType> for DType {
 
 impl fmt::Display for DType {
     fn fmt(&self, f: &mut fmt::Formatter<'_>) -> fmt::Result {
-        let name = format!("{:?}", self.ptype).to_lowercase();
-        write!(f, "{name}{}", if self.nullable { "?" } else { "" })
+        match self.nullable {
+            true => f.pad(&format!("{}?", self.ptype)),
+            false => self.ptype.fmt(f),
+        }
     }
 }
 
-/// How items are compared with a constant, the item on the left. The number is that of `flcol.h`.
+/// Refuses what is no name of a type with `UnknownType`.
+impl FromStr for DType {
+    type Err = Error;
+
+    fn from_str(text: &str) -> Result<DType, Error> {
+        match text.strip_suffix('?') {
+            Some(name) => Ok(name.parse::<PType>()?.nullable()),
+            None => Ok(text.parse::<PType>()?.into()),
+        }
+    }
+}
+
+/// How items are compared with a constant, the item on the left. The number is that of `flcol.h`. It is printed as in
+/// Rust, and read so or as in SQL.
+///
+/// ```
+/// # use flcol::Op;
+/// assert_eq!((Op::NotEq.to_string(), "<>".parse(), "=".parse()), ("!=".into(), Ok(Op::NotEq), Ok(Op::Eq)));
+/// ```
 #[derive(Clone, Copy, Debug, PartialEq, Eq, Hash)]
+#[non_exhaustive]
 pub enum Op {
     /// `==`
     Eq = 0,
@@ -83,4 +153,34 @@ pub enum Op {
     Lt = 4,
     /// `<=`
     Lte = 5,
+}
+
+impl fmt::Display for Op {
+    fn fmt(&self, f: &mut fmt::Formatter<'_>) -> fmt::Result {
+        f.pad(match self {
+            Op::Eq => "==",
+            Op::NotEq => "!=",
+            Op::Gt => ">",
+            Op::Gte => ">=",
+            Op::Lt => "<",
+            Op::Lte => "<=",
+        })
+    }
+}
+
+/// Refuses what is no operator with `BadOperator`.
+impl FromStr for Op {
+    type Err = Error;
+
+    fn from_str(text: &str) -> Result<Op, Error> {
+        match text {
+            "==" | "=" => Ok(Op::Eq),
+            "!=" | "<>" => Ok(Op::NotEq),
+            ">" => Ok(Op::Gt),
+            ">=" => Ok(Op::Gte),
+            "<" => Ok(Op::Lt),
+            "<=" => Ok(Op::Lte),
+            _ => Err(Error::BadOperator),
+        }
+    }
 }

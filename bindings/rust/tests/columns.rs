@@ -138,7 +138,6 @@ fn wrong_calls_are_refused_and_change_nothing() {
     let array = Array::new(&[1_u32, 2, 3]).unwrap();
     assert_eq!(array.to_vec::<i32>(), Err(Error::WrongType));
     assert_eq!(array.get::<u64>(0), Err(Error::WrongType));
-    assert_eq!(array.compare(Op::Eq, 1_u8).unwrap_err(), Error::WrongType);
     assert_eq!(array.iter::<u8>().collect::<Vec<_>>(), [Err(Error::WrongType)]);
     assert_eq!(array.read_into(&mut [0_u32; 2]), Err(Error::WrongLength));
     assert_eq!(array.encode("fore").unwrap_err(), Error::BadScheme);
