@@ -1,16 +1,19 @@
 /* flcol_agg: the integers of a group as a column, in the order in which they come.
  *
  * The state is a builder in the aggregate's memory context. Parallel workers hand theirs on as bytes: the type, whether
- * a scheme is named, the lengths, then the scheme, the values and their validity.
+ * a scheme is named, its length and text, then the items in containers, each behind its length.
  */
 #include "value.h"
 
 #include <libpq/pqformat.h>
+#include <miscadmin.h>
 #include <utils/memutils.h>
 
 /* Memory of a context; what there is none for is PostgreSQL's own error. */
 static void *resize(void *owner, void *memory, size_t size) {
-    return memory == NULL ? MemoryContextAllocHuge(owner, size) : repalloc_huge(memory, size);
+    if (size > 0) return memory == NULL ? MemoryContextAllocHuge(owner, size) : repalloc_huge(memory, size);
+    if (memory != NULL) pfree(memory);
+    return NULL;
 }
 
 static struct builder *new_state(FunctionCallInfo fcinfo, uint8_t type) {
@@ -18,6 +21,7 @@ static struct builder *new_state(FunctionCallInfo fcinfo, uint8_t type) {
     if (!AggCheckCallContext(fcinfo, &context)) elog(ERROR, "flcol_agg is called outside of an aggregate");
     struct builder *state = MemoryContextAllocZero(context, sizeof *state);
     state->type = type;
+    state->most = COLUMN_ITEMS;
     state->resize = resize;
     state->owner = context;
     return state;
@@ -58,18 +62,20 @@ PG_FUNCTION_INFO_V1(sql_flcol_finish);
 Datum sql_flcol_finish(PG_FUNCTION_ARGS) {
     const struct builder *state = state_of(fcinfo, 0);
     if (state == NULL) PG_RETURN_NULL();
-    flcol_array *array = hold_array();
-    check(builder_encode(state, array));
-    PG_RETURN_DATUM(array_value(array));
+    PG_RETURN_DATUM(array_value(encoded_items(state)));
 }
 
 /* ---- Parallel workers ---- */
 
-/* Adds the items of another state behind those of the first. */
+enum {
+    STATE_CHUNK = 1 << 20, /* how many items a container of a state has at most, so that none takes long to make */
+    STATE_PLAIN = 16 << 20 /* how many bytes of values are handed on as they are: the state has to be less than 1 GB */
+};
+
+/* Adds the items of another state, which is given back, behind those of the first. */
 PG_FUNCTION_INFO_V1(sql_flcol_combine);
 Datum sql_flcol_combine(PG_FUNCTION_ARGS) {
-    struct builder *state = state_of(fcinfo, 0);
-    const struct builder *other = state_of(fcinfo, 1);
+    struct builder *state = state_of(fcinfo, 0), *other = state_of(fcinfo, 1);
     if (other == NULL && state == NULL) PG_RETURN_NULL();
     if (other == NULL) PG_RETURN_POINTER(state);
     if (state == NULL) {
@@ -77,7 +83,31 @@ Datum sql_flcol_combine(PG_FUNCTION_ARGS) {
         if (other->scheme != NULL) check(builder_set_scheme(state, other->scheme, other->scheme_len));
     }
     check(builder_append(state, other->values, other->validity, other->len));
+    builder_close(other);
     PG_RETURN_POINTER(state);
+}
+
+/* Appends the length of an array's container, and the container. */
+static void send_array(StringInfo bytes, flcol_array *array) {
+    size_t len = 0;
+    check(flcol_serialized_len(array, &len));
+    pq_sendint32(bytes, len);
+    enlargeStringInfo(bytes, len);
+    check(flcol_serialize(array, (uint8_t *)bytes->data + bytes->len, len));
+    bytes->len += len;
+    flcol_free(array);
+}
+
+/* Appends a state's items from an index on, compressed where all of them might be too many bytes. */
+static void send_items(StringInfo bytes, const struct builder *state, size_t from) {
+    flcol_array *items = hold_array(), *packed = hold_array();
+    check(builder_plain(state, from, Min(STATE_CHUNK, state->len - from), items));
+    if (builder_value_bytes(state, state->len) > STATE_PLAIN) {
+        check(flcol_compress(items, packed));
+        flcol_free(items);
+        items = packed;
+    }
+    send_array(bytes, items);
 }
 
 PG_FUNCTION_INFO_V1(sql_flcol_serialize);
@@ -88,11 +118,25 @@ Datum sql_flcol_serialize(PG_FUNCTION_ARGS) {
     pq_sendbyte(&bytes, state->type);
     pq_sendbyte(&bytes, state->scheme != NULL);
     pq_sendint32(&bytes, state->scheme_len);
-    pq_sendint64(&bytes, state->len);
     if (state->scheme != NULL) pq_sendbytes(&bytes, state->scheme, state->scheme_len);
-    pq_sendbytes(&bytes, state->values, builder_value_bytes(state, state->len));
-    pq_sendbytes(&bytes, (const char *)state->validity, (state->len + 7) / 8);
+    for (size_t from = 0; from < state->len; from += STATE_CHUNK) {
+        CHECK_FOR_INTERRUPTS();
+        send_items(&bytes, state, from);
+    }
     PG_RETURN_BYTEA_P(pq_endtypsend(&bytes));
+}
+
+/* Adds the items of a container. */
+static void receive_items(struct builder *state, struct window *window, StringInfo bytes) {
+    const size_t len = pq_getmsgint(bytes, 4);
+    struct column *column = open_bytes(pq_getmsgbytes(bytes, len), len);
+    struct item item = {0};
+    window->from = window->len = 0;
+    for (size_t i = 0; i < column->len; i++) {
+        check(column_item(column, window, i, &item));
+        check(builder_push(state, item));
+    }
+    column_close(column);
 }
 
 PG_FUNCTION_INFO_V1(sql_flcol_deserialize);
@@ -100,12 +144,15 @@ Datum sql_flcol_deserialize(PG_FUNCTION_ARGS) {
     const bytea *value = PG_GETARG_BYTEA_PP(0);
     StringInfoData bytes = {.data = VARDATA_ANY(value), .len = VARSIZE_ANY_EXHDR(value)};
     struct builder *state = new_state(fcinfo, (uint8_t)pq_getmsgbyte(&bytes));
+    struct window *window = palloc(sizeof *window);
     const bool has_scheme = pq_getmsgbyte(&bytes);
-    const size_t scheme_len = pq_getmsgint(&bytes, 4), len = pq_getmsgint64(&bytes);
+    const size_t scheme_len = pq_getmsgint(&bytes, 4);
     const char *scheme = pq_getmsgbytes(&bytes, scheme_len);
     if (has_scheme) check(builder_set_scheme(state, scheme, scheme_len));
-    const char *values = pq_getmsgbytes(&bytes, builder_value_bytes(state, len));
-    check(builder_append(state, values, (const uint8_t *)pq_getmsgbytes(&bytes, (len + 7) / 8), len));
-    pq_getmsgend(&bytes);
+    while (bytes.cursor < bytes.len) {
+        CHECK_FOR_INTERRUPTS();
+        receive_items(state, window, &bytes);
+    }
+    pfree(window);
     PG_RETURN_POINTER(state);
 }

@@ -62,12 +62,11 @@ Datum sql_flcol_between(PG_FUNCTION_ARGS) {
 PG_FUNCTION_INFO_V1(sql_flcol_inspect);
 Datum sql_flcol_inspect(PG_FUNCTION_ARGS) {
     struct varlena *bytes = PG_GETARG_VARLENA_PP(0);
-    struct column *column = open_value(PointerGetDatum(bytes));
     const uint8_t *container = (const uint8_t *)VARDATA_ANY(bytes);
-    const size_t len = column_describe(column, container, VARSIZE_ANY_EXHDR(bytes), NULL);
+    size_t len = 0;
+    check(flcol_inspect(container, VARSIZE_ANY_EXHDR(bytes), NULL, 0, &len));
     text *description = palloc(VARHDRSZ + len);
     SET_VARSIZE(description, VARHDRSZ + len);
-    column_describe(column, container, VARSIZE_ANY_EXHDR(bytes), VARDATA(description));
-    column_close(column);
+    check(flcol_inspect(container, VARSIZE_ANY_EXHDR(bytes), VARDATA(description), len, &len));
     PG_RETURN_TEXT_P(description);
 }

@@ -3,19 +3,40 @@
 
 #include <lib/stringinfo.h>
 #include <libpq/pqformat.h>
+#include <miscadmin.h>
 #include <utils/builtins.h>
 #include <utils/memutils.h>
+#if PG_VERSION_NUM >= 160000
+#include <nodes/miscnodes.h>
+#else
+/* Servers before 16 have hard errors alone. */
+#define ereturn(context, answer, ...) ereport(ERROR, __VA_ARGS__)
+#define hex_decode_safe(digits, len, bytes, context) hex_decode(digits, len, bytes)
+#define SOFT_ERROR_OCCURRED(context) false
+#endif
 
 PG_MODULE_MAGIC;
 
+void _PG_init(void);
+void _PG_init(void) {
+    if (flcol_abi_version() == FLCOL_ABI_VERSION) return;
+    ereport(ERROR, (errcode(ERRCODE_INVALID_OBJECT_DEFINITION),
+                    errmsg("flcol: the library has version %u of its interface, and %d is needed", flcol_abi_version(),
+                           FLCOL_ABI_VERSION)));
+}
+
 /* ---- Errors ---- */
 
+/* The SQLSTATE of what a call is refused for. */
 static int error_code(int32_t status) {
     switch (status) {
         case FLCOL_OUT_OF_MEMORY: return ERRCODE_OUT_OF_MEMORY;
         case FLCOL_INDEX_OUT_OF_BOUNDS:
         case FLCOL_RANGE_OUT_OF_BOUNDS: return ERRCODE_ARRAY_SUBSCRIPT_ERROR;
-        case FLCOL_CAST_OUT_OF_RANGE: return ERRCODE_NUMERIC_VALUE_OUT_OF_RANGE;
+        case FLCOL_CAST_OUT_OF_RANGE:
+        case FLCOL_NEGATIVE_VALUE: return ERRCODE_NUMERIC_VALUE_OUT_OF_RANGE;
+        case FLCOL_NO_MINIMUM: return ERRCODE_NULL_VALUE_NOT_ALLOWED;
+        case FLCOL_WIDTH_TOO_LARGE:
         case FLCOL_BAD_SCHEME:
         case FLCOL_BAD_OPERATOR: return ERRCODE_INVALID_PARAMETER_VALUE;
         case FLCOL_LENGTH_OVERFLOW: return ERRCODE_PROGRAM_LIMIT_EXCEEDED;
@@ -23,8 +44,20 @@ static int error_code(int32_t status) {
     }
 }
 
+/* The SQLSTATE of what bytes are refused for. */
+static int container_error_code(int32_t status) {
+    if (status == FLCOL_OUT_OF_MEMORY || status == FLCOL_LENGTH_OVERFLOW) return error_code(status);
+    return ERRCODE_INVALID_BINARY_REPRESENTATION;
+}
+
+static void refuse_by(int code, int32_t status) {
+    char text[REFUSAL_TEXT];
+    refusal_text(status, text);
+    ereport(ERROR, (errcode(code), errmsg_internal("%s", text)));
+}
+
 void refuse(int32_t status) {
-    ereport(ERROR, (errcode(error_code(status)), errmsg("flcol: %s", flcol_status_name(status))));
+    refuse_by(error_code(status), status);
     pg_unreachable();
 }
 
@@ -56,11 +89,17 @@ flcol_array *hold_array(void) {
     return array;
 }
 
-struct column *open_value(Datum value) {
-    struct varlena *bytes = PG_DETOAST_DATUM_PACKED(value);
+struct column *open_bytes(const void *bytes, size_t len) {
     struct column *column = palloc0(sizeof *column);
     hold(give_back_column, column);
-    check(column_open(column, VARDATA_ANY(bytes), VARSIZE_ANY_EXHDR(bytes)));
+    const int32_t status = column_open(column, bytes, len);
+    if (status != FLCOL_OK) refuse_by(container_error_code(status), status);
+    return column;
+}
+
+struct column *open_value(Datum value) {
+    struct varlena *bytes = PG_DETOAST_DATUM_PACKED(value);
+    struct column *column = open_bytes(VARDATA_ANY(bytes), VARSIZE_ANY_EXHDR(bytes));
     if (DatumGetPointer(value) != (Pointer)bytes) pfree(bytes);
     return column;
 }
@@ -69,6 +108,7 @@ Datum array_value(flcol_array *array) {
     size_t len = 0;
     check(flcol_serialized_len(array, &len));
     if (len > MaxAllocSize - VARHDRSZ) refuse(FLCOL_LENGTH_OVERFLOW);
+    CHECK_FOR_INTERRUPTS();
     bytea *value = palloc(VARHDRSZ + len);
     SET_VARSIZE(value, VARHDRSZ + len);
     check(flcol_serialize(array, (uint8_t *)VARDATA(value), len));
@@ -78,13 +118,17 @@ Datum array_value(flcol_array *array) {
 
 /* ---- The type's functions ---- */
 
-/* Sees that bytes are a container whose column can be asked. */
-static Datum accept(bytea *bytes) {
+/* Bytes as a value, once they are seen to be a container whose column can be asked. What they are refused for is an
+   error, or is noted where the caller has asked for that by a context. */
+static Datum accept(bytea *bytes, Node *context) {
     struct column column;
+    char text[REFUSAL_TEXT];
     const int32_t status = column_open(&column, VARDATA_ANY(bytes), VARSIZE_ANY_EXHDR(bytes));
     column_close(&column);
-    check(status);
-    return PointerGetDatum(bytes);
+    if (status == FLCOL_OK) return PointerGetDatum(bytes);
+    if (status == FLCOL_OUT_OF_MEMORY) refuse(status);
+    refusal_text(status, text);
+    ereturn(context, (Datum)0, (errcode(container_error_code(status)), errmsg_internal("%s", text)));
 }
 
 /* The container of `\x` and hexadecimal digits. */
@@ -92,12 +136,15 @@ PG_FUNCTION_INFO_V1(sql_flcol_in);
 Datum sql_flcol_in(PG_FUNCTION_ARGS) {
     const char *text = PG_GETARG_CSTRING(0);
     if (text[0] != '\\' || text[1] != 'x')
-        ereport(ERROR, (errcode(ERRCODE_INVALID_TEXT_REPRESENTATION), errmsg("invalid input syntax for type flcol"),
-                        errdetail("A column is written as \\x and the hexadecimal digits of its container.")));
+        ereturn(fcinfo->context, (Datum)0,
+                (errcode(ERRCODE_INVALID_TEXT_REPRESENTATION), errmsg("invalid input syntax for type flcol"),
+                 errdetail("A column is written as \\x and the hexadecimal digits of its container.")));
     const size_t digits = strlen(text + 2);
     bytea *bytes = palloc(VARHDRSZ + digits / 2 + 1);
-    SET_VARSIZE(bytes, VARHDRSZ + hex_decode(text + 2, digits, VARDATA(bytes)));
-    PG_RETURN_DATUM(accept(bytes));
+    const uint64 len = hex_decode_safe(text + 2, digits, VARDATA(bytes), fcinfo->context);
+    if (SOFT_ERROR_OCCURRED(fcinfo->context)) PG_RETURN_NULL();
+    SET_VARSIZE(bytes, VARHDRSZ + len);
+    PG_RETURN_DATUM(accept(bytes, fcinfo->context));
 }
 
 PG_FUNCTION_INFO_V1(sql_flcol_out);
@@ -118,7 +165,7 @@ Datum sql_flcol_recv(PG_FUNCTION_ARGS) {
     bytea *bytes = palloc(VARHDRSZ + len);
     SET_VARSIZE(bytes, VARHDRSZ + len);
     pq_copymsgbytes(message, VARDATA(bytes), len);
-    PG_RETURN_DATUM(accept(bytes));
+    PG_RETURN_DATUM(accept(bytes, NULL));
 }
 
 PG_FUNCTION_INFO_V1(sql_flcol_send);
@@ -129,5 +176,5 @@ Datum sql_flcol_send(PG_FUNCTION_ARGS) {
 /* The container of a bytea. */
 PG_FUNCTION_INFO_V1(sql_flcol_of_bytea);
 Datum sql_flcol_of_bytea(PG_FUNCTION_ARGS) {
-    PG_RETURN_DATUM(accept(PG_GETARG_BYTEA_P_COPY(0)));
+    PG_RETURN_DATUM(accept(PG_GETARG_BYTEA_P_COPY(0), NULL));
 }

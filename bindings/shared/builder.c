@@ -22,14 +22,15 @@ int32_t builder_set_scheme(struct builder *builder, const char *text, size_t len
 
 /* Makes room for as many items more. */
 static int32_t reserve(struct builder *builder, size_t more) {
-    if (more > COLUMN_ITEMS - builder->len) return FLCOL_LENGTH_OVERFLOW;
+    if (more > builder->most - builder->len) return FLCOL_LENGTH_OVERFLOW;
     if (more <= builder->capacity - builder->len) return FLCOL_OK;
     size_t capacity = builder->capacity == 0 ? FIRST_CAPACITY : builder->capacity;
     while (capacity < builder->len + more) capacity *= 2;
+    if (capacity > builder->most) capacity = builder->most;
     void *values = builder->resize(builder->owner, builder->values, builder_value_bytes(builder, capacity));
     if (values == NULL) return FLCOL_OUT_OF_MEMORY;
     builder->values = values;
-    uint8_t *validity = builder->resize(builder->owner, builder->validity, capacity / 8);
+    uint8_t *validity = builder->resize(builder->owner, builder->validity, (capacity + 7) / 8);
     if (validity == NULL) return FLCOL_OUT_OF_MEMORY;
     builder->validity = validity;
     builder->capacity = capacity;
@@ -39,8 +40,9 @@ static int32_t reserve(struct builder *builder, size_t more) {
 /* Writes whether the item behind the last is null, for which there is room. */
 static void put_validity(struct builder *builder, bool is_null) {
     uint8_t *byte = &builder->validity[builder->len / 8];
-    const uint8_t bit = (uint8_t)(1 << builder->len % 8);
-    *byte = (uint8_t)(is_null ? *byte & ~bit : *byte | bit);
+    const unsigned bit = builder->len % 8;
+    if (bit == 0) *byte = 0;
+    if (!is_null) *byte |= (uint8_t)(1 << bit);
     builder->null_count += is_null;
 }
 
@@ -70,31 +72,25 @@ int32_t builder_append(struct builder *builder, const void *values, const uint8_
     return FLCOL_OK;
 }
 
-/* The items as a plain array, of a type without nulls where there are none. */
-static int32_t plain_array(const struct builder *builder, flcol_array *out) {
-    const uint8_t *validity = builder->null_count > 0 ? builder->validity : NULL;
-    const size_t len = builder->len, validity_len = validity != NULL ? (len + 7) / 8 : 0;
+int32_t builder_plain(const struct builder *builder, size_t from, size_t len, flcol_array *out) {
+    const void *values = (const char *)builder->values + builder_value_bytes(builder, from);
+    const uint8_t *validity = builder->null_count > 0 ? builder->validity + from / 8 : NULL;
+    const size_t validity_len = validity != NULL ? (len + 7) / 8 : 0;
     switch (builder->type) {
-        case FLCOL_I16: return flcol_from_i16(builder->values, len, validity, validity_len, out);
-        case FLCOL_I32: return flcol_from_i32(builder->values, len, validity, validity_len, out);
-        default: return flcol_from_i64(builder->values, len, validity, validity_len, out);
+        case FLCOL_I16: return flcol_from_i16(values, len, validity, validity_len, out);
+        case FLCOL_I32: return flcol_from_i32(values, len, validity, validity_len, out);
+        default: return flcol_from_i64(values, len, validity, validity_len, out);
     }
 }
 
-int32_t builder_encode(const struct builder *builder, flcol_array *out) {
-    flcol_array plain = FLCOL_EMPTY;
-    int32_t status = plain_array(builder, &plain);
-    if (status == FLCOL_OK) {
-        status = builder->scheme != NULL ? flcol_encode(&plain, builder->scheme, builder->scheme_len, out)
-                                         : flcol_compress(&plain, out);
-    }
-    flcol_free(&plain);
-    return status;
+int32_t encode_by(flcol_array *plain, const char *scheme, size_t scheme_len, flcol_array *out) {
+    return scheme != NULL ? flcol_encode(plain, scheme, scheme_len, out) : flcol_compress(plain, out);
 }
 
 void builder_close(struct builder *builder) {
     builder->resize(builder->owner, builder->values, 0);
     builder->resize(builder->owner, builder->validity, 0);
     builder->resize(builder->owner, builder->scheme, 0);
-    *builder = (struct builder){.type = builder->type, .resize = builder->resize, .owner = builder->owner};
+    *builder = (struct builder){
+        .type = builder->type, .most = builder->most, .resize = builder->resize, .owner = builder->owner};
 }

@@ -1,7 +1,12 @@
 /* Columns that are kept: one item, items in their order, counting. */
 #include "column.h"
 
+#include <stdio.h>
 #include <string.h>
+
+void refusal_text(int32_t status, char text[REFUSAL_TEXT]) {
+    snprintf(text, REFUSAL_TEXT, "flcol: %s: %s", flcol_status_name(status), flcol_status_message(status));
+}
 
 /* ---- The eight types ---- */
 
@@ -175,19 +180,6 @@ static int32_t count_valid(flcol_array *part, size_t len, int64_t *count) {
     return status;
 }
 
-/* How many bits are set in both of two bitmaps, or in the one. */
-static int64_t count_bits(const uint8_t *bits, const uint8_t *validity, size_t bytes) {
-    int64_t count = 0;
-    for (size_t i = 0; i < bytes; i += 8) {
-        uint64_t word = 0, valid = UINT64_MAX;
-        const size_t taken = smaller(8, bytes - i);
-        memcpy(&word, bits + i, taken);
-        if (validity != NULL) memcpy(&valid, validity + i, taken);
-        count += __builtin_popcountll(word & valid);
-    }
-    return count;
-}
-
 /* Adds how many of a part's items meet a condition whose constants are of the type. */
 static int32_t count_part(struct column *column, flcol_array *part, size_t len, const struct condition *condition,
                           int64_t *count) {
@@ -195,11 +187,13 @@ static int32_t count_part(struct column *column, flcol_array *part, size_t len, 
     uint8_t *validity = column->is_nullable ? valid : NULL;
     const size_t bytes = bitmap_bytes(len), validity_bytes = validity != NULL ? bytes : 0;
     const struct integer_type *type = &types[column->type];
-    const int32_t status =
+    size_t met = 0;
+    int32_t status =
         condition->is_between
             ? type->between(part, condition->lower, condition->upper, bits, bytes, validity, validity_bytes)
             : type->compare(part, condition->op, condition->constant, bits, bytes, validity, validity_bytes);
-    if (status == FLCOL_OK) *count += count_bits(bits, validity, bytes);
+    if (status == FLCOL_OK) status = flcol_count_bits(bits, bytes, validity, validity_bytes, len, &met);
+    if (status == FLCOL_OK) *count += (int64_t)met;
     return status;
 }
 

@@ -14,7 +14,8 @@
 
 enum {
     COLUMN_WINDOW = 64 * 1024, /* how many items are read, or compared, at a time */
-    COLUMN_SCHEME = 256        /* how many bytes the text of a scheme has at most: nesting takes the stack */
+    COLUMN_SCHEME = 256,       /* how many bytes the text of a scheme has at most: nesting takes the stack */
+    REFUSAL_TEXT = 256         /* how many bytes the text of a refusal has at most, with the 0 behind it */
 };
 
 /* How many items a value stands for at most. A few bytes can say any number. */
@@ -25,6 +26,9 @@ struct item {
     int64_t value;
     bool is_null;
 };
+
+/* Writes what an error of an engine says of a status: `flcol: `, its name, and its sentence behind a colon. */
+void refusal_text(int32_t status, char text[REFUSAL_TEXT]);
 
 /* ---- Columns that are kept ---- */
 
@@ -49,10 +53,6 @@ int32_t column_get(struct column *column, int64_t index, struct item *item);
 
 /* The items from `from` to below `to`, in the same encodings. FLCOL_RANGE_OUT_OF_BOUNDS. */
 int32_t column_slice(struct column *column, int64_t from, int64_t to, flcol_array *out);
-
-/* Writes the type of a column, the encodings of its container, which it was opened from, the number of items, and how
-   many bits of the container each takes; the answer is the text's length. Where `text` is NULL nothing is written. */
-size_t column_describe(const struct column *column, const uint8_t *container, size_t len, char *text);
 
 /* ---- Items in their order ---- */
 
@@ -91,9 +91,10 @@ int32_t column_count(struct column *column, size_t from, const struct condition 
 /* Gives memory of `size` bytes in place of `memory`, or NULL. */
 typedef void *resize_fn(void *owner, void *memory, size_t size);
 
-/* Items that are gathered to be encoded. One of zeros but for `type`, `resize` and `owner` has none. */
+/* Items that are gathered to be encoded. One of zeros but for `type`, `most`, `resize` and `owner` has none. */
 struct builder {
     uint8_t type; /* FLCOL_I16, FLCOL_I32 or FLCOL_I64, of which each value is */
+    size_t most;  /* how many items there are at most: no greater `resize` is asked for than these take */
     resize_fn *resize;
     void *owner; /* handed to `resize` */
     size_t len;
@@ -108,17 +109,20 @@ struct builder {
 /* Sets the scheme. FLCOL_BAD_SCHEME: the text is longer than COLUMN_SCHEME. */
 int32_t builder_set_scheme(struct builder *builder, const char *text, size_t len);
 
-/* Adds an item. */
+/* Adds an item. FLCOL_LENGTH_OVERFLOW: there are `most` already. */
 int32_t builder_push(struct builder *builder, struct item item);
 
-/* Adds items: values of the builder's type, and a bit for each that is not null. */
+/* Adds items: values of the builder's type, and a bit for each that is not null. FLCOL_LENGTH_OVERFLOW. */
 int32_t builder_append(struct builder *builder, const void *values, const uint8_t *validity, size_t len);
 
 /* The bytes that `len` values take. */
 size_t builder_value_bytes(const struct builder *builder, size_t len);
 
-/* The items as an array of the scheme. What flcol_encode refuses. */
-int32_t builder_encode(const struct builder *builder, flcol_array *out);
+/* `len` items from `from` on, a multiple of 8, as a plain array; of a type without nulls where the builder has none. */
+int32_t builder_plain(const struct builder *builder, size_t from, size_t len, flcol_array *out);
+
+/* An array by a scheme, or where `scheme` is NULL by the one with the fewest bytes. What flcol_encode refuses. */
+int32_t encode_by(flcol_array *plain, const char *scheme, size_t scheme_len, flcol_array *out);
 
 /* Gives memory back by `resize` with the size 0. */
 void builder_close(struct builder *builder);

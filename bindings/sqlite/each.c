@@ -10,6 +10,7 @@ enum { EQUAL = 1, LEAST = 2, GREATEST = 4 };
 
 struct cursor {
     sqlite3_vtab_cursor base;
+    sqlite3_value *container; /* the argument */
     struct column column;
     struct window window;
     size_t index;
@@ -21,8 +22,10 @@ struct cursor {
 static int fail(sqlite3_vtab *table, int32_t status) {
     if (status == FLCOL_OUT_OF_MEMORY) return SQLITE_NOMEM;
     sqlite3_free(table->zErrMsg);
-    table->zErrMsg = sqlite3_mprintf("flcol: %s", flcol_status_name(status));
-    return SQLITE_ERROR;
+    char text[REFUSAL_TEXT];
+    refusal_text(status, text);
+    table->zErrMsg = sqlite3_mprintf("%s", text);
+    return table->zErrMsg == NULL ? SQLITE_NOMEM : SQLITE_ERROR;
 }
 
 static int connect(sqlite3 *db, void *aux, int argc, const char *const *argv, sqlite3_vtab **table, char **message) {
@@ -93,8 +96,16 @@ static int open_cursor(sqlite3_vtab *table, sqlite3_vtab_cursor **out) {
     return SQLITE_OK;
 }
 
+/* Gives back what the cursor holds. It has no rows then. */
+static void leave(struct cursor *cursor) {
+    column_close(&cursor->column);
+    sqlite3_value_free(cursor->container);
+    cursor->container = NULL;
+    cursor->index = cursor->end = cursor->window.from = cursor->window.len = 0;
+}
+
 static int close_cursor(sqlite3_vtab_cursor *base) {
-    column_close(&((struct cursor *)base)->column);
+    leave((struct cursor *)base);
     sqlite3_free(base);
     return SQLITE_OK;
 }
@@ -122,9 +133,10 @@ static void end_behind(struct cursor *cursor, sqlite3_value *bound) {
 static int filter(sqlite3_vtab_cursor *base, int bounds, const char *text, int count, sqlite3_value **values) {
     (void)text, (void)count;
     struct cursor *cursor = (struct cursor *)base;
-    column_close(&cursor->column);
-    cursor->index = cursor->end = cursor->window.from = cursor->window.len = 0;
+    leave(cursor);
     if (sqlite3_value_type(values[0]) == SQLITE_NULL) return SQLITE_OK;
+    cursor->container = sqlite3_value_dup(values[0]);
+    if (cursor->container == NULL) return SQLITE_NOMEM;
     const int32_t status = open_value(&cursor->column, values[0]);
     if (status != FLCOL_OK) return fail(base->pVtab, status);
     cursor->end = cursor->column.len;
@@ -149,6 +161,7 @@ static int column_at(sqlite3_vtab_cursor *base, sqlite3_context *context, int wh
     const struct cursor *cursor = (struct cursor *)base;
     if (which == INDEX) sqlite3_result_int64(context, (sqlite3_int64)cursor->index);
     if (which == VALUE && !cursor->item.is_null) sqlite3_result_int64(context, cursor->item.value);
+    if (which == CONTAINER) sqlite3_result_value(context, cursor->container);
     return SQLITE_OK;
 }
 

@@ -17,13 +17,9 @@ void refuse(sqlite3_context *context, int32_t status) {
         sqlite3_result_error_nomem(context);
         return;
     }
-    char *message = sqlite3_mprintf("flcol: %s", flcol_status_name(status));
-    if (message == NULL) {
-        sqlite3_result_error_nomem(context);
-        return;
-    }
-    sqlite3_result_error(context, message, -1);
-    sqlite3_free(message);
+    char text[REFUSAL_TEXT];
+    refusal_text(status, text);
+    sqlite3_result_error(context, text, -1);
 }
 
 /* Writes an array into memory of SQLite. */
@@ -130,9 +126,23 @@ static int32_t answer_slice(sqlite3_context *context, struct column *column, sql
     return status;
 }
 
+/* Whether the statement is to end early, which SQLite says from 3.41 on. */
+static bool is_interrupted(sqlite3_context *context) {
+#if SQLITE_VERSION_NUMBER >= 3041000
+    return sqlite3_libversion_number() >= 3041000 && sqlite3_is_interrupted(sqlite3_context_db_handle(context));
+#else
+    (void)context;
+    return false;
+#endif
+}
+
 static int32_t answer_condition(sqlite3_context *context, struct column *column, const struct condition *condition) {
     int64_t count = 0;
     for (size_t from = 0; from < column->len; from += COLUMN_WINDOW) {
+        if (is_interrupted(context)) {
+            sqlite3_result_error_code(context, SQLITE_INTERRUPT);
+            return FLCOL_OK;
+        }
         const int32_t status = column_count(column, from, condition, &count);
         if (status != FLCOL_OK) return status;
     }
@@ -149,44 +159,62 @@ static int32_t answer_count(sqlite3_context *context, struct column *column, sql
     return status == FLCOL_OK ? answer_condition(context, column, &condition) : status;
 }
 
-static int32_t answer_between(sqlite3_context *context, struct column *column, sqlite3_value **values) {
+static int32_t answer_count_between(sqlite3_context *context, struct column *column, sqlite3_value **values) {
     struct condition condition = {.is_between = true};
     int32_t status = integer_value(values[1], &condition.lower);
     if (status == FLCOL_OK) status = integer_value(values[2], &condition.upper);
     return status == FLCOL_OK ? answer_condition(context, column, &condition) : status;
 }
 
-static int32_t answer_inspect(sqlite3_context *context, struct column *column, sqlite3_value **values) {
-    const uint8_t *container = sqlite3_value_blob(values[0]);
-    const size_t container_len = (size_t)sqlite3_value_bytes(values[0]);
-    const size_t len = column_describe(column, container, container_len, NULL);
-    char *text = sqlite3_malloc64(len);
-    if (text == NULL) return FLCOL_OUT_OF_MEMORY;
-    column_describe(column, container, container_len, text);
-    sqlite3_result_text64(context, text, len, sqlite3_free, SQLITE_UTF8);
-    return FLCOL_OK;
+/* A container's text, which no column is opened for: columns of booleans have one too. */
+static int32_t inspect(sqlite3_value *value, char **text, size_t *len) {
+    if (sqlite3_value_type(value) != SQLITE_BLOB) return FLCOL_BAD_CONTAINER;
+    const uint8_t *container = sqlite3_value_blob(value);
+    const size_t container_len = (size_t)sqlite3_value_bytes(value);
+    int32_t status = flcol_inspect(container, container_len, NULL, 0, len);
+    if (status != FLCOL_OK) return status;
+    *text = sqlite3_malloc64(*len);
+    if (*text == NULL) return FLCOL_OUT_OF_MEMORY;
+    status = flcol_inspect(container, container_len, *text, *len, len);
+    if (status != FLCOL_OK) sqlite3_free(*text);
+    return status;
 }
 
-#define DEFINE_FUNCTION(NAME)                                                                  \
+static void flcol_inspect_sql(sqlite3_context *context, int count, sqlite3_value **values) {
+    char *text = NULL;
+    size_t len = 0;
+    if (has_null(count, values)) return;
+    const int32_t status = inspect(values[0], &text, &len);
+    if (status == FLCOL_OK) {
+        sqlite3_result_text64(context, text, len, sqlite3_free, SQLITE_UTF8);
+    } else {
+        refuse(context, status);
+    }
+}
+
+#define DEFINE_FUNCTION(NAME)                                                                     \
     static void flcol_##NAME##_sql(sqlite3_context *context, int count, sqlite3_value **values) { \
-        with_column(context, count, values, answer_##NAME);                                    \
+        with_column(context, count, values, answer_##NAME);                                       \
     }
 
 DEFINE_FUNCTION(len)
 DEFINE_FUNCTION(get)
 DEFINE_FUNCTION(slice)
 DEFINE_FUNCTION(count)
-DEFINE_FUNCTION(between)
-DEFINE_FUNCTION(inspect)
+DEFINE_FUNCTION(count_between)
 
 int add_functions(sqlite3 *db) {
     static const struct {
         const char *name;
         int count;
         void (*function)(sqlite3_context *, int, sqlite3_value **);
-    } functions[] = {{"flcol_len", 1, flcol_len_sql},         {"flcol_get", 2, flcol_get_sql},
-                     {"flcol_slice", 3, flcol_slice_sql},     {"flcol_count", 3, flcol_count_sql},
-                     {"flcol_between", 3, flcol_between_sql}, {"flcol_inspect", 1, flcol_inspect_sql}};
+    } functions[] = {{"flcol_len", 1, flcol_len_sql},
+                     {"flcol_get", 2, flcol_get_sql},
+                     {"flcol_slice", 3, flcol_slice_sql},
+                     {"flcol_count", 3, flcol_count_sql},
+                     {"flcol_count_between", 3, flcol_count_between_sql},
+                     {"flcol_between", 3, flcol_count_between_sql},
+                     {"flcol_inspect", 1, flcol_inspect_sql}};
     const int flags = SQLITE_UTF8 | SQLITE_DETERMINISTIC | SQLITE_INNOCUOUS;
     for (size_t i = 0; i < sizeof functions / sizeof *functions; i++) {
         const int code = sqlite3_create_function_v2(db, functions[i].name, functions[i].count, flags, NULL,

@@ -1,6 +1,6 @@
 """The extension against SQLite's own table of the same items, on hostile blobs, and its errors.
 
-FLCOL_EXTENSION is the extension; statuses of the library come as `flcol: NAME`.
+FLCOL_EXTENSION is the extension; statuses of the library come as `flcol: NAME: SENTENCE`.
 """
 import os
 import pathlib
@@ -18,7 +18,7 @@ OPERATORS = ("=", "<>", "!=", "<", "<=", ">", ">=")
 SCHEMES = ("primitive", "delta", "rle", "for(bitpacked)", "for(blocked)", "forc(bitpacked,_)", "delta(_,for(bitpacked))",
            "rle(for(bitpacked),bitpacked,_)")  # fmt: skip
 EXTREMES = (-(2**63), -1, 0, 2**63 - 1)
-REFUSAL = re.compile(r"flcol: [A-Z][A-Za-z]+\Z")
+REFUSAL = re.compile(r"flcol: [A-Z][A-Za-z]+: .+\Z")
 
 
 def connect():
@@ -41,7 +41,7 @@ class Case(unittest.TestCase):
 
     def refused(self, name, statement, *values):
         """The statement's error is the refusal, and the session goes on."""
-        with self.assertRaisesRegex(sqlite3.OperationalError, rf"\A{name}\Z"):
+        with self.assertRaisesRegex(sqlite3.OperationalError, rf"\A{name}: .+\Z"):
             self.base.execute(statement, values).fetchall()
         self.assertEqual(self.ask("SELECT flcol_len(flcol(1))"), 1)
 
@@ -80,7 +80,7 @@ class Columns(Case):
         for lower in constants:
             for upper in constants:
                 plain = self.ask("SELECT count(*) FROM plain WHERE x BETWEEN ? AND ?", lower, upper)
-                self.assertEqual(self.ask("SELECT flcol_between(?, ?, ?)", blob, lower, upper), plain, (lower, upper))
+                self.assertEqual(self.ask("SELECT flcol_count_between(?, ?, ?)", blob, lower, upper), plain, (lower, upper))
 
     def cut(self, blob, items):
         start, end = sorted(self.chance.randrange(len(items) + 1) for _ in range(2))
@@ -147,6 +147,35 @@ class Columns(Case):
         self.assertEqual(self.ask(nested, containers.PACKED), 9)
         self.assertEqual(self.ask('SELECT value FROM flcol_each(?) ORDER BY "index" DESC', containers.PACKED), 3)
 
+    def test_the_hidden_column_is_the_argument(self):
+        self.base.execute("CREATE TABLE c(b BLOB)")
+        blobs = [containers.PACKED, containers.plain("i8", [4]), containers.plain("i8", []), None]
+        self.base.executemany("INSERT INTO c VALUES (?)", [(blob,) for blob in blobs])
+        every = [1, 2, 3, 4]
+        for statement in ("SELECT value FROM c, flcol_each(b) WHERE container IS NOT NULL ORDER BY value",
+                          "SELECT value FROM c JOIN flcol_each(c.b) e ON e.container = c.b ORDER BY value",
+                          "SELECT value FROM c, flcol_each(b) WHERE container = b AND \"index\" >= 0 ORDER BY value"):  # fmt: skip
+            with self.subTest(statement):
+                self.assertEqual([value for value, in self.base.execute(statement)], every)
+        rows = self.base.execute("SELECT b, container FROM c, flcol_each(b)").fetchall()
+        self.assertTrue(len(rows) == 4 and all(blob == container for blob, container in rows))
+        self.assertEqual(self.base.execute("SELECT value FROM c, flcol_each(b) WHERE container IS NULL").fetchall(), [])
+
+    def test_the_old_name_of_counting(self):
+        for bounds in ((1, 2), (3, 1), (-(2**63), 2**63 - 1)):
+            named = self.ask("SELECT flcol_count_between(?, ?, ?)", containers.PACKED, *bounds)
+            self.assertEqual(self.ask("SELECT flcol_between(?, ?, ?)", containers.PACKED, *bounds), named)
+
+    @unittest.skipIf(sqlite3.sqlite_version_info < (3, 41), "SQLite says so from 3.41 on")
+    def test_counting_is_interrupted(self):
+        def interrupt():
+            self.base.interrupt()
+            return 3
+
+        self.base.create_function("interrupt", 0, interrupt)
+        with self.assertRaisesRegex(sqlite3.OperationalError, "interrupted"):
+            self.ask("SELECT flcol_count(?, '=', interrupt())", containers.PACKED)
+        self.assertEqual(self.ask("SELECT flcol_count(?, '=', 3)", containers.PACKED), 1)
 
     def test_indices_narrow_the_rows(self):
         items = [at * at % 101 for at in range(70_000)]
@@ -173,13 +202,17 @@ class Worked(Case):
                 self.assertEqual(self.each(blob), items)
 
     def test_inspect_says_scheme_and_bits(self):
-        self.assertEqual(self.ask("SELECT flcol_inspect(?)", containers.PACKED), "u32 bitpacked:2, 3 items, 813.33 bits an item")
-        self.assertEqual(self.ask("SELECT flcol_inspect(?)", containers.plain("i8", [])), "i8 primitive, 0 items")
+        bools = b"FLC1" + containers.bools([1, 0, 1])
+        for blob, text in ((containers.PACKED, "u32 bitpacked:2, 3 items, 813.33 bits an item"),
+                           (containers.plain("i8", []), "i8 primitive, 0 items"),
+                           (containers.constant("u8", 3, 2**40), "u8 constant, 1099511627776 items, 0.00 bits an item"),
+                           (bools, f"bool, 3 items, {8 * len(bools) / 3:.2f} bits an item")):  # fmt: skip
+            self.assertEqual(self.ask("SELECT flcol_inspect(?)", blob), text)
 
     def try_all(self, blob):
         """Asks everything of a blob, and counts the answers that are a refusal; nothing else may be one."""
         asked = ("flcol_len(?1)", "flcol_inspect(?1)", "flcol_get(?1, 0)", "flcol_slice(?1, 0, 1)", "flcol_count(?1, '<', 2)",
-                 "flcol_between(?1, 1, 2)", "(SELECT count(value) FROM (SELECT value FROM flcol_each(?1) LIMIT 9))")  # fmt: skip
+                 "flcol_count_between(?1, 1, 2)", "(SELECT count(value) FROM (SELECT value FROM flcol_each(?1) LIMIT 9))")  # fmt: skip
         refused = 0
         for function in asked:
             try:
@@ -237,7 +270,7 @@ class Errors(Case):
             self.refused("flcol: NotInteger", "SELECT flcol_get(?, ?)", containers.PACKED, value)
             self.refused("flcol: NotInteger", "SELECT flcol_slice(?, 0, ?)", containers.PACKED, value)
             self.refused("flcol: NotInteger", "SELECT flcol_count(?, '<', ?)", containers.PACKED, value)
-            self.refused("flcol: NotInteger", "SELECT flcol_between(?, ?, 1)", containers.PACKED, value)
+            self.refused("flcol: NotInteger", "SELECT flcol_count_between(?, ?, 1)", containers.PACKED, value)
 
     def test_operators_and_schemes(self):
         for text in ("", "==", "<<", " <", "lt"):
@@ -246,6 +279,28 @@ class Errors(Case):
             self.refused("flcol: BadScheme", "SELECT flcol(1, ?)", text)
         self.refused("flcol: NegativeValue", "SELECT flcol(-1, 'bitpacked')")
         self.refused("flcol: NoMinimum", "SELECT flcol(NULL, 'for(bitpacked)')")
+
+    def test_whatever_is_passed(self):
+        """Each argument of each function in turn is of another kind than is asked for: the answer is a null or a refusal."""
+        kinds = ("NULL", "''", "'abc'", "x''", "x'00'", "-1", "2.5", "1e999", "-1e999", "9223372036854775807", "-9223372036854775808",
+                 "9223372036854775808", "'9223372036854775808'", "zeroblob(1000)", "char(0)", "x'ff' || 'a'")  # fmt: skip
+        calls = {"flcol_len": ("?1",), "flcol_inspect": ("?1",), "flcol_get": ("?1", "0"), "flcol_slice": ("?1", "0", "1"),
+                 "flcol_count": ("?1", "'='", "1"), "flcol_count_between": ("?1", "1", "1"), "flcol": ("1", "'for(bitpacked)'")}  # fmt: skip
+        for name, words in calls.items():
+            for at in range(len(words)):
+                for kind in kinds:
+                    call = f"{name}({', '.join([*words[:at], kind, *words[at + 1:]])})"
+                    with self.subTest(call):
+                        try:
+                            self.base.execute(f"SELECT {call}", (containers.PACKED,) if "?1" in call else ()).fetchall()
+                        except sqlite3.OperationalError as error:
+                            self.assertRegex(str(error), REFUSAL)
+        self.assertEqual(self.ask("SELECT flcol_len(?)", containers.PACKED), 3)
+
+    def test_as_many_arguments_as_there_are(self):
+        for call in ("flcol()", "flcol(1, 'for', 2)", "flcol_len()", "flcol_get(?)", "flcol_count(?, '=')", "flcol_inspect(?, 1)"):
+            with self.assertRaisesRegex(sqlite3.OperationalError, "wrong number of arguments"):
+                self.base.execute(f"SELECT {call}", (containers.PACKED,) if "?" in call else ())
 
     def test_items_above_64_bits_signed(self):
         blob = containers.plain("u64", [1, 2**63])

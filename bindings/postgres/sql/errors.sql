@@ -1,6 +1,8 @@
--- Each error and its message; the session goes on.
+-- The SQLSTATE of each error; the session goes on. tests/messages.sql has what they say.
 CREATE EXTENSION flcol;
 \set packed '\'\\x464c433113666173746c616e65732e6269747061636b65640203000000000000000200000008020100010000000000000100000002000000030000000000000000000000000000000000000000000000000000000000000000000000000000000000000000000000000000000000000000000000000000000000000000000000000000000000000000000000000000000000000000000000000000000000000000000000000000000000000000000000000000000000000000000000000000000000000000000000000000000000000000000000000000000000000000000000000000000000000000000000000000000000000000000000000000000000000000000000000000000000000000000000000000000000000000000000000000000000000000000000000000000000000000\''
+
+\set VERBOSITY sqlstate
 
 -- Text that is no value.
 SELECT 'abc'::flcol;
@@ -27,7 +29,27 @@ SELECT flcol_slice(:packed, 0, 4);
 SELECT flcol_slice(:packed, -1, 1);
 SELECT flcol_count(:packed, '==', 1);
 
--- Schemes.
+SELECT flcol_count(:packed, NULL::text::flcol_operator, 1) AS "a null";
+SELECT flcol_get(:packed, 9223372036854775807);
+SELECT flcol_get(:packed, -9223372036854775808);
+SELECT flcol_get(:packed, 9223372036854775808);
+SELECT flcol_get(:packed, 9223372036854775808::numeric::bigint);
+SELECT flcol_get(:packed, 'NaN'::float8::bigint);
+SELECT flcol_get(:packed, 1.5);
+SELECT flcol_get(:packed, 'one');
+SELECT flcol_slice(:packed, 0, 9223372036854775807);
+SELECT flcol_slice(:packed, 9223372036854775807, 9223372036854775807);
+SELECT flcol_count(:packed, '<', 9223372036854775808);
+SELECT flcol_count_between(:packed, 1);
+SELECT flcol_len(3);
+SELECT flcol_len(:packed::bytea);
+
+-- Groups of other types, and schemes.
+SELECT flcol_agg(1.5);
+SELECT flcol_agg('x'::text);
+SELECT flcol_agg(1, 2);
+SELECT flcol_agg(1, '');
+SELECT flcol_agg(1, 'bitpacked:65');
 SELECT flcol_agg(i, 'zip') FROM generate_series(1, 3) i;
 SELECT flcol_agg(i, repeat('for(', 1000)) FROM generate_series(1, 3) i;
 SELECT flcol_agg(i, 'bitpacked') FROM generate_series(-1, 3) i;
@@ -42,5 +64,6 @@ SELECT flcol_unnest('\x464c433110766f727465782e7072696d6974697665030200000000000
 SELECT flcol_finish(NULL);
 SELECT flcol_deserialize('\x00', NULL);
 
+\set VERBOSITY default
 SELECT flcol_len(:packed) AS "the session goes on";
 DROP EXTENSION flcol CASCADE;

@@ -17,12 +17,14 @@ SELECT flcol_len(flcol_slice(:packed, 3, 3));
 -- Counting: no null is counted, and a constant need not be of the column's type.
 SELECT operator, constant, flcol_count(:framed, operator, constant)
 FROM unnest(enum_range(NULL::flcol_operator)) operator, unnest('{102,-1,9223372036854775807}'::bigint[]) constant;
-SELECT flcol_between(:framed, 102, 103), flcol_between(:framed, -5, 101), flcol_between(:framed, 103, 102),
-       flcol_between(:framed, -9223372036854775808, 9223372036854775807);
+SELECT flcol_count_between(:framed, 102, 103), flcol_count_between(:framed, -5, 101), flcol_count_between(:framed, 103, 102),
+       flcol_count_between(:framed, -9223372036854775808, 9223372036854775807);
+
+SELECT flcol_between(:framed, 102, 103) AS "by its old name", flcol_between(:framed, -5, 101) AS "the same";
 
 -- A null is passed on.
 SELECT flcol_len(NULL), flcol_get(NULL, 0), flcol_get(:packed, NULL), flcol_count(:packed, NULL, 1),
-       flcol_slice(NULL, 0, 1), flcol_between(:packed, 1, NULL), flcol_inspect(NULL);
+       flcol_slice(NULL, 0, 1), flcol_count_between(:packed, 1, NULL), flcol_inspect(NULL);
 SELECT flcol_unnest(NULL);
 
 -- What is written as text or as bytes is read as the same.
@@ -56,7 +58,7 @@ SET min_parallel_table_scan_size = 0;
 SET max_parallel_workers_per_gather = 2;
 ALTER TABLE plain SET (parallel_workers = 2);
 EXPLAIN (COSTS OFF) SELECT flcol_agg(x) FROM plain;
-SELECT flcol_len(column_of), flcol_count(column_of, '<', 1000), flcol_between(column_of, 0, 9223372036854775807)
+SELECT flcol_len(column_of), flcol_count(column_of, '<', 1000), flcol_count_between(column_of, 0, 9223372036854775807)
 FROM (SELECT flcol_agg(x) AS column_of FROM plain) each;
 SELECT sum(item) = (SELECT sum(x) FROM plain) FROM flcol_unnest((SELECT flcol_agg(x, 'for(bitpacked)') FROM plain)) item;
 SELECT sum(flcol_len(column_of)) FROM (SELECT i % 7, flcol_agg(i) AS column_of FROM plain GROUP BY 1) each;

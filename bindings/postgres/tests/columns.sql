@@ -30,7 +30,7 @@ SELECT 'counts', count(*) FROM columns JOIN answers USING (k) WHERE flcol_count(
 CREATE TABLE betweens AS
     SELECT k, a.c AS a, b.c AS b, count(*) FILTER (WHERE x BETWEEN a.c AND b.c) AS met
     FROM plain JOIN constants a USING (k) JOIN constants b USING (k) GROUP BY k, a.c, b.c;
-SELECT 'between', count(*) FROM columns JOIN betweens USING (k) WHERE flcol_between(items, a, b) <> met;
+SELECT 'between', count(*) FROM columns JOIN betweens USING (k) WHERE flcol_count_between(items, a, b) <> met;
 
 -- Workers that each gather a part give the same items, in whatever order.
 SET parallel_setup_cost = 0;
