@@ -29,7 +29,7 @@ int32_t flcol_split(flcol_array *array, flcol_array *out, size_t count) {
     size_t len = 0;
     int32_t status = flcol_len(array, &len);
     if (status != FLCOL_OK || count == 0) return status;
-    flcol_array *parts = calloc(count, sizeof *parts);
+    flcol_array *parts = count <= SIZE_MAX / sizeof *parts ? calloc(count, sizeof *parts) : NULL;
     if (parts == NULL) return FLCOL_OUT_OF_MEMORY;
     status = slice_parts(array, len, parts, count);
     if (status == FLCOL_OK) {
