@@ -6,9 +6,9 @@
 mod arrays;
 #[cfg(test)]
 mod encoded;
+pub mod hashes;
 #[cfg(test)]
 mod packing;
-pub mod hashes;
 pub mod proved;
 pub mod readme;
 pub mod sizes;
