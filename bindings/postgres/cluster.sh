@@ -1,3 +1,4 @@
+# shellcheck shell=bash
 # To be sourced, by a script that sets `here` to the top of the repository: PostgreSQL servers in a temporary folder,
 # which nobody else sees. They run from a copy of the installed PostgreSQL that has the extension, so that nothing of
 # the system is written; they listen on a unix socket alone, and `end_clusters` stops them.

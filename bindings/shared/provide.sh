@@ -1,3 +1,4 @@
+# shellcheck shell=bash
 # To be sourced. provide PACKAGE: installs a package of Debian where that may be done.
 provide() {
   [ "$(id -u)" = 0 ] && command -v apt-get >/dev/null && {

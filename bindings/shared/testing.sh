@@ -1,3 +1,4 @@
+# shellcheck shell=bash
 # To be sourced, by a script that sets `here` to the top of the repository: counts what passed and failed.
 . "$here/bindings/shared/provide.sh"
 
