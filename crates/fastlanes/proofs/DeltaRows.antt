@@ -1,7 +1,8 @@
 -- Rows of sixteen lanes that are written one after the other.
-use Rattle.std.proofs.Common.{◌≡◌, ℕ, zero, suc, ◌+◌, ◌-◌, ◌*◌, ◌%◌, ◌^◌, ◌<◌, ◌∙◌, ap, sym, arith, refl, add-one}
+use Rattle.std.proofs.Common.{◌≡◌, ◌⊎◌, ℕ, zero, suc, ◌+◌, ◌-◌, ◌*◌, ◌/◌, ◌%◌, ◌^◌, ◌<◌, ◌≤◌, ◌∙◌, ap, sym, arith, refl, add-one, inl, inr}
 use Rattle.std.proofs.Math.Nat.{mod-eq_of_lt, mod-add-mod, add-mod-mod, add-mod_right}
 use Rattle.std.proofs.lemmas.Nat.{mod_below, pow_pos}
+use Rattle.std.proofs.lemmas.Bool.{cases_lt}
 use Rattle.fastlanes.specs.Layout.{place}
 use Rattle.fastlanes.specs.Delta.{delta_sum, summed_before, summed_item, item_before, item_delta}
 use Rattle.fastlanes.proofs.RowWrites.{item_here}
@@ -39,6 +40,23 @@ sum_is_item T base delta r l x e = e
 pub sums_begin : (T : ℕ) (base delta : ℕ → ℕ) (l r x : ℕ) → r ≡ 0 → x ≡ base l → x < 2 ^ T → x ≡ summed_before T base delta r l
 unfolding summed_before
 sums_begin T base delta l r x z e h = rw z (sum_none (2 ^ T) base delta l x e h)
+
+-- the step of a loop that writes rows of sixteen lanes one after another
+pub rows_more : (value : ℕ → ℕ → ℕ) (r g k m : ℕ) (lane old new : ℕ → ℕ) → m ≡ k + 1
+    → ((j : ℕ) → j < 16 → lane j ≡ value (r + k) (16 * g + j))
+    → ((i : ℕ) → i < 16 * k → old i ≡ value (r + i / 16) (16 * g + i % 16))
+    → ((j : ℕ) → j < 16 → new (16 * k + j) ≡ lane j) → ((i : ℕ) → (i < 16 * k) ⊎ (16 * k + 16 ≤ i) → new i ≡ old i)
+    → (i : ℕ) → i < 16 * m → new i ≡ value (r + i / 16) (16 * g + i % 16)
+rows_more value r g k m lane old new next is done stored others i h =
+    elim (cases_lt i (16 * k)) [
+      | inl below ↦ others i (inl below) ∙ done i below
+      | inr above ↦
+          let j = i - 16 * k in
+          let there : i ≡ 16 * k + j = omega arith in
+          let row_is : r + k ≡ r + i / 16 = omega arith in
+          let lane_is : 16 * g + j ≡ 16 * g + i % 16 = omega arith in
+          ap new there ∙ (stored j (omega arith) ∙ (is j (omega arith) ∙ (ap (λ (n : ℕ). value n (16 * g + j)) row_is ∙ ap (value (r + i / 16)) lane_is)))
+    ]
 
 pub before_first : (base item : ℕ → ℕ) (l : ℕ) → item_before base item 0 l ≡ base l
 unfolding item_before

@@ -27,3 +27,4 @@ pub mod Deinterleaved
 pub mod TransposedBits
 pub mod LowBits
 pub mod Turns
+pub mod Segments

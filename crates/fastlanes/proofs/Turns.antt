@@ -134,3 +134,46 @@ turned_thrice stored one two three a b c i h =
     let q : half_of (half_of i) < 1024 = omega arith in
     let e : half_of (half_of (half_of i)) ≡ i / 8 + 128 * (i % 8) = omega arith in
     c i h ∙ (b (half_of i) p ∙ (a (half_of (half_of i)) q ∙ ap stored e))
+
+-- ---- four rows of sixteen lanes
+-- the words of the two halves in turn, after the two steps
+pub rows_in_turn : (word one new : ℕ → ℕ)
+    → ((j : ℕ) → j < 16 → one (0 + 2 * j) ≡ word (0 + j))
+    → ((j : ℕ) → j < 16 → one (0 + (2 * j + 1)) ≡ word (32 + j))
+    → ((j : ℕ) → j < 16 → new (32 + 2 * j) ≡ word (16 + j))
+    → ((j : ℕ) → j < 16 → new (32 + (2 * j + 1)) ≡ word (48 + j))
+    → ((i : ℕ) → (i < 32) ⊎ (32 + 32 ≤ i) → new i ≡ one i)
+    → (i : ℕ) → i < 64 → new i ≡ word (i / 2 + 32 * (i % 2))
+rows_in_turn word one new even odd later_even later_odd kept i h =
+    elim (cases_lt i 32) [
+      | inl below ↦ elim (cases_eq (i % 2) 0) [
+        | inl e ↦
+            let at : i ≡ 0 + 2 * (i / 2) = omega arith in
+            let from : 0 + i / 2 ≡ i / 2 + 32 * (i % 2) = omega arith in
+            kept i (inl below) ∙ (ap one at ∙ (even (i / 2) (omega arith) ∙ ap word from))
+        | inr o ↦
+            let at : i ≡ 0 + (2 * (i / 2) + 1) = omega arith in
+            let from : 32 + i / 2 ≡ i / 2 + 32 * (i % 2) = omega arith in
+            kept i (inl below) ∙ (ap one at ∙ (odd (i / 2) (omega arith) ∙ ap word from))
+      ]
+      | inr above ↦
+          let j = (i - 32) / 2 in
+          elim (cases_eq (i % 2) 0) [
+            | inl e ↦
+                let at : i ≡ 32 + 2 * j = omega arith in
+                let from : 16 + j ≡ i / 2 + 32 * (i % 2) = omega arith in
+                ap new at ∙ (later_even j (omega arith) ∙ ap word from)
+            | inr o ↦
+                let at : i ≡ 32 + (2 * j + 1) = omega arith in
+                let from : 48 + j ≡ i / 2 + 32 * (i % 2) = omega arith in
+                ap new at ∙ (later_odd j (omega arith) ∙ ap word from)
+          ]
+    ]
+
+-- two turns of four rows
+pub turned_twice : (row half turned : ℕ → ℕ) → ((i : ℕ) → i < 64 → half i ≡ row (i / 2 + 32 * (i % 2))) → ((i : ℕ) → i < 64 → turned i ≡ half (i / 2 + 32 * (i % 2)))
+    → (i : ℕ) → i < 64 → turned i ≡ row (i / 4 + 16 * (i % 4))
+turned_twice row half turned first second i h =
+    let there : i / 2 + 32 * (i % 2) < 64 = omega arith in
+    let e : (i / 2 + 32 * (i % 2)) / 2 + 32 * ((i / 2 + 32 * (i % 2)) % 2) ≡ i / 4 + 16 * (i % 4) = omega arith in
+    second i h ∙ (first (i / 2 + 32 * (i % 2)) there ∙ ap row e)

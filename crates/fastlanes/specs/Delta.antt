@@ -1,6 +1,6 @@
 -- Delta blocks: the transposition of the lanes' segments to rows, and the differences along rows.
 use Rattle.std.specs.Prelude.{◌≡◌, ℕ, suc, zero, ◌+◌, ◌*◌, ◌/◌, ◌%◌, ◌^◌, ◌<◌, ◌-◌}
-use Rattle.fastlanes.specs.Layout.{order_of, place, segment}
+use Rattle.fastlanes.specs.Layout.{order_of, place, segment, segment_row, segment_lane}
 
 -- the position of the item that the transposition stores at position i, the same for every word type
 unfoldable pub moved_from : ℕ → ℕ
@@ -30,6 +30,14 @@ summed_before T base delta r l = (base l + delta_sum delta l r) % 2 ^ T
 -- the item at row r of lane l: the base and the deltas of rows 0 to r, modulo 2 ^ T
 unfoldable pub summed_item : ℕ → (ℕ → ℕ) → (ℕ → ℕ) → ℕ → ℕ → ℕ
 summed_item T base delta r l = (base l + delta_sum delta l (r + 1)) % 2 ^ T
+
+-- item i of the block of these bases and deltas: the sum at the row and the lane that position i has in the segments
+unfoldable pub delta_item : ℕ → (ℕ → ℕ) → (ℕ → ℕ) → ℕ → ℕ
+delta_item T base delta i = summed_item T base delta (segment_row T i) (segment_lane T i)
+
+-- the position of item r of lane l's segment
+abbrev pub item_place : ℕ → ℕ → ℕ
+item_place r l = segment l + r
 
 -- what stands before the item at row r of lane l: the base, or the row before
 unfoldable pub item_before : (ℕ → ℕ) → (ℕ → ℕ) → ℕ → ℕ → ℕ

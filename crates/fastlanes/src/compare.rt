@@ -17,7 +17,7 @@ use std::simd::Simd;
 /// Sixteen words in which bit `r` is set where `cmp` holds of the lane's item and `rhs`, and no other bit.
 #[inline(always)]
 #[tactic(auto, using(crate::proofs::ComparedBits::zero_below), unfolding(crate::specs::Compared::IsAnswer))]
-fn compare_lanes<W: FastLanes, F: Fn(W, W) -> bool>(
+pub(crate) fn compare_lanes<W: FastLanes, F: Fn(W, W) -> bool>(
     row: Simd<W, 16>,
     cmp: &F,
     rhs: W,
@@ -153,7 +153,7 @@ fn compare_part<
 
 /// No answer yet.
 #[inline(always)]
-fn no_answers<W: FastLanes>() -> Simd<W, 16>
+pub(crate) fn no_answers<W: FastLanes>() -> Simd<W, 16>
     ensures lanes { (j : ℕ) → j < 16 → W.lane result j ≡ 0 }
 {
     W::splat(W::zero())
@@ -363,7 +363,7 @@ fn compare_block<W: FastLanes, S: Storage<W>, F: Fn(W, W) -> bool>(
 
 /// The bytes as words of 64 bits, the low byte first.
 #[inline(always)]
-fn words_of_bytes(bytes: &[u8; 128], words: &mut [u64; 16])
+pub(crate) fn words_of_bytes(bytes: &[u8; 128], words: &mut [u64; 16])
     ensures words { (k : ℕ) → k < 16 → slice_index words.new k ≡ word_at 64 bytes.now k }
     ensures whole { length words.new ≡ 16 }
 {

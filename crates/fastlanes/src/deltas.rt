@@ -1,6 +1,9 @@
 //! Differences along rows, and their sums, sixteen lanes at a time.
 #![tactic(auto)]
 
+pub mod compare;
+pub mod items;
+
 ghost use Rattle.std.specs.Prelude.{◌≡◌, ℕ, ◌+◌, ◌*◌, ◌/◌, ◌%◌, ◌^◌, ◌<◌, ◌≤◌, length};
 ghost use Rattle.fastlanes.specs.Layout.{place, pattern_at};
 ghost use Rattle.fastlanes.specs.Delta.{item_before, item_delta, summed_before, summed_item};
@@ -63,7 +66,7 @@ fn delta_8<W: FastLanes>(
 
 /// The bases of the lanes of group `g`.
 #[inline(always)]
-fn bases_of<W: FastLanes>(bases: &[W], g: usize) -> Simd<W, 16>
+pub(crate) fn bases_of<W: FastLanes>(bases: &[W], g: usize) -> Simd<W, 16>
     requires bases { length bases.now ≡ W.LANES }
     requires group { 16 * g + 16 ≤ W.LANES }
     ensures lanes { (j : ℕ) → j < 16 → W.lane result j ≡ pattern_at W.pattern bases.now (16 * g + j) }
@@ -103,9 +106,26 @@ pub fn delta<W: FastLanes>(items: &[W; FL_CHUNK_SIZE], bases: &[W], deltas: &mut
     prove_whole_block(deltas);
 }
 
-/// Adds the deltas at row `r` of the lanes of group `g` to the sums, writes the sums and returns them.
+/// The sums of the lanes of group `g` with the deltas at row `r`.
 #[inline(always)]
 #[tactic(auto, using(crate::proofs::RowBits::row_room))]
+pub(crate) fn sum_row<W: FastLanes>(
+    deltas: &[W; FL_CHUNK_SIZE],
+    bases: &[W],
+    sums: Simd<W, 16>,
+    r: usize,
+    g: usize,
+) -> Simd<W, 16>
+    requires row { r < W.T }
+    requires group { 16 * g + 16 ≤ W.LANES }
+    requires sums { (j : ℕ) → j < 16 → W.lane sums j ≡ summed_before W.T (pattern_at W.pattern bases.now) (pattern_at W.pattern deltas.now) r (16 * g + j) }
+    ensures { (j : ℕ) → j < 16 → W.lane result j ≡ summed_before W.T (pattern_at W.pattern bases.now) (pattern_at W.pattern deltas.now) (r + 1) (16 * g + j) }
+{
+    W::add(sums, W::load(deltas, pos(r, 16 * g)))
+}
+
+/// Adds the deltas at row `r` of the lanes of group `g` to the sums, writes the sums and returns them.
+#[inline(always)]
 fn undelta_row<W: FastLanes>(
     deltas: &[W; FL_CHUNK_SIZE],
     bases: &[W],
@@ -120,9 +140,8 @@ fn undelta_row<W: FastLanes>(
     ensures sums { (j : ℕ) → j < 16 → W.lane result j ≡ summed_before W.T (pattern_at W.pattern bases.now) (pattern_at W.pattern deltas.now) (r + 1) (16 * g + j) }
     ensures written { WritesRows W.T W.LANES place (summed_item W.T (pattern_at W.pattern bases.now) (pattern_at W.pattern deltas.now)) g r (r + 1) (pattern_at W.pattern items.old) (pattern_at W.pattern items.new) }
 {
-    let at = pos(r, 16 * g);
-    let row = W::add(sums, W::load(deltas, at));
-    W::store(row, items, at);
+    let row = sum_row(deltas, bases, sums, r, g);
+    W::store(row, items, pos(r, 16 * g));
     row
 }
 

@@ -22,6 +22,8 @@ pub mod words;
 pub use bit_transpose::transpose_bits;
 pub use compare::{unpack_cmp, unpack_cmp_bytes};
 pub use counts::Work;
+pub use deltas::compare::undelta_cmp;
+pub use deltas::items::undelta_to_items;
 pub use deltas::{delta, undelta};
 pub use layout::{FL_CHUNK_SIZE, pos, seg};
 pub use packing::{pack, pack_bytes};

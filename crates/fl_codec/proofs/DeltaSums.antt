@@ -2,8 +2,8 @@
 use Rattle.std.proofs.Common.{◌≡◌, ℕ, ℤ, pos, zero, suc, ◌+◌, ◌*◌, ◌%◌, ◌^◌, ◌<◌, ◌≤◌, ◌+ℤ◌, List, length, map, get_or, refl, ap, sym, ◌∙◌, arith}
 use Rattle.std.proofs.Common.{take, drop, length-take, length-drop}
 use Rattle.std.proofs.lemmas.List.{take-map, drop-map, get_or-take, get_or-drop}
-use Rattle.fastlanes.specs.Layout.{place, segment, segment_lane, segment_row, IsWordWidth}
-use Rattle.fastlanes.specs.Delta.{delta_sum, summed_item}
+use Rattle.fastlanes.specs.Layout.{place, segment_lane, segment_row, IsWordWidth}
+use Rattle.fastlanes.specs.Delta.{delta_item, delta_sum, summed_item}
 use Rattle.fastlanes.proofs.Bijection.{place_read, segment_placed}
 use Rattle.fl_types.specs.declared.dtype.PType.{PType}
 use Rattle.fl_types.specs.Integers.{bits_of_type, lanes_of_type, pattern_of, read_as, wrap}
@@ -32,9 +32,9 @@ sum_is_pattern ptype T lanes j l (suc n) delta word shape q h here =
 
 pub block_of_sums : (ptype : PType) (T lanes j : ℕ) (base delta : ℕ → ℤ) (row word item : ℕ → ℕ) → IsWordWidth T lanes → T ≡ bits_of_type ptype
     → ((l : ℕ) → l < lanes → row l ≡ pattern_of ptype (base (j * lanes + l))) → ((q : ℕ) → q < 1024 → word q ≡ pattern_of ptype (delta (1024 * j + q)))
-    → ((r l : ℕ) → r < T → l < lanes → item (segment l + r) ≡ summed_item T row word r l)
+    → ((q : ℕ) → q < 1024 → item q ≡ delta_item T row word q)
     → (q : ℕ) → q < 1024 → read_as ptype (item q) ≡ block_integer ptype base delta j q
-unfolding block_integer summed_item
+unfolding block_integer delta_item summed_item
 block_of_sums ptype T lanes j base delta row word item shape bits bases deltas items q h =
     let N : ℕ = 2 ^ bits_of_type ptype in
     let placed = segment_placed T lanes q shape h in
@@ -42,7 +42,7 @@ block_of_sums ptype T lanes j base delta row word item shape bits bases deltas i
     let r = segment_row T q in
     let same : lanes_of_type ptype ≡ lanes = sym (lanes_is ptype T lanes shape bits) in
     let z = base (j * lanes + l) +ℤ lane_sum delta j l (r + 1) in
-    let here : item q ≡ (row l + delta_sum word l (r + 1)) % 2 ^ T = rw placed.0 at (items r l placed.1 placed.2) in
+    let here : item q ≡ (row l + delta_sum word l (r + 1)) % 2 ^ T = items q h in
     let first : IsPattern N (base (j * lanes + l)) (row l) = rw (bases l placed.2) (pattern_is ptype (base (j * lanes + l))) in
     let rest = sum_is_pattern ptype T lanes j l (r + 1) delta word shape placed.2 (omega arith) deltas in
     let all = IsPattern-mod N z (row l + delta_sum word l (r + 1)) (IsPattern-add N (base (j * lanes + l)) (lane_sum delta j l (r + 1)) (row l) (delta_sum word l (r + 1)) first rest) in

@@ -3,7 +3,7 @@
 
 ghost use Rattle.std.specs.Prelude.{◌≡◌, ℕ, ◌+◌, ◌^◌, ◌<◌, ◌≤◌};
 ghost use Rattle.fastlanes.specs.Layout.{place};
-ghost use Rattle.fastlanes.specs.Delta.{Transposed, item_delta, summed_item};
+ghost use Rattle.fastlanes.specs.Delta.{Transposed, delta_item, item_delta, summed_item};
 ghost use Rattle.fastlanes.specs.Runs.{changes};
 
 use crate::words::FastLanes;
@@ -24,6 +24,12 @@ pub fn sums_and_differences<W: FastLanes>()
         → ((s m : ℕ) → s < W.T → m < W.LANES → delta (place s m) < 2 ^ W.T)
         → ((s m : ℕ) → s < W.T → m < W.LANES → item (place s m) ≡ summed_item W.T base delta s m)
         → (r l : ℕ) → r < W.T → l < W.LANES → item_delta W.T base item r l ≡ delta (place r l) }
+{}
+
+/// The items of a delta block are the sums of its deltas, put back into their order.
+pub fn delta_items_are_sums<W: FastLanes>()
+    ensures { (base item stored delta : ℕ → ℕ) → ((r l : ℕ) → r < W.T → l < W.LANES → stored (place r l) ≡ summed_item W.T base delta r l)
+        → Transposed W.T W.LANES item stored → (i : ℕ) → i < 1024 → item i ≡ delta_item W.T base delta i }
 {}
 
 /// All positions of a run hold one item. The first run is run 0, and a position's run is that of the position before it or the next one.

@@ -6,6 +6,7 @@ ghost use Rattle.fastlanes.specs.Layout.{pattern_at, place};
 ghost use Rattle.fastlanes.specs.Delta.{Transposed, item_delta, summed_item};
 ghost use Rattle.fastlanes.specs.Runs.{changes};
 
+use crate::deltas::items::undelta_to_items;
 use crate::deltas::{delta, undelta};
 use crate::laws::words_are_in_range;
 use crate::layout::FL_CHUNK_SIZE;
@@ -71,6 +72,26 @@ pub fn undelta_and_back<W: FastLanes>(
     words_are_in_range(bases);
     undelta(deltas, bases, items);
     delta(items, bases, back);
+}
+
+/// `undelta_to_items` undoes `transpose` and then `delta`, for any bases.
+pub fn items_and_back<W: FastLanes>(
+    items: &[W; FL_CHUNK_SIZE],
+    bases: &[W],
+    stored: &mut [W; FL_CHUNK_SIZE],
+    deltas: &mut [W; FL_CHUNK_SIZE],
+    back: &mut [W; FL_CHUNK_SIZE],
+)
+    requires { length bases.now ≡ W.LANES }
+    ensures stored { Transposed W.T W.LANES (pattern_at W.pattern items.now) (pattern_at W.pattern stored.new) }
+    ensures deltas { (r l : ℕ) → r < W.T → l < W.LANES → pattern_at W.pattern deltas.new (place r l) ≡ item_delta W.T (pattern_at W.pattern bases.now) (pattern_at W.pattern stored.new) r l }
+    ensures back { back.new ≡ items.now }
+{
+    transpose(items, stored);
+    words_are_in_range(stored);
+    words_are_in_range(bases);
+    delta(stored, bases, deltas);
+    undelta_to_items(deltas, bases, back);
 }
 
 /// `rle_decode` undoes `rle_encode`.

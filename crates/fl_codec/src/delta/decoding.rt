@@ -13,7 +13,8 @@ ghost use Rattle.fl_codec.specs.Deltas.{delta_column, delta_integer};
 use crate::block_items::{patterns_of, push_block, write_block};
 use crate::chunks::chunk_count;
 use crate::plain::under_validity;
-use fastlanes::{FL_CHUNK_SIZE, FastLanes, undelta, untranspose};
+use fastlanes::{FL_CHUNK_SIZE, FastLanes, undelta_to_items};
+use fl_column::patterns::write_patterns;
 use fl_column::{PhysicalPType, PrimitiveArray};
 use fl_types::{FastLanesError, Validity, match_each_integer_ptype};
 use std::alloc::{AllocError, Global};
@@ -24,7 +25,7 @@ fn read_block<T: PhysicalPType>(
     deltas: &[T],
     j: usize,
     row: &mut [T::Physical; FL_CHUNK_SIZE],
-    stored: &mut [T::Physical; FL_CHUNK_SIZE],
+    differences: &mut [T::Physical; FL_CHUNK_SIZE],
     block: &mut [T::Physical; FL_CHUNK_SIZE],
 )
     requires bases { (j + 1) * T.Physical.LANES ≤ length bases.now }
@@ -34,9 +35,9 @@ fn read_block<T: PhysicalPType>(
 {
     let (lanes, start) = (T::Physical::LANES, FL_CHUNK_SIZE * j);
     let first = patterns_of(&bases[j * lanes..j * lanes + lanes], row);
-    let words = patterns_of(&deltas[start..start + FL_CHUNK_SIZE], block);
-    undelta(words.as_array().unwrap(), first, stored);
-    untranspose(stored, block);
+    // The deltas are copied first: sums read rows that lie apart, which takes longer from memory.
+    write_patterns(&deltas[start..start + FL_CHUNK_SIZE], differences);
+    undelta_to_items(differences, first, block);
 }
 
 /// Writes the items of delta blocks from `offset` on, as many as there are values: each is its lane's base and the
@@ -51,10 +52,10 @@ pub fn decompress_into<T: PhysicalPType>(bases: &[T], deltas: &[T], offset: usiz
     ensures { map T.value values.new ≡ tabulate (λ i. delta_integer T.PTYPE (map T.value bases.now) (map T.value deltas.now) (offset + i)) (length values.old) }
 {
     let mut row = [T::Physical::zero(); FL_CHUNK_SIZE];
-    let mut stored = [T::Physical::zero(); FL_CHUNK_SIZE];
+    let mut differences = [T::Physical::zero(); FL_CHUNK_SIZE];
     let mut block = [T::Physical::zero(); FL_CHUNK_SIZE];
     for j in 0..chunk_count(offset + values.len()) {
-        read_block(bases, deltas, j, &mut row, &mut stored, &mut block);
+        read_block(bases, deltas, j, &mut row, &mut differences, &mut block);
         write_block(&block, j, offset, values);
     }
 }
@@ -75,10 +76,10 @@ fn decompress_typed<T: PhysicalPType>(
 {
     let mut values = Vec::with_capacity(alloc, len)?;
     let mut row = [T::Physical::zero(); FL_CHUNK_SIZE];
+    let mut differences = [T::Physical::zero(); FL_CHUNK_SIZE];
     let mut block = [T::Physical::zero(); FL_CHUNK_SIZE];
-    let mut stored = [T::Physical::zero(); FL_CHUNK_SIZE];
     for j in 0..chunk_count(offset + len) {
-        read_block(bases, deltas, j, &mut row, &mut stored, &mut block);
+        read_block(bases, deltas, j, &mut row, &mut differences, &mut block);
         push_block(&block, j, offset, len, &mut values)?;
     }
     Ok(values)

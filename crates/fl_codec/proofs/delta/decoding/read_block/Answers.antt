@@ -1,4 +1,4 @@
-use Rattle.std.proofs.Common.{◌≡◌, ◌+◌, ◌*◌, ◌/◌, ◌%◌, ◌<◌, ◌≤◌, ◌-◌, take, drop, ℕ, pos, get_or, length, map, arith, ap, sym, ◌∙◌}
+use Rattle.std.proofs.Common.{◌≡◌, ◌+◌, ◌*◌, ◌/◌, ◌%◌, ◌≤◌, ℕ, pos, get_or, map, arith, ap, ◌∙◌}
 use Rattle.fastlanes.specs.Layout.{pattern_at}
 use Rattle.fl_types.specs.Integers.{pattern_of}
 use Rattle.fl_codec.proofs.DeltaSums.{block_of_sums, patterns_of_part}
@@ -21,12 +21,10 @@ returns-clause-items g c q h =
     let named = c.LANES-lanes.ensures in
     let room = row_end j _ _ _ named c.requires.bases in
     let row = c.patterns_of-first.result.now in
-    let words = c.unwrap.result.now in
-    let whole = rw c.unwrap.ensures at c.as_array.ensures.cases in
-    let each = λ (i : ℕ) (inside : i < length (take (1024 * j + 1024 - 1024 * j) (drop (1024 * j) c.args.deltas.now))). ap (λ ws. pattern_at pattern ws i) whole.same ∙ c.patterns_of-words.ensures.patterns i inside in
+    let words = c.write_patterns.new.block in
     let bases = patterns_of_part value ptype (pattern_at pattern row) c.args.bases.now (j * c.LANES-lanes.result) c.LANES-lanes.result _ (omega arith) room c.patterns_of-first.ensures.patterns in
-    let deltas = patterns_of_part value ptype (pattern_at pattern words) c.args.deltas.now (1024 * j) 1024 _ (omega arith) (let room = c.requires.deltas in omega arith) each in
+    let deltas = patterns_of_part value ptype (pattern_at pattern words) c.args.deltas.now (1024 * j) 1024 _ (omega arith) (let room = c.requires.deltas in omega arith) c.write_patterns.ensures.block in
     let block_no : (1024 * j + q) / 1024 ≡ j = omega arith in
     let place_no : (1024 * j + q) % 1024 ≡ q = omega arith in
-    rw (block_no, place_no) (block_of_sums ptype T lanes j base delta (pattern_at pattern row) (pattern_at pattern words) (pattern_at pattern c.untranspose.new.items) g.met.T.Physical.FastLanes.shape g.met.T.PhysicalPType.width_law
-    (λ l p. bases l (rw named p) ∙ ap (λ n. pattern_of ptype (base (j * n + l))) named) deltas (λ r l p o. sym (c.untranspose.ensures.moved.moved r l p o) ∙ c.undelta.ensures.items r l p o) q h)
+    rw (block_no, place_no) (block_of_sums ptype T lanes j base delta (pattern_at pattern row) (pattern_at pattern words) (pattern_at pattern c.undelta_to_items.new.items) g.met.T.Physical.FastLanes.shape g.met.T.PhysicalPType.width_law
+    (λ l p. bases l (rw named p) ∙ ap (λ n. pattern_of ptype (base (j * n + l))) named) deltas c.undelta_to_items.ensures.items q h)
