@@ -17,6 +17,8 @@ PARTS = re.compile(r"(?:self|array)\.(?:encoded|bases|deltas|values|indices|offs
 CHILDREN = ("boundaries", "references", "indices")
 # Where the encoded items are what is counted, and so no child.
 OF_ENCODED = {"fl_array::for_::for_compare: FoRArray::test_packed_counted"}
+# What counts nothing, and reads the boundaries that it is handed, for functions that count.
+OF_BOUNDARIES = {"fl_array::bitpacking::single_items: BitPackedArray::extent_between"}
 
 
 class Library:
@@ -110,11 +112,16 @@ def is_child(said, function):
     return said in CHILDREN and said in children_of(function)
 
 
+def is_handed_children(function):
+    """Whether the parameters of a function that are named as children are such: wherever it is called, that is checked."""
+    return counts(function) or str(function) in OF_BOUNDARIES
+
+
 @functools.cache
 def children_of(function):
     """The names of children in a function: those that a pattern of boundaries or references binds, and the parameters of a
-    function that counts. What a closure, a loop or another pattern binds is none."""
-    names = {*re.findall(r"::Blocked\((\w+)\)", function.body), *(it for it, _ in function.parameters if counts(function))}
+    function that is handed children. What a closure, a loop or another pattern binds is none."""
+    names = {*re.findall(r"::Blocked\((\w+)\)", function.body), *(it for it, _ in function.parameters if is_handed_children(function))}
     return {it for it in names if it in CHILDREN and not is_bound_anew(it, function.body)}
 
 

@@ -82,7 +82,7 @@ macro_rules! columns_of {
             unpack_rows.push((w, kernel_unpack / unpack, memcpy / unpack, fresh / unpack));
             decode_rows.push((w, kernel_unpack / decode, memcpy / decode, fresh / decode));
         }
-        for (call, rows) in [("bitpack_unchecked", pack_rows), ("bitpack_into", into_rows), ("unpack_global", unpack_rows), ("decode_into", decode_rows)] {
+        for (call, rows) in [("bitpack_unchecked", pack_rows), ("bitpack_into", into_rows), ("unpack_column", unpack_rows), ("decode_into", decode_rows)] {
             $out.push(Ratios { name: format!("{call} | u{} | {}", T, $place), rows });
         }
     }};

@@ -4,11 +4,11 @@ use crate::readers;
 use fastlanes::Work;
 use fl_bitpacking::bitpack_compress::{bitpack_into, bitpack_unchecked};
 use fl_bitpacking::bitpack_decompress::{
-    PackedColumn, unpack_block_item, unpack_global, unpack_single_primitive,
+    PackedColumn, unpack_block_item, unpack_column, unpack_single_primitive,
 };
 use fl_bitpacking::unpack_iter::BitPacked;
 use fl_column::{PhysicalPType, PrimitiveArray};
-use fl_patches::{Patches, gather_patches};
+use fl_patches::{Patches, Widths, gather_patches};
 use fl_types::*;
 use row_reader::asked::Asked;
 use row_reader::columns::{type_of, width_of};
@@ -38,7 +38,7 @@ fn unpack(
             return Err(FastLanesError::PatchLength);
         }
     }
-    unpack_global(alloc, column, width, &mut Work::new())
+    unpack_column(alloc, column, Widths::Global(width), &mut Work::new())
 }
 
 /// Adds an item of a packed column, read alone.

@@ -8,9 +8,9 @@ ghost use Rattle.fl_bitpacking.specs.Blocks.{are_blocks};
 
 use fastlanes::Work;
 use fl_bitpacking::bitpack_compress::bitpack_blocked_unchecked;
-use fl_bitpacking::bitpack_decompress::{PackedColumn, unpack_blocked};
+use fl_bitpacking::bitpack_decompress::{PackedColumn, unpack_column};
 use fl_column::PrimitiveArray;
-use fl_patches::{Patches, gather_blocked_patches};
+use fl_patches::{Patches, Widths, gather_blocked_patches};
 use fl_types::*;
 use row_reader::asked::Asked;
 use row_reader::columns::width_of;
@@ -44,7 +44,8 @@ fn unpack<'a>(
         offset: 0,
         len: array.len(),
     };
-    let made = unpack_blocked(alloc, &column, boundaries, &mut Work::new());
+    let widths = Widths::Boundaries(boundaries);
+    let made = unpack_column(alloc, &column, widths, &mut Work::new());
     shown::made(answer, made);
 }
 

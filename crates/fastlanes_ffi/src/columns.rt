@@ -9,9 +9,11 @@ ghost use Rattle.fl_bitpacking.specs.Parts.{Fit, parts_of};
 use bytes::Bytes;
 use fastlanes::{FL_CHUNK_SIZE, Work};
 use fl_bitpacking::bitpack_compress::{bitpack_into, bitpack_unchecked};
-use fl_bitpacking::bitpack_decompress::{PackedColumn, unpack_global};
+use fl_bitpacking::bitpack_decompress;
+use fl_bitpacking::bitpack_decompress::PackedColumn;
 use fl_bitpacking::unpack_iter::{BitPacked, BitPackingStrategy, UnpackedChunks};
 use fl_column::{PrimitiveArray, chunk_count};
+use fl_patches::Widths;
 use fl_types::{FastLanesError, NativePType, Validity};
 use std::alloc::Global;
 
@@ -96,7 +98,8 @@ fn unpack_again<T: BitPacked>(
 {
     let mut count = 0;
     for _ in 0..rounds {
-        let array = unpack_global(alloc, column, width, &mut Work::new())?;
+        let widths = Widths::Global(width);
+        let array = bitpack_decompress::unpack_column(alloc, column, widths, &mut Work::new())?;
         let unpacked = array.as_slice::<T>();
         count = unpacked.len().min(items.len());
         items[..count].copy_from_slice(&unpacked[..count]);

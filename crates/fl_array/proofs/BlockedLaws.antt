@@ -1,5 +1,5 @@
 -- Bit-packed arrays whose blocks lie between boundaries.
-use Rattle.std.proofs.Common.{◌≡◌, ℕ, pos, ◌+◌, ◌-◌, ◌/◌, ◌<◌, ◌≤◌, length, get_or, refl, ap, sym, ◌∙◌, true, None, Ok, arith}
+use Rattle.std.proofs.Common.{◌≡◌, ℕ, pos, ◌+◌, ◌-◌, ◌/◌, ◌<◌, ◌≤◌, length, get_or, refl, ap, subst, sym, ◌∙◌, true, None, Ok, arith}
 use Rattle.std.specs.Prelude.{Result, unsigned_abs, unwrap_or}
 use Rattle.std.proofs.lemmas.List.{get_or-map, length-map}
 use Rattle.fl_types.specs.declared.error.FastLanesError.{FastLanesError}
@@ -9,18 +9,18 @@ use Rattle.fl_types.specs.Integers.{bits_of_type}
 use Rattle.fl_types.specs.Types.{is_index_type, is_integer}
 use Rattle.fl_types.specs.Values.{ScalarParts}
 use Rattle.fl_column.specs.Columns.{Column, PrimitiveParts, column_of_primitive, integers_in, numbers_of}
-use Rattle.fl_column.specs.Operations.{take_column}
 use Rattle.fl_column.specs.Queries.{scalar_in}
 use Rattle.fl_column.specs.Numbers.{numbers}
-use Rattle.fl_bitpacking.specs.Blocks.{are_blocks, boundary_blocks, global_blocks}
+use Rattle.fl_bitpacking.specs.Blocks.{are_blocks, boundary_blocks}
 use Rattle.fl_bitpacking.specs.Columns.{BitPackedParts, block_count, column_of_packed}
 use Rattle.fl_bitpacking.specs.Refusals.{positions_refusal}
-use Rattle.fl_bitpacking.specs.SingleItems.{HasBlock}
+use Rattle.fl_bitpacking.specs.SingleItems.{IsBlockOf}
+use Rattle.fl_bitpacking.specs.declared.packed_data.single_items.BlockExtent.{BlockExtent}
 use Rattle.fl_bitpacking.specs.SlicedParts.{HasEnds, end_block, first_block}
 use Rattle.fl_bitpacking.proofs.BoundaryLaws.{above_first, ends_at, length-numbers_of, rising, within_bytes}
 use Rattle.fl_bitpacking.proofs.IndexNumbers.{counted, numbers_of_index}
 use Rattle.fl_bitpacking.proofs.SoundParts.{AreBlocked, are_blocked, neither}
-use Rattle.fl_array.specs.BitPackedArrays.{BitPackedArrayParts, BitWidthsParts, BlockBoundaries, GlobalWidth, bit_widths_refusal, bitpacked_tree, refusal_before_boundaries, refusal_of_bitpacked, tree_of_bitpacked}
+use Rattle.fl_array.specs.BitPackedArrays.{BitPackedArrayParts, BitWidthsParts, BlockBoundaries, bit_widths_refusal, bitpacked_tree, blocks_of_widths, refusal_before_boundaries, refusal_of_bitpacked, tree_of_bitpacked}
 use Rattle.fl_array.specs.Reads.{integer_column}
 use Rattle.fl_array.specs.Trees.{Tree, column}
 
@@ -49,19 +49,6 @@ numbers_read a b p h same e =
     let typed : is_index_type (column_of_primitive p).dtype ≡ true = ap (λ (c : Column). is_index_type c.dtype) e ∙ (blocked_by a b h same).typed in
     sym (numbers_of_index p typed) ∙ ap numbers_of e
 
--- the column, by boundaries that were read
-pub column_read : (a : BitPackedArrayParts) (b : Tree) (p : PrimitiveParts) → refusal_of_bitpacked a ≡ None → BlockBoundaries b ≡ a.widths → column_of_primitive p ≡ column b → Ok (column_of_packed a.parts (boundary_blocks (numbers p))) ≡ integer_column (column (tree_of_bitpacked a))
-column_read a b p h same e = rw (blocked_column a b same, numbers_read a b p h same e) refl
-
--- the column, by the width of all blocks
-pub global_column : (a : BitPackedArrayParts) (width : ℕ) → GlobalWidth width ≡ a.widths → column (tree_of_bitpacked a) ≡ column_of_packed a.parts (global_blocks width)
-global_column a width same = ap (λ (w : BitWidthsParts). column (bitpacked_tree a.parts w)) (sym same)
-
--- what is taken of the column, by the boundaries that were decoded
-pub taken_read : (a : BitPackedArrayParts) (b : Tree) (p : PrimitiveParts) (indices : Column) → refusal_of_bitpacked a ≡ None → BlockBoundaries b ≡ a.widths → column_of_primitive p ≡ column b
-    → take_column indices (column_of_packed a.parts (boundary_blocks (numbers p))) ≡ take_column indices (column (tree_of_bitpacked a))
-taken_read a b p indices h same e = rw (blocked_column a b same, numbers_read a b p h same e) refl
-
 pub blocks_read : (a : BitPackedArrayParts) (b : Tree) (p : PrimitiveParts) → refusal_of_bitpacked a ≡ None → BlockBoundaries b ≡ a.widths → column_of_primitive p ≡ column b → are_blocks (bits_of_type a.parts.ptype) (length a.parts.packed) (numbers p) ≡ true
 blocks_read a b p h same e = rw (numbers_read a b p h same e) (blocked_by a b h same).blocks
 
@@ -77,34 +64,42 @@ pub item_type : (c : Column) (k : ℕ) (scalar : ScalarParts) → scalar ≡ sca
 item_type c k scalar e h = ap (λ (x : ScalarParts). is_integer x.dtype) e ∙ h
 
 -- the boundaries of a block, as they were read
-pub record ReadBlock (a : BitPackedArrayParts) (c : Column) (i first start end : ℕ) : Type 0 where
-  pub has : HasBlock c ((a.parts.offset + i) / 1024) first start end
+pub record ReadBlock (a : BitPackedArrayParts) (i first start end : ℕ) : Type 0 where
   pub low : first ≤ start
   pub order : start ≤ end
-  pub room : end - first ≤ length a.parts.packed
-  pub narrow : (end - start) / 128 ≤ bits_of_type a.parts.ptype
+  pub extent : IsBlockOf a.parts (blocks_of_widths a.widths) i (record { start = start - first; width = (end - start) / 128 })
 
-pub block_read : (a : BitPackedArrayParts) (b : Tree) (i : ℕ) (first start end : ScalarParts) (n0 n1 n2 : ℕ) → refusal_of_bitpacked a ≡ None → BlockBoundaries b ≡ a.widths → i < a.parts.len
-    → first ≡ scalar_in (column b) 0 → start ≡ scalar_in (column b) ((a.parts.offset + i) / 1024) → end ≡ scalar_in (column b) ((a.parts.offset + i) / 1024 + 1)
-    → n0 ≡ unsigned_abs (unwrap_or first.value (pos 0)) → n1 ≡ unsigned_abs (unwrap_or start.value (pos 0)) → n2 ≡ unsigned_abs (unwrap_or end.value (pos 0)) → ReadBlock a (column b) i n0 n1 n2
-block_read a b i first start end n0 n1 n2 h same r e0 e1 e2 is0 is1 is2 =
+-- the boundaries of a block, as they stand in the column of the boundaries
+pub block_by_numbers : (a : BitPackedArrayParts) (b : Tree) (i first start end : ℕ) → refusal_of_bitpacked a ≡ None → BlockBoundaries b ≡ a.widths → i < a.parts.len
+    → first ≡ get_or (numbers_of (column b)) 0 0 → start ≡ get_or (numbers_of (column b)) ((a.parts.offset + i) / 1024) 0 → end ≡ get_or (numbers_of (column b)) ((a.parts.offset + i) / 1024 + 1) 0 → ReadBlock a i first start end
+block_by_numbers a b i first start end h same r x y z =
     let c = column b in
     let j = (a.parts.offset + i) / 1024 in
     let s = blocked_by a b h same in
     let count = s.count in
     let long = length-numbers_of c in
-    let x = number_read c 0 first n0 (omega arith) e0 is0 in
-    let y = number_read c j start n1 (omega arith) e1 is1 in
-    let z = number_read c (j + 1) end n2 (omega arith) e2 is2 in
     let above = above_first (bits_of_type a.parts.ptype) (length a.parts.packed) (numbers_of c) j s.blocks (omega arith) in
     let at = ends_at (bits_of_type a.parts.ptype) (length a.parts.packed) (numbers_of c) j s.blocks (omega arith) in
-    record {
-      has = record { first_is = sym x; start_is = sym y; end_is = sym z };
-      low = rw (x, y) above;
-      order = rw (y, z) at.order;
-      room = rw (x, z) at.room;
-      narrow = rw (y, z) at.narrow;
-    }
+    let low : first ≤ start = rw (x, y) above in
+    let order : start ≤ end = rw (y, z) at.order in
+    let room : end - first ≤ length a.parts.packed = rw (x, z) at.room in
+    let extent : BlockExtent = record { start = start - first; width = (end - start) / 128 } in
+    let there : IsBlockOf a.parts (boundary_blocks (numbers_of c)) i extent = record {
+      within = record { narrow = rw (y, z) at.narrow; room = omega arith };
+      start = rw (x, y) refl;
+      width = rw (y, z) refl;
+    } in
+    record { low = low; order = order; extent = subst (λ (w : BitWidthsParts). IsBlockOf a.parts (blocks_of_widths w) i extent) same there }
+
+-- the boundaries of a block, as they were read one by one
+pub block_read : (a : BitPackedArrayParts) (b : Tree) (i : ℕ) (first start end : ScalarParts) (n0 n1 n2 : ℕ) → refusal_of_bitpacked a ≡ None → BlockBoundaries b ≡ a.widths → i < a.parts.len
+    → first ≡ scalar_in (column b) 0 → start ≡ scalar_in (column b) ((a.parts.offset + i) / 1024) → end ≡ scalar_in (column b) ((a.parts.offset + i) / 1024 + 1)
+    → n0 ≡ unsigned_abs (unwrap_or first.value (pos 0)) → n1 ≡ unsigned_abs (unwrap_or start.value (pos 0)) → n2 ≡ unsigned_abs (unwrap_or end.value (pos 0)) → ReadBlock a i n0 n1 n2
+block_read a b i first start end n0 n1 n2 h same r e0 e1 e2 is0 is1 is2 =
+    let c = column b in
+    let j = (a.parts.offset + i) / 1024 in
+    let count = (blocked_by a b h same).count in
+    block_by_numbers a b i n0 n1 n2 h same r (number_read c 0 first n0 (omega arith) e0 is0) (number_read c j start n1 (omega arith) e1 is1) (number_read c (j + 1) end n2 (omega arith) e2 is2)
 
 -- the boundaries of the blocks that a slice keeps, as they were read
 pub record ReadEnds (a : BitPackedArrayParts) (c : Column) (start end first from to : ℕ) : Type 0 where

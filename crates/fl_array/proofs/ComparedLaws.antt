@@ -1,13 +1,10 @@
 -- Comparisons of bit-packed arrays, by tests that answer alike.
-use Rattle.std.proofs.Common.{◌≡◌, ℕ, ℤ, ◌+◌, Bool, min, refl, ap, sym, subst, ◌∙◌, arith}
-use Rattle.fl_column.specs.Columns.{numbers_of}
-use Rattle.fl_bitpacking.specs.Blocks.{boundary_blocks}
+use Rattle.std.proofs.Common.{◌≡◌, ℕ, ℤ, ◌+◌, Bool, min, refl, subst, ◌∙◌, arith}
 use Rattle.fl_bitpacking.specs.Columns.{BitPackedParts}
 use Rattle.fl_bitpacking.specs.Decided.{undecided_blocks, undecided_by_block}
 use Rattle.fl_bitpacking.specs.Refusals.{AreConsistent}
 use Rattle.fl_bitpacking.proofs.UndecidedLaws.{blocks_alike, blocks_most, one_width}
 use Rattle.fl_array.specs.BitPackedArrays.{BitPackedArrayParts, BitWidthsParts, BlockBoundaries, GlobalWidth, blocks_of_widths}
-use Rattle.fl_array.specs.Trees.{Tree, column}
 use Rattle.fl_array.specs.UnpackedBlocks.{blocks_to_unpack, unpacked_at}
 
 unpacked_is : (parts : BitPackedParts) (widths : BitWidthsParts) (f : ℤ → Bool) → undecided_blocks parts (blocks_of_widths widths) f ≡ unpacked_at parts widths f
@@ -32,7 +29,3 @@ counted_sums a f n sound is =
 -- what is said of one test is said of one that answers alike
 pub said_alike : (P : (ℤ → Bool) → Type 0) (f g : ℤ → Bool) → ((z : ℤ) → f z ≡ g z) → P f → P g
 said_alike P f g same h = let alike : f ≡ g = λ i z. same z i in subst P alike h
-
--- where the blocks lie, by the boundaries
-pub blocked_blocks : (a : BitPackedArrayParts) (b : Tree) → BlockBoundaries b ≡ a.widths → blocks_of_widths a.widths ≡ boundary_blocks (numbers_of (column b))
-blocked_blocks a b same = ap blocks_of_widths (sym same)

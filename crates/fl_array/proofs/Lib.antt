@@ -22,3 +22,4 @@ pub mod EmptyChunks
 pub mod PackedFoR
 pub mod DecodedItems
 mod TypedItems
+pub mod BlockWidths

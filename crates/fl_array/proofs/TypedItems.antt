@@ -1,22 +1,20 @@
 -- Single items of arrays in the type of the column.
-use Rattle.std.proofs.Common.{◌≡◌, ℕ, ℤ, pos, ◌+◌, ◌-◌, ◌/◌, ◌<◌, ◌≤◌, length, arith, get_or, refl, ap, sym, ◌∙◌, true, None, Some, Option}
+use Rattle.std.proofs.Common.{◌≡◌, ℕ, ℤ, pos, ◌+◌, ◌/◌, ◌<◌, length, get_or, refl, ap, sym, ◌∙◌, true, None, Some, Option}
 use Rattle.std.specs.Prelude.{option_map, unwrap_or}
 use Rattle.fl_types.specs.declared.dtype.DType.{DType}
 use Rattle.fl_types.specs.declared.dtype.DType.TheVariants as dtypes
 use Rattle.fl_types.specs.declared.dtype.PType.{PType}
-use Rattle.fl_types.specs.Integers.{bits_of_type}
 use Rattle.fl_types.specs.Types.{has_ptype, integer_type}
 use Rattle.fl_types.specs.Values.{ScalarParts}
-use Rattle.fl_column.specs.Columns.{Column, PrimitiveParts, column_of_primitive, numbers_of, ptype_of_column}
+use Rattle.fl_column.specs.Columns.{Column, PrimitiveParts, column_of_primitive, ptype_of_column}
 use Rattle.fl_column.specs.Numbers.{numbers}
 use Rattle.fl_column.specs.Queries.{scalar_in}
 use Rattle.fl_codec.specs.FoRColumns.{plus_reference}
-use Rattle.fl_bitpacking.proofs.BoundaryLaws.{above_first, ends_at, length-numbers_of}
 use Rattle.fl_bitpacking.proofs.SoundParts.{same_ptype_is}
 use Rattle.fl_array.specs.BitPackedArrays.{BitPackedArrayParts, BlockBoundaries, refusal_of_bitpacked}
 use Rattle.fl_array.specs.FoRArrays.{ChunkReferences, FoRArrayParts, GlobalReference, refusal_of_for, tree_of_for}
 use Rattle.fl_array.specs.Trees.{Tree, column}
-use Rattle.fl_array.proofs.BlockedLaws.{ReadBlock, blocked_by, numbers_read}
+use Rattle.fl_array.proofs.BlockedLaws.{ReadBlock, block_by_numbers, numbers_read}
 use Rattle.fl_array.proofs.FoRSound.{chunked_item, global_item}
 
 -- the type of a column of a type
@@ -52,23 +50,8 @@ chunked_value a references offset ptype i value item same refused typed h is e =
 
 -- the boundaries of a block, as they stand in a primitive array
 pub block_between : (a : BitPackedArrayParts) (b : Tree) (p : PrimitiveParts) (i n0 n1 n2 : ℕ) → refusal_of_bitpacked a ≡ None → BlockBoundaries b ≡ a.widths → column b ≡ column_of_primitive p → i < a.parts.len
-    → n0 ≡ get_or (numbers p) 0 0 → n1 ≡ get_or (numbers p) ((a.parts.offset + i) / 1024) 0 → n2 ≡ get_or (numbers p) ((a.parts.offset + i) / 1024 + 1) 0 → ReadBlock a (column b) i n0 n1 n2
+    → n0 ≡ get_or (numbers p) 0 0 → n1 ≡ get_or (numbers p) ((a.parts.offset + i) / 1024) 0 → n2 ≡ get_or (numbers p) ((a.parts.offset + i) / 1024 + 1) 0 → ReadBlock a i n0 n1 n2
 block_between a b p i n0 n1 n2 h same is r is0 is1 is2 =
-    let c = column b in
     let j = (a.parts.offset + i) / 1024 in
-    let s = blocked_by a b h same in
-    let count = s.count in
-    let long = length-numbers_of c in
     let read = numbers_read a b p h same (sym is) in
-    let x : n0 ≡ get_or (numbers_of c) 0 0 = is0 ∙ ap (λ ns. get_or ns 0 0) read in
-    let y : n1 ≡ get_or (numbers_of c) j 0 = is1 ∙ ap (λ ns. get_or ns j 0) read in
-    let z : n2 ≡ get_or (numbers_of c) (j + 1) 0 = is2 ∙ ap (λ ns. get_or ns (j + 1) 0) read in
-    let above = above_first (bits_of_type a.parts.ptype) (length a.parts.packed) (numbers_of c) j s.blocks (omega arith) in
-    let at = ends_at (bits_of_type a.parts.ptype) (length a.parts.packed) (numbers_of c) j s.blocks (omega arith) in
-    record {
-      has = record { first_is = sym x; start_is = sym y; end_is = sym z };
-      low = rw (x, y) above;
-      order = rw (y, z) at.order;
-      room = rw (x, z) at.room;
-      narrow = rw (y, z) at.narrow;
-    }
+    block_by_numbers a b i n0 n1 n2 h same r (is0 ∙ ap (λ ns. get_or ns 0 0) read) (is1 ∙ ap (λ ns. get_or ns j 0) read) (is2 ∙ ap (λ ns. get_or ns (j + 1) 0) read)

@@ -24,3 +24,4 @@ pub mod BitPackedFields
 pub mod OwnedParts
 pub mod UnpackedBlocks
 pub mod PrimitiveCows
+pub mod BlockWidths

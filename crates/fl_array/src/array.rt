@@ -2,7 +2,7 @@
 
 mod counted;
 mod decode_into;
-mod primitive_cow;
+pub(crate) mod primitive_cow;
 mod ranges;
 mod typed_items;
 
@@ -27,7 +27,7 @@ ghost use Rattle.fl_array.specs.Slices.{slice_tree};
 ghost use Rattle.fl_array.specs.ToBlocked.{has_global_bitpacked, to_blocked_tree};
 ghost use Rattle.fl_array.specs.WellFormed.{is_well_formed};
 
-use crate::bitpacking::{BitPackedArray, BitWidthsView};
+use crate::bitpacking::{BitPackedArray, BitWidths, BitWidthsView};
 use crate::delta::DeltaArray;
 use crate::for_::{FoRArray, FoRReferences};
 use crate::proof_support::{prove_bools, prove_constant, prove_primitive};
@@ -404,19 +404,11 @@ impl ArrayRef {
             Node::Primitive(array) => array.try_clone(alloc),
             Node::Constant(array) => array.decode(alloc),
             Node::Bool(_) => Err(FastLanesError::NotInteger),
-            Node::BitPacked(array) => match array.bit_widths() {
-                BitWidthsView::Global(width) => array.decode_global(alloc, width, &mut work),
-                BitWidthsView::Blocked(boundaries) => match boundaries.as_constant() {
-                    Some(constant) => {
-                        array.decode_without_bytes(alloc, boundaries, constant, &mut work)
-                    }
-                    None => {
-                        array.prove_boundaries_are_integers(boundaries);
-                        let plain = boundaries.to_primitive(alloc)?;
-                        array.decode_blocked(alloc, boundaries, &plain, &mut work)
-                    }
-                },
-            },
+            Node::BitPacked(array) => {
+                array.prove_integers();
+                array.prove_smaller();
+                array.decode(alloc, &mut work)
+            }
             Node::FoR(array) => {
                 array.prove_integers();
                 array.prove_smaller();
@@ -459,10 +451,16 @@ impl ArrayRef {
             Node::Constant(array) => Ok(array.try_clone().into_array()),
             Node::Bool(array) => Ok(array.try_clone(alloc)?.into_array()),
             Node::BitPacked(array) => match array.bit_widths() {
-                BitWidthsView::Global(width) => Ok(array.clone_global(alloc, width)?.into_array()),
+                BitWidthsView::Global(width) => {
+                    Ok(
+                        array
+                            .clone_with(alloc, BitWidths::Global(width))?
+                            .into_array(),
+                    )
+                }
                 BitWidthsView::Blocked(boundaries) => {
-                    let boundaries = boundaries.try_clone(alloc)?;
-                    Ok(array.clone_blocked(alloc, boundaries)?.into_array())
+                    let widths = BitWidths::Blocked(boundaries.try_clone(alloc)?);
+                    Ok(array.clone_with(alloc, widths)?.into_array())
                 }
             },
             Node::FoR(array) => {

@@ -3,11 +3,12 @@
 pub(crate) mod bit_packed_array_ext;
 pub mod bitpack_compress;
 pub mod bitpack_decompress;
+mod block_widths;
 mod compute;
 mod data;
-mod typed_items;
+mod single_items;
 
-ghost use Rattle.std.specs.Prelude.{◌≡◌, ◌+◌, ◌*◌, ◌/◌, ◌^◌, ◌<◌, ◌≤◌, IfErr, IfOk, IsTrue, None, Ok, OnOk, length, IfSome};
+ghost use Rattle.std.specs.Prelude.{◌≡◌, ◌+◌, ◌*◌, ◌/◌, ◌^◌, ◌<◌, ◌≤◌, IfErr, IfOk, IsTrue, None, Ok, length, IfSome};
 ghost use Rattle.fl_types.specs.declared.error.FastLanesError.TheVariants.{OutOfMemory};
 ghost use Rattle.fl_types.specs.Refusals.{Answers};
 ghost use Rattle.fl_types.specs.Values.{scalar_parts};
@@ -19,7 +20,7 @@ ghost use Rattle.fl_bitpacking.specs.Refusals.{accepted, blocked_refusal, global
 ghost use Rattle.fl_bitpacking.specs.SingleItems.{stored_scalar};
 ghost use Rattle.fl_array.specs.Trees.{column, height};
 ghost use Rattle.fl_bitpacking.specs.Columns.{block_count};
-ghost use Rattle.fl_array.specs.BitPackedArrays.{BlockBoundaries, GlobalWidth, new_bitpacked, refusal_before_boundaries, refusal_of_bitpacked, size_of_widths, tree_of_bitpacked, blocks_of_widths, is_global};
+ghost use Rattle.fl_array.specs.BitPackedArrays.{BlockBoundaries, GlobalWidth, new_bitpacked, bit_widths_refusal, refusal_before_boundaries, refusal_of_bitpacked, size_of_widths, tree_of_bitpacked, blocks_of_widths, is_global};
 ghost use Rattle.fl_array.specs.Kinds.{has_delta, kind};
 ghost use Rattle.fl_array.specs.Reads.{IsValidityOf, integer_column, primitive_in};
 ghost use Rattle.fl_array.specs.EncodedBitPacked.{IsEncodedAt, encode_refusal};
@@ -468,217 +469,49 @@ impl BitPackedArray {
         self.prove_well_formed();
     }
 
-    /// The column in a primitive array, where all blocks have this width.
-    pub(crate) fn decode_global(
+    /// The column in a primitive array. Each block is unpacked at most once.
+    #[cycle(decoding)]
+    pub(crate) fn decode(
         &self,
         alloc: Global,
-        width: u8,
         work: &mut Work,
     ) -> Result<PrimitiveArray, FastLanesError>
-        requires { GlobalWidth width ≡ self.now.widths }
-        ensures column { Answers column_of_primitive result (integer_column (column (tree_of_bitpacked self.now))) }
-        ensures blocks { OnOk result (work.new.blocks ≤ work.old.blocks + block_count self.now.parts) }
+        ensures column { Answers column_of_primitive result (Ok (column (tree_of_bitpacked self.now))) }
+        ensures blocks { work.new.blocks ≤ work.old.blocks + block_count self.now.parts }
         ensures words { work.new.words ≡ work.old.words }
     {
-        self.prove_well_formed();
-        self.packed_data()
-            .decode_global(alloc, usize::from(width), work)
+        let widths = self.widths(alloc)?;
+        self.packed_data().decode(alloc, widths.view(), work)
     }
 
-    /// The column in a primitive array, where the blocks lie between these boundaries, which `plain` has decoded.
-    pub(crate) fn decode_blocked(
+    /// The same packed blocks at these widths, which make an array with them.
+    pub(crate) fn with_widths(
         &self,
         alloc: Global,
-        boundaries: &ArrayRef,
-        plain: &PrimitiveArray,
-        work: &mut Work,
-    ) -> Result<PrimitiveArray, FastLanesError>
-        requires same { BlockBoundaries boundaries.now ≡ self.now.widths }
-        requires plain { column_of_primitive plain.now ≡ column boundaries.now }
-        ensures column { Answers column_of_primitive result (integer_column (column (tree_of_bitpacked self.now))) }
-        ensures blocks { OnOk result (work.new.blocks ≤ work.old.blocks + block_count self.now.parts) }
-        ensures words { work.new.words ≡ work.old.words }
-    {
-        self.prove_well_formed();
-        let _len = plain.len();
-        self.packed_data().decode_blocked(alloc, plain, work)
-    }
-
-    /// An item, where all blocks have this width.
-    #[inline(always)]
-    pub(crate) fn item_global(&self, width: u8, i: usize, work: &mut Work) -> Scalar
-        requires same { GlobalWidth width ≡ self.now.widths }
-        requires range { i < length (column (tree_of_bitpacked self.now)).items }
-        ensures item { scalar_parts result ≡ scalar_in (column (tree_of_bitpacked self.now)) i }
-        ensures blocks { work.new.blocks ≡ work.old.blocks }
-        ensures words { work.new.words ≤ work.old.words + 2 }
-    {
-        self.prove_well_formed();
-        let _len = self.len();
-        self.packed_data().item_global(usize::from(width), i, work)
-    }
-
-    /// The block of an item, where the blocks lie between these boundaries.
-    pub(crate) fn block_of(&self, boundaries: &ArrayRef, i: usize) -> usize
-        requires same { BlockBoundaries boundaries.now ≡ self.now.widths }
-        requires range { i < length (column (tree_of_bitpacked self.now)).items }
-        ensures block { result ≡ (self.now.parts.offset + i) / 1024 }
-        ensures within { result + 1 < length (column boundaries.now).items }
-        ensures few { result + 1 < 2 ^ 64 }
-    {
-        self.prove_well_formed();
-        let _len = self.len();
-        self.packed_data().block_of(i)
-    }
-
-    /// An item, by the first boundary and the two of its block.
-    #[inline(never)]
-    pub(crate) fn item_blocked(
-        &self,
-        boundaries: &ArrayRef,
-        first: Scalar,
-        start: Scalar,
-        end: Scalar,
-        i: usize,
-        work: &mut Work,
-    ) -> Scalar
-        requires same { BlockBoundaries boundaries.now ≡ self.now.widths }
-        requires first { scalar_parts first ≡ scalar_in (column boundaries.now) 0 }
-        requires start { scalar_parts start ≡ scalar_in (column boundaries.now) ((self.now.parts.offset + i) / 1024) }
-        requires end { scalar_parts end ≡ scalar_in (column boundaries.now) ((self.now.parts.offset + i) / 1024 + 1) }
-        requires range { i < length (column (tree_of_bitpacked self.now)).items }
-        ensures item { scalar_parts result ≡ scalar_in (column (tree_of_bitpacked self.now)) i }
-        ensures blocks { work.new.blocks ≡ work.old.blocks }
-        ensures words { work.new.words ≤ work.old.words + 2 }
-    {
-        self.prove_well_formed();
-        let _len = self.len();
-        let (first, start, end) = (
-            number_of_scalar(first),
-            number_of_scalar(start),
-            number_of_scalar(end),
-        );
-        self.packed_data().item_blocked(first, start, end, i, work)
-    }
-
-    /// An item as its bits are stored, where all blocks have this width.
-    pub(crate) fn stored_global(&self, width: u8, i: usize, work: &mut Work) -> Scalar
-        requires same { GlobalWidth width ≡ self.now.widths }
-        requires range { i < self.now.parts.len }
-        ensures item { scalar_parts result ≡ stored_scalar self.now.parts (blocks_of_widths self.now.widths) i }
-        ensures blocks { work.new.blocks ≡ work.old.blocks }
-        ensures words { work.new.words ≤ work.old.words + 2 }
-    {
-        self.prove_well_formed();
-        self.packed_data()
-            .stored_global(usize::from(width), i, work)
-    }
-
-    /// An item as its bits are stored, by the first boundary and the two of its block.
-    pub(crate) fn stored_blocked(
-        &self,
-        boundaries: &ArrayRef,
-        first: Scalar,
-        start: Scalar,
-        end: Scalar,
-        i: usize,
-        work: &mut Work,
-    ) -> Scalar
-        requires same { BlockBoundaries boundaries.now ≡ self.now.widths }
-        requires first { scalar_parts first ≡ scalar_in (column boundaries.now) 0 }
-        requires start { scalar_parts start ≡ scalar_in (column boundaries.now) ((self.now.parts.offset + i) / 1024) }
-        requires end { scalar_parts end ≡ scalar_in (column boundaries.now) ((self.now.parts.offset + i) / 1024 + 1) }
-        requires range { i < self.now.parts.len }
-        ensures item { scalar_parts result ≡ stored_scalar self.now.parts (blocks_of_widths self.now.widths) i }
-        ensures blocks { work.new.blocks ≡ work.old.blocks }
-        ensures words { work.new.words ≤ work.old.words + 2 }
-    {
-        self.prove_well_formed();
-        let (first, start, end) = (
-            number_of_scalar(first),
-            number_of_scalar(start),
-            number_of_scalar(end),
-        );
-        self.packed_data()
-            .stored_blocked(first, start, end, i, work)
-    }
-
-    /// A copy, where all blocks have this width.
-    pub(crate) fn clone_global(
-        &self,
-        alloc: Global,
-        width: u8,
+        widths: BitWidths,
     ) -> Result<BitPackedArray, FastLanesError>
-        requires { GlobalWidth width ≡ self.now.widths }
-        ensures { Answers (λ a. a) result (Ok self.now) }
-    {
-        self.prove_well_formed();
-        let parts = self.packed_data().try_clone(alloc)?;
-        Ok(BitPackedArray {
-            parts,
-            widths: StoredWidths::Global(width),
-        })
-    }
-
-    /// A copy over a copy of the boundaries.
-    pub(crate) fn clone_blocked(
-        &self,
-        alloc: Global,
-        boundaries: ArrayRef,
-    ) -> Result<BitPackedArray, FastLanesError>
-        requires { BlockBoundaries boundaries ≡ self.now.widths }
-        ensures { Answers (λ a. a) result (Ok self.now) }
-    {
-        self.prove_well_formed();
-        let parts = self.packed_data().try_clone(alloc)?;
-        let boundaries = Box::new(alloc, boundaries)?;
-        Ok(BitPackedArray {
-            parts,
-            widths: StoredWidths::Blocked(boundaries),
-        })
-    }
-
-    /// The same packed blocks between other boundaries, which make an array with them.
-    pub(crate) fn with_boundaries(
-        &self,
-        alloc: Global,
-        boundaries: ArrayRef,
-    ) -> Result<BitPackedArray, FastLanesError>
-        requires { blocked_refusal self.now.parts (column boundaries) ≡ None }
-        ensures { Answers (λ a. a) result (Ok (record { parts = self.now.parts; widths = BlockBoundaries boundaries })) }
+        requires { bit_widths_refusal self.now.parts (widths_of_owned widths) ≡ None }
+        ensures { Answers (λ a. a) result (Ok (record { parts = self.now.parts; widths = widths_of_owned widths })) }
     {
         let parts = self.packed_data().try_clone(alloc)?;
-        let boundaries = Box::new(alloc, boundaries)?;
-        Ok(BitPackedArray {
-            parts,
-            widths: StoredWidths::Blocked(boundaries),
-        })
-    }
-
-    /// The item at an index, with the column's type. No block is unpacked, and at most two words are read.
-    #[cycle(reading)]
-    #[inline(always)]
-    pub(crate) fn scalar_at(
-        &self,
-        alloc: Global,
-        i: usize,
-        work: &mut Work,
-    ) -> Result<Scalar, FastLanesError>
-        requires { i < length (column (tree_of_bitpacked self.now)).items }
-        ensures item { Answers scalar_parts result (Ok (scalar_in (column (tree_of_bitpacked self.now)) i)) }
-        ensures blocks { work.new.blocks ≡ work.old.blocks }
-        ensures words { work.new.words ≤ work.old.words + 2 }
-        ensures memory { IfErr result (λ e. IsTrue (has_delta (kind (tree_of_bitpacked self.now)))) }
-    {
-        match self.bit_widths() {
-            BitWidthsView::Global(width) => Ok(self.item_global(width, i, work)),
-            BitWidthsView::Blocked(boundaries) => {
-                let j = self.block_of(boundaries, i);
-                let first = boundaries.scalar_at(alloc, 0)?;
-                let start = boundaries.scalar_at(alloc, j)?;
-                let end = boundaries.scalar_at(alloc, j + 1)?;
-                Ok(self.item_blocked(boundaries, first, start, end, i, work))
+        match widths {
+            BitWidths::Global(width) => Ok(BitPackedArray::from_global(parts, width)),
+            BitWidths::Blocked(boundaries) => {
+                BitPackedArray::from_blocked(alloc, parts, boundaries)
             }
         }
+    }
+
+    /// A copy, at a copy of the widths.
+    pub(crate) fn clone_with(
+        &self,
+        alloc: Global,
+        widths: BitWidths,
+    ) -> Result<BitPackedArray, FastLanesError>
+        requires { widths_of_owned widths ≡ self.now.widths }
+        ensures { Answers (λ a. a) result (Ok self.now) }
+    {
+        self.prove_well_formed();
+        self.with_widths(alloc, widths)
     }
 }

@@ -11,7 +11,7 @@ ghost use Rattle.fl_array.specs.ToBlocked.{to_blocked_shallow, to_blocked_tree};
 ghost use Rattle.fl_array.specs.Trees.{column};
 
 use crate::array::{ArrayRef, IntoArray};
-use crate::bitpacking::{BitPacked, BitPackedArray, BitWidthsView};
+use crate::bitpacking::{BitPacked, BitPackedArray, BitWidths, BitWidthsView};
 use crate::delta::{Delta, DeltaArray};
 use crate::for_::FoRArray;
 use crate::rle::{RLE, RLEArray};
@@ -26,7 +26,7 @@ fn blocked(alloc: Global, array: &BitPackedArray) -> Result<BitPackedArray, Fast
         BitWidthsView::Global(width) => array.between_boundaries(alloc, width),
         BitWidthsView::Blocked(boundaries) => {
             let boundaries = boundaries.try_clone(alloc)?;
-            array.clone_blocked(alloc, boundaries)
+            array.clone_with(alloc, BitWidths::Blocked(boundaries))
         }
     }
 }
@@ -62,7 +62,7 @@ impl BitPackedArray {
     {
         self.prove_well_formed();
         let boundaries = self.packed_data().global_boundaries(alloc, width)?;
-        self.with_boundaries(alloc, boundaries.into_array())
+        self.with_widths(alloc, BitWidths::Blocked(boundaries.into_array()))
     }
 
     /// The same packed blocks over the boundaries, made arrays of a width for each block themselves.
@@ -77,7 +77,7 @@ impl BitPackedArray {
         ensures { Answers tree_of_bitpacked result (Ok (to_blocked_tree (tree_of_bitpacked self.now))) }
     {
         self.prove_well_formed();
-        self.with_boundaries(alloc, blocked)
+        self.with_widths(alloc, BitWidths::Blocked(blocked))
     }
 }
 

@@ -1,5 +1,5 @@
 -- Boundaries that are all equal: each block between them has width 0.
-use Rattle.std.proofs.Common.{◌≡◌, ◌==◌, ◌+◌, ◌*◌, ◌/◌, ℕ, zero, suc, ◌<◌, ◌≤◌, ◌-◌, false, length, map, replicate, get_or, pos, refl, ap, sym, ◌∙◌, arith, Some, None, true}
+use Rattle.std.proofs.Common.{◌≡◌, ◌==◌, ◌+◌, ◌*◌, ◌/◌, ℕ, zero, suc, ◌<◌, ◌≤◌, ◌-◌, false, length, map, replicate, get_or, pos, refl, ap, ◌∙◌, arith, Some, None, true}
 use Rattle.std.specs.Prelude.{unsigned_abs, unwrap_or, not, if◌then◌else◌}
 use Rattle.std.proofs.lemmas.Bool.{ne_eqb}
 use Rattle.fl_types.specs.declared.error.FastLanesError.TheVariants.{BlockSpan}
@@ -7,7 +7,7 @@ use Rattle.fl_column.specs.Columns.{ConstantParts, column_of_constant, numbers_o
 use Rattle.fl_column.specs.Queries.{each_next}
 use Rattle.fl_column.proofs.ItemLaws.{map-replicate}
 use Rattle.fl_bitpacking.specs.Blocks.{are_blocks, boundary_blocks, global_blocks, is_block}
-use Rattle.fl_bitpacking.specs.Columns.{BitPackedParts, block_count, column_of_packed}
+use Rattle.fl_bitpacking.specs.Columns.{BitPackedParts, block_count}
 use Rattle.fl_bitpacking.specs.Refusals.{block_offsets_refusal, blocked_refusal, boundaries_refusal, positions_refusal, validity_and_patches_refusal}
 use Rattle.fl_bitpacking.proofs.BoundaryLaws.{is_ends}
 
@@ -77,7 +77,3 @@ no_width n j b = let none : get_or (replicate n b) (j + 1) 0 - get_or (replicate
 -- blocks between equal boundaries are blocks of width 0
 pub equal_blocks : (c : ConstantParts) → boundary_blocks (numbers_of (column_of_constant c)) ≡ global_blocks 0
 equal_blocks c = ap boundary_blocks (equal_numbers c) ∙ (λ i. record { start = λ j. no_start c.len j (unsigned_abs (unwrap_or c.scalar.value (pos 0))) i; width = λ j. no_width c.len j (unsigned_abs (unwrap_or c.scalar.value (pos 0))) i })
-
--- the column of parts between equal boundaries is that of parts at width 0
-pub equal_column : (parts : BitPackedParts) (c : ConstantParts) → column_of_packed parts (global_blocks 0) ≡ column_of_packed parts (boundary_blocks (numbers_of (column_of_constant c)))
-equal_column parts c = ap (column_of_packed parts) (sym (equal_blocks c))

@@ -5,6 +5,7 @@ pub mod ColumnLaws
 pub mod FoundBelow
 pub mod GatheredPatches
 pub mod Joined
+pub mod ReadWidths
 pub mod Natives
 pub mod Order
 pub mod Lent

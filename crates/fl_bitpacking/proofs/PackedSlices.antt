@@ -1,22 +1,18 @@
 -- The blocks from floor to ceiling stand for the slice of a bit-packed column.
 use Rattle.std.proofs.Common.{◌≡◌, ℕ, ◌+◌, ◌-◌, ◌*◌, ◌/◌, ◌%◌, ◌<◌, ◌≤◌, List, None, false, refl, ap, ◌∙◌, arith}
-use Rattle.std.specs.Prelude.{ℤ, Option}
-use Rattle.fl_types.specs.declared.dtype.DType.TheVariants.{Primitive}
 use Rattle.fl_types.specs.Bits.{between, tabulate}
 use Rattle.fl_types.specs.declared.validity.Validity.{Validity}
 use Rattle.fl_types.specs.declared.validity.Validity.TheVariants as valid
-use Rattle.fl_types.specs.Validities.{is_valid_at, nullability_of, validity_between}
+use Rattle.fl_types.specs.Validities.{is_valid_at, validity_between}
 use Rattle.fl_types.proofs.BitLists.{same_tables}
 use Rattle.fl_column.specs.Operations.{slice_of}
-use Rattle.fl_column.specs.Queries.{scalar_in}
 use Rattle.fl_column.proofs.ItemLaws.{nullability_of-between}
 use Rattle.fl_patches.specs.PatchMaps.{patched_in}
 use Rattle.fl_patches.proofs.Slices.{get_or-between}
 use Rattle.fl_bitpacking.specs.Blocks.{Blocks, global_blocks, item_of_blocks, bytes_of_block}
 use Rattle.fl_bitpacking.specs.Columns.{BitPackedParts, stored, packed_item, column_of_packed}
-use Rattle.fl_bitpacking.specs.SingleItems.{item_in_block, stored_in_block, stored_scalar}
 use Rattle.fl_bitpacking.specs.SlicedParts.{end_block, first_block, sliced_parts}
-use Rattle.fl_bitpacking.proofs.Tables.{between-table, between-between, get_or-table}
+use Rattle.fl_bitpacking.proofs.Tables.{between-table, between-between}
 
 -- the items of a part of the validity
 pub valid-between : (v : Validity) (start end i : ℕ) → i < end - start → is_valid_at (validity_between start end v) i ≡ is_valid_at v (start + i)
@@ -79,14 +75,3 @@ later_global_blocks width first last j l = record {
       let at : 128 * width * last ≡ 128 * width * (first + j) + 128 * width + 128 * width * more = ap (λ m. 128 * width * m) whole ∙ sum in
       omega arith);
 }
-
--- ---- single items
--- an item of the column is that of its block
-pub item_of_packed : (p : BitPackedParts) (blocks : Blocks) (i : ℕ) → i < p.len → scalar_in (column_of_packed p blocks) i ≡ item_in_block p (blocks.start ((p.offset + i) / 1024)) (blocks.width ((p.offset + i) / 1024)) i
-unfolding packed_item item_of_blocks
-item_of_packed p blocks i h = ap (λ (v : Option ℤ). record { dtype = Primitive p.ptype (nullability_of p.validity); value = v }) (get_or-table (packed_item p blocks) p.len i None h)
-
--- an item as it is stored is that of its block
-pub stored_of_block : (p : BitPackedParts) (blocks : Blocks) (i : ℕ) → stored_scalar p blocks i ≡ stored_in_block p (blocks.start ((p.offset + i) / 1024)) (blocks.width ((p.offset + i) / 1024)) i
-unfolding item_of_blocks
-stored_of_block p blocks i = refl

@@ -28,3 +28,4 @@ pub mod RangeTests
 pub mod Compared
 pub mod Taken
 pub mod Filtered
+pub mod ReadWidths

@@ -4,18 +4,18 @@ pub(crate) mod block_decoding;
 pub mod decode_into;
 pub mod unfor;
 
-ghost use Rattle.std.specs.Prelude.{◌≡◌, ◌+◌, ◌-◌, ◌*◌, ◌/◌, ◌<◌, ◌≤◌, ◌^◌, ℕ, IfOk, IfSome, IsTrue, Ok, OnOk, length, map, min, option_map, unwrap_or};
+ghost use Rattle.std.specs.Prelude.{◌≡◌, ◌+◌, ◌-◌, ◌*◌, ◌/◌, ◌<◌, ◌≤◌, ◌^◌, ℕ, IfOk, IfSome, Ok, OnOk, length, map, min, option_map, unwrap_or};
 ghost use Rattle.std.specs.Option.{option_copied};
 ghost use Rattle.fastlanes.specs.Layout.{row_of, words_of_item};
 ghost use Rattle.fl_types.specs.Integers.{bits_of_type, lanes_of_type, read_as};
 ghost use Rattle.fl_types.specs.Refusals.{Answers};
 ghost use Rattle.fl_column.specs.Columns.{column_of_primitive};
-ghost use Rattle.fl_column.specs.Numbers.{numbers};
 ghost use Rattle.fl_patches.specs.PatchMaps.{patched_in};
-ghost use Rattle.fl_bitpacking.specs.Blocks.{are_blocks, block_item, blocks_of, boundary_blocks, global_blocks, item_of_blocks, value_at};
+ghost use Rattle.fl_bitpacking.specs.Blocks.{block_item, blocks_of, global_blocks, item_of_blocks, value_at};
 ghost use Rattle.fl_bitpacking.specs.BlockSums.{decoded_item, plus_block_reference};
 ghost use Rattle.fl_bitpacking.specs.Columns.{block_count, column_of_packed};
 ghost use Rattle.fl_bitpacking.specs.Parts.{AreReadable, Fit, blocks_in, blocks_to_read, parts_of};
+ghost use Rattle.fl_bitpacking.specs.ReadWidths.{AreWidthsOf};
 
 use crate::bit_packed::BitPacked;
 use crate::bitpack_decompress::block_decoding::PlusReferences;
@@ -134,7 +134,7 @@ pub(crate) fn decode_blocks<T: BitPacked>(
 }
 
 /// This many zeros: what stands in blocks at width 0.
-fn zeros<T: NativePType>(alloc: Global, len: usize) -> Result<Vec<T>, AllocError>
+pub(crate) fn zeros<T: NativePType>(alloc: Global, len: usize) -> Result<Vec<T>, AllocError>
     ensures long { IfOk result (λ v. length v.items ≡ len) }
     ensures items { IfOk result (λ v. (i : ℕ) → i < len → value_at T.value v.items i ≡ read_as T.PTYPE 0) }
 {
@@ -221,60 +221,23 @@ fn unpack_typed<T: BitPacked + WrappingAdd>(
     PrimitiveArray::new(items, validity)
 }
 
-/// The column of these parts, whose blocks have these widths.
-fn unpack_column(
+/// The column of these parts, whose blocks have these widths: an item is null if the validity says so, else its
+/// patch, else its bits, read as the type. Each block is unpacked at most once.
+///
+/// One width is at most the type's bits, and the bytes hold the blocks. Of boundaries there is one more than blocks,
+/// and each two neighbours enclose a block within the bytes, of at most the type's bits.
+#[tactic(auto, using(crate::proofs::ReadWidths::readable))]
+pub fn unpack_column(
     alloc: Global,
     column: &PackedColumn,
     widths: Widths,
     work: &mut Work,
 ) -> Result<PrimitiveArray, FastLanesError>
     requires fit { Fit (parts_of column.now) }
-    requires readable { AreReadable (bits_of_type column.now.ptype) (blocks_to_read column.now widths) }
+    requires widths { AreWidthsOf (parts_of column.now) widths }
     ensures column { Answers column_of_primitive result (Ok (column_of_packed (parts_of column.now) (blocks_of widths.entry))) }
-    ensures blocks { work.new.blocks ≤ work.old.blocks + blocks_in (blocks_to_read column.now widths.entry) }
+    ensures blocks { work.new.blocks ≤ work.old.blocks + block_count (parts_of column.now) }
     ensures words { work.new.words ≡ work.old.words }
 {
     match_each_integer_ptype!(column.ptype, unpack_typed(alloc, column, widths, work))
-}
-
-/// The column of these parts, whose blocks have one width: an item is null if the validity says so, else
-/// its patch, else its bits, read as the type. Each block is unpacked at most once.
-///
-/// The width is at most the type's bits, and the bytes hold the blocks.
-pub fn unpack_global(
-    alloc: Global,
-    column: &PackedColumn,
-    width: usize,
-    work: &mut Work,
-) -> Result<PrimitiveArray, FastLanesError>
-    requires fit { Fit (parts_of column.now) }
-    requires width { width ≤ bits_of_type column.now.ptype }
-    requires room { 128 * width * block_count (parts_of column.now) ≤ length column.now.packed.now }
-    ensures column { Answers column_of_primitive result (Ok (column_of_packed (parts_of column.now) (global_blocks width))) }
-    ensures blocks { work.new.blocks ≤ work.old.blocks + block_count (parts_of column.now) }
-    ensures words { work.new.words ≡ work.old.words }
-{
-    unpack_column(alloc, column, Widths::Global(width), work)
-}
-
-/// The column of these parts, whose block `j` is between the boundaries `j` and `j + 1`, in bytes from
-/// the first boundary on: an item is null if the validity says so, else its patch, else its bits, read as
-/// the type. Each block is unpacked at most once.
-///
-/// There is one boundary more than blocks, and each two neighbours enclose a block within the bytes, of at
-/// most the type's bits.
-pub fn unpack_blocked(
-    alloc: Global,
-    column: &PackedColumn,
-    boundaries: &PrimitiveArray,
-    work: &mut Work,
-) -> Result<PrimitiveArray, FastLanesError>
-    requires fit { Fit (parts_of column.now) }
-    requires count { length boundaries.now.slots ≡ block_count (parts_of column.now) + 1 }
-    requires blocks { IsTrue (are_blocks (bits_of_type column.now.ptype) (length column.now.packed.now) (numbers boundaries.now)) }
-    ensures column { Answers column_of_primitive result (Ok (column_of_packed (parts_of column.now) (boundary_blocks (numbers boundaries.now)))) }
-    ensures blocks { work.new.blocks ≤ work.old.blocks + block_count (parts_of column.now) }
-    ensures words { work.new.words ≡ work.old.words }
-{
-    unpack_column(alloc, column, Widths::Boundaries(boundaries), work)
 }

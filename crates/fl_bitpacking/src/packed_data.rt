@@ -1,39 +1,36 @@
 //! The parts of a bit-packed array, without the widths of its blocks: decoding, single items and slices.
 
-mod typed_items;
+mod single_items;
 
-ghost use Rattle.std.specs.Prelude.{◌≡◌, ◌+◌, ◌-◌, ◌*◌, ◌/◌, ◌%◌, ◌<◌, ◌≤◌, ℕ, IfOk, IfSome, IsTrue, None, Ok, OnOk, length, min, option_and_then, option_map};
+ghost use Rattle.std.specs.Prelude.{◌≡◌, ◌+◌, ◌-◌, ◌*◌, ◌/◌, ◌%◌, ◌<◌, ◌≤◌, ℕ, IfOk, IfSome, None, Ok, OnOk, length, min, option_and_then, option_map};
 ghost use Rattle.std.specs.Option.{option_copied};
 ghost use Rattle.fl_types.specs.declared.dtype.DType.TheVariants.{Primitive};
 ghost use Rattle.fl_types.specs.Bits.{between};
 ghost use Rattle.fl_types.specs.Integers.{bits_of_type};
 ghost use Rattle.fl_types.specs.Refusals.{Answers};
 ghost use Rattle.fl_types.specs.Validities.{nullability_of};
-ghost use Rattle.fl_types.specs.Values.{scalar_parts, integer_of, ptype_of_value};
-ghost use Rattle.fl_column.specs.Columns.{Column, column_of_constant, column_of_primitive, numbers_of};
+ghost use Rattle.fl_column.specs.Columns.{Column, column_of_primitive, numbers_of};
 ghost use Rattle.fl_column.specs.Operations.{slice_of};
-ghost use Rattle.fl_column.specs.Queries.{scalar_in};
 ghost use Rattle.fl_patches.specs.PatchMaps.{patched_in, slice_patches};
-ghost use Rattle.fl_column.specs.Numbers.{numbers};
-ghost use Rattle.fl_bitpacking.specs.Blocks.{are_blocks, block_item, boundary_array, boundary_blocks, global_blocks};
+ghost use Rattle.fl_bitpacking.specs.Blocks.{block_item, blocks_of, boundary_array, boundary_blocks, global_blocks};
 ghost use Rattle.fl_bitpacking.specs.BlockedWidths.{width_per_block};
 ghost use Rattle.fl_bitpacking.specs.Columns.{block_count, column_of_packed};
 ghost use Rattle.fl_bitpacking.specs.Parts.{parts_of};
+ghost use Rattle.fl_bitpacking.specs.ReadWidths.{AreWidthsOf};
 ghost use Rattle.fl_bitpacking.specs.References.{AreReferencesOf, plus_references};
 ghost use Rattle.fl_bitpacking.specs.Refusals.{AreConsistent, blocked_refusal, global_refusal};
-ghost use Rattle.fl_bitpacking.specs.SingleItems.{HasBlock, item_in_block, stored_in_block, stored_scalar};
 ghost use Rattle.fl_bitpacking.specs.SlicedParts.{HasEnds, IsBlockedSlice, end_block, first_block, sliced_parts};
 
-use crate::bitpack_decompress::unfor::{References, unfor_blocked, unfor_global};
-use crate::bitpack_decompress::{PackedColumn, unpack_block_item, unpack_blocked, unpack_global};
+use crate::bitpack_decompress::unfor::{References, unfor_column};
+use crate::bitpack_decompress::{PackedColumn, unpack_column};
 use crate::boundaries::global_boundary_array;
 use crate::laws::parts_are_consistent;
-use crate::packed_data::typed_items::value_in_block;
+pub use crate::packed_data::single_items::BlockExtent;
 use bytes::Bytes;
 use fastlanes::{FL_CHUNK_SIZE, Work};
-use fl_column::{ConstantArray, PhysicalPType, PrimitiveArray, chunk_count};
-use fl_patches::Patches;
-use fl_types::{DType, FastLanesError, PType, PValue, Scalar, Validity, match_each_integer_ptype};
+use fl_column::{PrimitiveArray, chunk_count};
+use fl_patches::{Patches, Widths};
+use fl_types::{DType, FastLanesError, PType, Validity};
 use std::alloc::Global;
 use std::marker::Model;
 
@@ -71,37 +68,6 @@ impl Model for PackedData {
     ghost view = { λ d. record { packed = d.packed; ptype = d.ptype; validity = d.validity; patches = d.patches; offset = d.offset; len = d.len } };
 
     ghost invariant = { λ d. AreConsistent (record { packed = d.packed; ptype = d.ptype; validity = d.validity; patches = d.patches; offset = d.offset; len = d.len }) };
-}
-
-/// The item of a block as it is stored.
-fn stored_typed<T: PhysicalPType>(
-    width: usize,
-    block: &[u8],
-    index: usize,
-    work: &mut Work,
-) -> PValue
-    requires width { width ≤ bits_of_type T.PTYPE }
-    requires block { length block.now ≡ 128 * width }
-    requires index { index < 1024 }
-    ensures value { integer_of result ≡ block_item T.PTYPE width block.now index }
-    ensures typed { ptype_of_value result ≡ T.PTYPE }
-    ensures few { work.new.words ≤ work.old.words + 2 }
-    ensures blocks { work.new.blocks ≡ work.old.blocks }
-{
-    unpack_block_item::<T>(width, block, index, work).into_pvalue()
-}
-
-/// The item of a block of integers of a type as it is stored.
-fn stored_in(ptype: PType, width: usize, block: &[u8], index: usize, work: &mut Work) -> PValue
-    requires width { width ≤ bits_of_type ptype }
-    requires block { length block.now ≡ 128 * width }
-    requires index { index < 1024 }
-    ensures value { integer_of result ≡ block_item ptype width block.now index }
-    ensures typed { ptype_of_value result ≡ ptype }
-    ensures few { work.new.words ≤ work.old.words + 2 }
-    ensures blocks { work.new.blocks ≡ work.old.blocks }
-{
-    match_each_integer_ptype!(ptype, stored_typed(width, block, index, work))
 }
 
 /// A copy of patches, if there are any.
@@ -238,215 +204,37 @@ impl PackedData {
         }
     }
 
-    /// The column of the items, whose blocks have one width. Each block is unpacked at most once.
-    pub fn decode_global(
+    /// The column of the items, whose blocks have these widths. Each block is unpacked at most once.
+    pub fn decode(
         &self,
         alloc: Global,
-        width: usize,
+        widths: Widths,
         work: &mut Work,
     ) -> Result<PrimitiveArray, FastLanesError>
-        requires width { width ≤ bits_of_type self.now.ptype }
-        requires room { 128 * width * block_count self.now ≤ length self.now.packed }
-        ensures column { Answers column_of_primitive result (Ok (column_of_packed self.now (global_blocks width))) }
+        requires { AreWidthsOf self.now widths }
+        ensures column { Answers column_of_primitive result (Ok (column_of_packed self.now (blocks_of widths.entry))) }
         ensures blocks { work.new.blocks ≤ work.old.blocks + block_count self.now }
         ensures words { work.new.words ≡ work.old.words }
     {
-        unpack_global(alloc, &self.column(), width, work)
+        unpack_column(alloc, &self.column(), widths, work)
     }
 
-    /// The column of the items, whose blocks are between the boundaries. Each block is unpacked at most once.
-    pub fn decode_blocked(
-        &self,
-        alloc: Global,
-        boundaries: &PrimitiveArray,
-        work: &mut Work,
-    ) -> Result<PrimitiveArray, FastLanesError>
-        requires count { length boundaries.now.slots ≡ block_count self.now + 1 }
-        requires blocks { IsTrue (are_blocks (bits_of_type self.now.ptype) (length self.now.packed) (numbers boundaries.now)) }
-        ensures column { Answers column_of_primitive result (Ok (column_of_packed self.now (boundary_blocks (numbers boundaries.now)))) }
-        ensures blocks { work.new.blocks ≤ work.old.blocks + block_count self.now }
-        ensures words { work.new.words ≡ work.old.words }
-    {
-        unpack_blocked(alloc, &self.column(), boundaries, work)
-    }
-
-    /// The column of the items, whose blocks are between boundaries that are all equal: no block has a byte.
-    pub fn decode_without_bytes(
-        &self,
-        alloc: Global,
-        boundaries: &ConstantArray,
-        work: &mut Work,
-    ) -> Result<PrimitiveArray, FastLanesError>
-        ensures column { Answers column_of_primitive result (Ok (column_of_packed self.now (boundary_blocks (numbers_of (column_of_constant boundaries.now))))) }
-        ensures blocks { work.new.blocks ≤ work.old.blocks + block_count self.now }
-        ensures words { work.new.words ≡ work.old.words }
-    {
-        self.decode_global(alloc, 0, work)
-    }
-
-    /// The column of the items plus the references, whose blocks have one width. Each block is unpacked once.
-    pub fn unfor_global(
-        &self,
-        alloc: Global,
-        width: usize,
-        references: References,
-        work: &mut Work,
-    ) -> Result<PrimitiveArray, FastLanesError>
-        requires references { AreReferencesOf self.now.ptype (block_count self.now) references }
-        requires width { width ≤ bits_of_type self.now.ptype }
-        requires room { 128 * width * block_count self.now ≤ length self.now.packed }
-        ensures column { Answers column_of_primitive result (Ok (plus_references references.entry self.now.offset (column_of_packed self.now (global_blocks width)))) }
-        ensures blocks { OnOk result (work.new.blocks ≡ min (work.old.blocks + block_count self.now) u64.MAX) }
-        ensures most { work.new.blocks ≤ work.old.blocks + block_count self.now }
-        ensures words { work.new.words ≡ work.old.words }
-    {
-        unfor_global(alloc, &self.column(), width, references, work)
-    }
-
-    /// The column of the items plus the references, whose blocks are between the boundaries. Each block is
-    /// unpacked once.
-    pub fn unfor_blocked<'a>(
+    /// The column of the items plus the references, whose blocks have these widths. Each block is unpacked once.
+    pub fn unfor<'a>(
         &'a self,
         alloc: Global,
-        boundaries: &'a PrimitiveArray,
+        widths: Widths<'a>,
         references: References,
         work: &mut Work,
     ) -> Result<PrimitiveArray, FastLanesError>
         requires references { AreReferencesOf self.now.ptype (block_count self.now) references }
-        requires count { length boundaries.now.slots ≡ block_count self.now + 1 }
-        requires blocks { IsTrue (are_blocks (bits_of_type self.now.ptype) (length self.now.packed) (numbers boundaries.now)) }
-        ensures column { Answers column_of_primitive result (Ok (plus_references references.entry self.now.offset (column_of_packed self.now (boundary_blocks (numbers boundaries.now))))) }
+        requires widths { AreWidthsOf self.now widths }
+        ensures column { Answers column_of_primitive result (Ok (plus_references references.entry self.now.offset (column_of_packed self.now (blocks_of widths.entry)))) }
         ensures blocks { OnOk result (work.new.blocks ≡ min (work.old.blocks + block_count self.now) u64.MAX) }
         ensures most { work.new.blocks ≤ work.old.blocks + block_count self.now }
         ensures words { work.new.words ≡ work.old.words }
     {
-        unfor_blocked(alloc, &self.column(), boundaries, references, work)
-    }
-
-    /// Item `i` as it is stored in its block.
-    fn stored_in_block(&self, start: usize, width: usize, i: usize, work: &mut Work) -> PValue
-        requires range { i < self.now.len }
-        requires width { width ≤ bits_of_type self.now.ptype }
-        requires room { start + 128 * width ≤ length self.now.packed }
-        ensures value { integer_of result ≡ block_item self.now.ptype width (between start (start + 128 * width) self.now.packed) ((self.now.offset + i) % 1024) }
-        ensures typed { ptype_of_value result ≡ self.now.ptype }
-        ensures few { work.new.words ≤ work.old.words + 2 }
-        ensures blocks { work.new.blocks ≡ work.old.blocks }
-    {
-        let packed = self.packed.as_slice();
-        let block = &packed[start..start + FL_CHUNK_SIZE / 8 * width];
-        let index = (self.offset + i) % FL_CHUNK_SIZE;
-        stored_in(self.ptype, width, block, index, work)
-    }
-
-    /// Item `i`, whose block starts at byte `start` and has a width.
-    #[inline(always)]
-    pub fn item_in_block(&self, start: usize, width: usize, i: usize, work: &mut Work) -> Scalar
-        requires range { i < self.now.len }
-        requires width { width ≤ bits_of_type self.now.ptype }
-        requires room { start + 128 * width ≤ length self.now.packed }
-        ensures item { scalar_parts result ≡ item_in_block self.now start width i }
-        ensures few { work.new.words ≤ work.old.words + 2 }
-        ensures blocks { work.new.blocks ≡ work.old.blocks }
-    {
-        if !self.validity.is_valid(i, self.len) {
-            return Scalar::null(self.dtype());
-        }
-        let value = value_in_block(self, start, width, i, work);
-        Scalar::primitive(value, self.validity.nullability())
-    }
-
-    /// The block of item `i`.
-    pub fn block_of(&self, i: usize) -> usize
-        requires { i < self.now.len }
-        ensures block { result ≡ (self.now.offset + i) / 1024 }
-        ensures range { result < block_count self.now }
-    {
-        (self.offset + i) / FL_CHUNK_SIZE
-    }
-
-    /// Item `i`, if all blocks have one width.
-    #[inline(always)]
-    pub fn item_global(&self, width: usize, i: usize, work: &mut Work) -> Scalar
-        requires global { global_refusal self.now width ≡ None }
-        requires range { i < self.now.len }
-        ensures item { scalar_parts result ≡ scalar_in (column_of_packed self.now (global_blocks width)) i }
-        ensures few { work.new.words ≤ work.old.words + 2 }
-        ensures blocks { work.new.blocks ≡ work.old.blocks }
-    {
-        let _size = self.packed.len();
-        let start = FL_CHUNK_SIZE / 8 * width * self.block_of(i);
-        self.item_in_block(start, width, i, work)
-    }
-
-    /// Item `i`, if its block is between `start` and `end`, of boundaries that begin with `first`.
-    pub fn item_blocked(
-        &self,
-        first: usize,
-        start: usize,
-        end: usize,
-        i: usize,
-        work: &mut Work,
-    ) -> Scalar
-        requires range { i < self.now.len }
-        requires first { first ≤ start }
-        requires order { start ≤ end }
-        requires room { end - first ≤ length self.now.packed }
-        requires width { (end - start) / 128 ≤ bits_of_type self.now.ptype }
-        ensures item { (c : Column) → HasBlock c ((self.now.offset + i) / 1024) first start end → scalar_parts result ≡ scalar_in (column_of_packed self.now (boundary_blocks (numbers_of c))) i }
-        ensures few { work.new.words ≤ work.old.words + 2 }
-        ensures blocks { work.new.blocks ≡ work.old.blocks }
-    {
-        self.item_in_block(start - first, (end - start) / (FL_CHUNK_SIZE / 8), i, work)
-    }
-
-    /// Item `i` as its bits are stored, whose block starts at byte `start` and has a width: without its patch,
-    /// and also under a null.
-    fn stored_item(&self, start: usize, width: usize, i: usize, work: &mut Work) -> Scalar
-        requires range { i < self.now.len }
-        requires width { width ≤ bits_of_type self.now.ptype }
-        requires room { start + 128 * width ≤ length self.now.packed }
-        ensures item { scalar_parts result ≡ stored_in_block self.now start width i }
-        ensures few { work.new.words ≤ work.old.words + 2 }
-        ensures blocks { work.new.blocks ≡ work.old.blocks }
-    {
-        let value = self.stored_in_block(start, width, i, work);
-        Scalar::primitive(value, self.validity.nullability())
-    }
-
-    /// Item `i` by its packed bits, if all blocks have one width: without its patch, and also under a null.
-    pub fn stored_global(&self, width: usize, i: usize, work: &mut Work) -> Scalar
-        requires global { global_refusal self.now width ≡ None }
-        requires range { i < self.now.len }
-        ensures item { scalar_parts result ≡ stored_scalar self.now (global_blocks width) i }
-        ensures few { work.new.words ≤ work.old.words + 2 }
-        ensures blocks { work.new.blocks ≡ work.old.blocks }
-    {
-        let _size = self.packed.len();
-        let start = FL_CHUNK_SIZE / 8 * width * self.block_of(i);
-        self.stored_item(start, width, i, work)
-    }
-
-    /// Item `i` by its packed bits, if its block is between `start` and `end`, of boundaries that begin with
-    /// `first`: without its patch, and also under a null.
-    pub fn stored_blocked(
-        &self,
-        first: usize,
-        start: usize,
-        end: usize,
-        i: usize,
-        work: &mut Work,
-    ) -> Scalar
-        requires range { i < self.now.len }
-        requires first { first ≤ start }
-        requires order { start ≤ end }
-        requires room { end - first ≤ length self.now.packed }
-        requires width { (end - start) / 128 ≤ bits_of_type self.now.ptype }
-        ensures item { (c : Column) → HasBlock c ((self.now.offset + i) / 1024) first start end → scalar_parts result ≡ stored_scalar self.now (boundary_blocks (numbers_of c)) i }
-        ensures few { work.new.words ≤ work.old.words + 2 }
-        ensures blocks { work.new.blocks ≡ work.old.blocks }
-    {
-        self.stored_item(start - first, (end - start) / (FL_CHUNK_SIZE / 8), i, work)
+        unfor_column(alloc, &self.column(), widths, references, work)
     }
 
     /// The parts of the items of `start..end`, whose blocks are the bytes of `from..to`.

@@ -35,6 +35,7 @@ impl ArrayRef {
     ///
     /// # Errors
     /// `NotInteger` if the column is of booleans.
+    #[cycle(decoding)]
     pub(crate) fn primitive_cow(&self, alloc: Global) -> Result<PrimitiveCow<'_>, FastLanesError>
         ensures { Answers (λ p. column_of_primitive (primitive_of_cow p)) result (integer_column (column self.now)) }
     {

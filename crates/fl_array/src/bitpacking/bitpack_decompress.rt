@@ -1,6 +1,5 @@
 //! Decoding of bit-packed arrays, and single items by their packed bits.
 
-mod constant_boundaries;
 mod decode_into;
 mod unfor;
 
@@ -26,10 +25,7 @@ pub fn unpack_array(alloc: Global, array: &BitPackedArray) -> Result<PrimitiveAr
     ensures { Answers column_of_primitive result (if_global array.now.widths (column (tree_of_bitpacked array.now))) }
 {
     match array.bit_widths() {
-        BitWidthsView::Global(width) => {
-            array.prove_integers();
-            array.decode_global(alloc, width, &mut Work::new())
-        }
+        BitWidthsView::Global(_) => array.decode(alloc, &mut Work::new()),
         BitWidthsView::Blocked(_) => Err(FastLanesError::NotGlobal),
     }
 }
@@ -59,7 +55,10 @@ pub fn unpack_single(array: &BitPackedArray, i: usize) -> Result<Scalar, FastLan
     ensures no_memory { IfErr result (λ e. e ≡ NotGlobal) }
 {
     match array.bit_widths() {
-        BitWidthsView::Global(width) => Ok(array.stored_global(width, i, &mut Work::new())),
+        BitWidthsView::Global(width) => {
+            let extent = array.extent_at_width(width, i);
+            Ok(array.packed_data().stored(extent, i, &mut Work::new()))
+        }
         BitWidthsView::Blocked(_) => Err(FastLanesError::NotGlobal),
     }
 }
@@ -72,19 +71,7 @@ pub fn unpack_array_blocked(
     requires { is_global array.now.widths ≡ false }
     ensures { Answers column_of_primitive result (Ok (column (tree_of_bitpacked array.now))) }
 {
-    match array.bit_widths() {
-        BitWidthsView::Global(_) => unreachable!(),
-        BitWidthsView::Blocked(boundaries) => {
-            array.prove_integers();
-            let mut work = Work::new();
-            if let Some(constant) = boundaries.as_constant() {
-                return array.decode_without_bytes(alloc, boundaries, constant, &mut work);
-            }
-            array.prove_boundaries_are_integers(boundaries);
-            let plain = boundaries.to_primitive(alloc)?;
-            array.decode_blocked(alloc, boundaries, &plain, &mut work)
-        }
-    }
+    array.decode(alloc, &mut Work::new())
 }
 
 /// Item `i` by its packed bits, if each block has a width of its own: without its patch, and also under a
@@ -98,16 +85,6 @@ pub fn unpack_single_blocked(
     requires range { i < array.now.parts.len }
     ensures { Answers scalar_parts result (Ok (stored_scalar array.now.parts (blocks_of_widths array.now.widths) i)) }
 {
-    match array.bit_widths() {
-        BitWidthsView::Global(_) => unreachable!(),
-        BitWidthsView::Blocked(boundaries) => {
-            let _len = array.len();
-            let j = array.block_of(boundaries, i);
-            let first = boundaries.scalar_at(alloc, 0)?;
-            let start = boundaries.scalar_at(alloc, j)?;
-            let end = boundaries.scalar_at(alloc, j + 1)?;
-            let mut work = Work::new();
-            Ok(array.stored_blocked(boundaries, first, start, end, i, &mut work))
-        }
-    }
+    let extent = array.extent_of(alloc, i)?;
+    Ok(array.packed_data().stored(extent, i, &mut Work::new()))
 }

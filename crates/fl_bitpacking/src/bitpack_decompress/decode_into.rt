@@ -1,15 +1,15 @@
 //! Packed columns that are decoded into a slice of the caller. Nothing is allocated, so no call fails.
 
-ghost use Rattle.std.specs.Prelude.{◌≡◌, ◌+◌, ◌*◌, ◌/◌, ◌<◌, ◌≤◌, ◌^◌, ℕ, IfSome, IsTrue, length, map, min, option_map, unwrap_or};
+ghost use Rattle.std.specs.Prelude.{◌≡◌, ◌+◌, ◌/◌, ◌<◌, ◌^◌, ℕ, IfSome, length, map, min, option_map, unwrap_or};
 ghost use Rattle.std.specs.Option.{option_copied};
 ghost use Rattle.fl_types.specs.Integers.{bits_of_type};
 ghost use Rattle.fl_column.specs.Columns.{column_of_primitive};
-ghost use Rattle.fl_column.specs.Numbers.{numbers};
 ghost use Rattle.fl_patches.specs.PatchMaps.{patched_in};
-ghost use Rattle.fl_bitpacking.specs.Blocks.{are_blocks, blocks_of, boundary_blocks, global_blocks, value_at};
+ghost use Rattle.fl_bitpacking.specs.Blocks.{blocks_of, value_at};
 ghost use Rattle.fl_bitpacking.specs.BlockSums.{decoded_column, plus_block_reference};
 ghost use Rattle.fl_bitpacking.specs.Columns.{block_count, column_of_packed};
 ghost use Rattle.fl_bitpacking.specs.Parts.{AreReadable, Fit, blocks_to_read, parts_of, written};
+ghost use Rattle.fl_bitpacking.specs.ReadWidths.{AreWidthsOf};
 ghost use Rattle.fl_bitpacking.specs.References.{AreReferencesIfSome, AreReferencesOf, plus_references, plus_references_if_some};
 
 use crate::bit_packed::BitPacked;
@@ -20,7 +20,6 @@ use crate::blocks::PackedBlocks;
 use crate::packed_data::PackedData;
 use crate::patching::write_patches;
 use fastlanes::{FL_CHUNK_SIZE, Work};
-use fl_column::PrimitiveArray;
 use fl_patches::{Patches, Widths};
 use fl_types::NativePType;
 use num_traits::WrappingAdd;
@@ -101,6 +100,7 @@ fn write_sums<'a, T: BitPacked + WrappingAdd>(
 }
 
 /// Writes the items of a column, plus the references, if there are any.
+#[tactic(auto, using(crate::proofs::ReadWidths::readable))]
 fn write_column<'a, T: BitPacked + WrappingAdd>(
     column: &PackedColumn<'a>,
     widths: Widths<'a>,
@@ -111,7 +111,7 @@ fn write_column<'a, T: BitPacked + WrappingAdd>(
     requires typed { column.now.ptype ≡ T.PTYPE }
     requires references { AreReferencesIfSome column.now.ptype (block_count (parts_of column.now)) references }
     requires fit { Fit (parts_of column.now) }
-    requires readable { AreReadable (bits_of_type column.now.ptype) (blocks_to_read column.now widths) }
+    requires widths { AreWidthsOf (parts_of column.now) widths }
     requires long { length values.old ≡ column.now.len }
     ensures column { column_of_primitive (written (map T.value values.new) (parts_of column.now)) ≡ plus_references_if_some references.entry column.now.offset (column_of_packed (parts_of column.now) (blocks_of widths.entry)) }
     ensures blocks { work.new.blocks ≡ min (work.old.blocks + block_count (parts_of column.now)) u64.MAX }
@@ -124,61 +124,23 @@ fn write_column<'a, T: BitPacked + WrappingAdd>(
 }
 
 impl PackedData {
-    /// Writes the items, whose blocks have one width, plus the references, if there are any: at the index of each
+    /// Writes the items, whose blocks have these widths, plus the references, if there are any: at the index of each
     /// item that is not null its value, at that of a null any value. Each block is unpacked once.
-    ///
-    /// The width is at most the type's bits, and the bytes hold the blocks.
-    pub fn decode_global_into<T: BitPacked + WrappingAdd>(
-        &self,
-        width: usize,
-        references: Option<References>,
-        values: &mut [T],
-        work: &mut Work,
-    )
-        requires typed { self.now.ptype ≡ T.PTYPE }
-        requires references { AreReferencesIfSome self.now.ptype (block_count self.now) references }
-        requires width { width ≤ bits_of_type self.now.ptype }
-        requires room { 128 * width * block_count self.now ≤ length self.now.packed }
-        requires long { length values.old ≡ self.now.len }
-        ensures column { column_of_primitive (written (map T.value values.new) self.now) ≡ plus_references_if_some references.entry self.now.offset (column_of_packed self.now (global_blocks width)) }
-        ensures blocks { work.new.blocks ≡ min (work.old.blocks + block_count self.now) u64.MAX }
-        ensures words { work.new.words ≡ work.old.words }
-    {
-        write_column(
-            &self.column(),
-            Widths::Global(width),
-            references,
-            values,
-            work,
-        )
-    }
-
-    /// The same where block `j` is between the boundaries `j` and `j + 1`, in bytes from the first boundary on.
-    ///
-    /// There is one boundary more than blocks, and each two neighbours enclose a block within the bytes, of at
-    /// most the type's bits.
-    pub fn decode_blocked_into<'a, T: BitPacked + WrappingAdd>(
+    pub fn decode_into<'a, T: BitPacked + WrappingAdd>(
         &'a self,
-        boundaries: &'a PrimitiveArray,
+        widths: Widths<'a>,
         references: Option<References>,
         values: &mut [T],
         work: &mut Work,
     )
         requires typed { self.now.ptype ≡ T.PTYPE }
         requires references { AreReferencesIfSome self.now.ptype (block_count self.now) references }
-        requires count { length boundaries.now.slots ≡ block_count self.now + 1 }
-        requires blocks { IsTrue (are_blocks (bits_of_type self.now.ptype) (length self.now.packed) (numbers boundaries.now)) }
+        requires widths { AreWidthsOf self.now widths }
         requires long { length values.old ≡ self.now.len }
-        ensures column { column_of_primitive (written (map T.value values.new) self.now) ≡ plus_references_if_some references.entry self.now.offset (column_of_packed self.now (boundary_blocks (numbers boundaries.now))) }
+        ensures column { column_of_primitive (written (map T.value values.new) self.now) ≡ plus_references_if_some references.entry self.now.offset (column_of_packed self.now (blocks_of widths.entry)) }
         ensures blocks { work.new.blocks ≡ min (work.old.blocks + block_count self.now) u64.MAX }
         ensures words { work.new.words ≡ work.old.words }
     {
-        write_column(
-            &self.column(),
-            Widths::Boundaries(boundaries),
-            references,
-            values,
-            work,
-        )
+        write_column(&self.column(), widths, references, values, work);
     }
 }

@@ -1,14 +1,14 @@
 //! Packed columns with references that are added while their blocks are unpacked.
 
-ghost use Rattle.std.specs.Prelude.{◌≡◌, ◌+◌, ◌*◌, ◌≤◌, IsTrue, Ok, OnOk, length, map, min};
+ghost use Rattle.std.specs.Prelude.{◌≡◌, ◌+◌, ◌≤◌, Ok, OnOk, map, min};
 ghost use Rattle.fl_types.specs.Integers.{bits_of_type};
 ghost use Rattle.fl_types.specs.Refusals.{Answers};
 ghost use Rattle.fl_column.specs.Columns.{column_of_primitive};
-ghost use Rattle.fl_column.specs.Numbers.{numbers};
-ghost use Rattle.fl_bitpacking.specs.Blocks.{are_blocks, blocks_of, boundary_blocks, global_blocks};
+ghost use Rattle.fl_bitpacking.specs.Blocks.{blocks_of};
 ghost use Rattle.fl_bitpacking.specs.BlockSums.{decoded_column, plus_block_reference};
 ghost use Rattle.fl_bitpacking.specs.Columns.{block_count, column_of_packed};
 ghost use Rattle.fl_bitpacking.specs.Parts.{AreReadable, Fit, blocks_to_read, parts_of};
+ghost use Rattle.fl_bitpacking.specs.ReadWidths.{AreWidthsOf};
 ghost use Rattle.fl_bitpacking.specs.References.{AreReferencesOf, plus_references};
 
 use crate::bit_packed::BitPacked;
@@ -87,8 +87,10 @@ fn unfor_typed<'a, T: BitPacked + WrappingAdd>(
     }
 }
 
-/// The column of these parts plus the references, where the blocks have these widths.
-fn unfor_column<'a>(
+/// The column of these parts plus the references, where the blocks have these widths: an item is null if the
+/// validity says so, else its patch or its bits, plus its reference. Each block is unpacked once.
+#[tactic(auto, using(crate::proofs::ReadWidths::readable))]
+pub(crate) fn unfor_column<'a>(
     alloc: Global,
     column: &PackedColumn<'a>,
     widths: Widths<'a>,
@@ -97,7 +99,7 @@ fn unfor_column<'a>(
 ) -> Result<PrimitiveArray, FastLanesError>
     requires references { AreReferencesOf column.now.ptype (block_count (parts_of column.now)) references }
     requires fit { Fit (parts_of column.now) }
-    requires readable { AreReadable (bits_of_type column.now.ptype) (blocks_to_read column.now widths) }
+    requires widths { AreWidthsOf (parts_of column.now) widths }
     ensures column { Answers column_of_primitive result (Ok (plus_references references.entry column.now.offset (column_of_packed (parts_of column.now) (blocks_of widths.entry)))) }
     ensures blocks { OnOk result (work.new.blocks ≡ min (work.old.blocks + block_count (parts_of column.now)) u64.MAX) }
     ensures most { work.new.blocks ≤ work.old.blocks + block_count (parts_of column.now) }
@@ -106,58 +108,5 @@ fn unfor_column<'a>(
     match_each_integer_ptype!(
         column.ptype,
         unfor_typed(alloc, column, widths, references, work)
-    )
-}
-
-/// The column of these parts plus the references, if all blocks have one width: an item is null if the
-/// validity says so, else its patch or its bits, plus its reference. Each block is unpacked once.
-///
-/// The references have the column's type, the width is at most the type's bits, and the bytes hold the blocks.
-pub fn unfor_global(
-    alloc: Global,
-    column: &PackedColumn,
-    width: usize,
-    references: References,
-    work: &mut Work,
-) -> Result<PrimitiveArray, FastLanesError>
-    requires fit { Fit (parts_of column.now) }
-    requires references { AreReferencesOf column.now.ptype (block_count (parts_of column.now)) references }
-    requires width { width ≤ bits_of_type column.now.ptype }
-    requires room { 128 * width * block_count (parts_of column.now) ≤ length column.now.packed.now }
-    ensures column { Answers column_of_primitive result (Ok (plus_references references.entry column.now.offset (column_of_packed (parts_of column.now) (global_blocks width)))) }
-    ensures blocks { OnOk result (work.new.blocks ≡ min (work.old.blocks + block_count (parts_of column.now)) u64.MAX) }
-    ensures most { work.new.blocks ≤ work.old.blocks + block_count (parts_of column.now) }
-    ensures words { work.new.words ≡ work.old.words }
-{
-    unfor_column(alloc, column, Widths::Global(width), references, work)
-}
-
-/// The column of these parts plus the references, where block `j` is between the boundaries `j` and `j + 1`,
-/// in bytes from the first boundary on. Each block is unpacked once.
-///
-/// The references have the column's type. There is one boundary more than blocks, and each two neighbours
-/// enclose a block within the bytes, of at most the type's bits.
-pub fn unfor_blocked<'a>(
-    alloc: Global,
-    column: &PackedColumn<'a>,
-    boundaries: &'a PrimitiveArray,
-    references: References,
-    work: &mut Work,
-) -> Result<PrimitiveArray, FastLanesError>
-    requires fit { Fit (parts_of column.now) }
-    requires references { AreReferencesOf column.now.ptype (block_count (parts_of column.now)) references }
-    requires count { length boundaries.now.slots ≡ block_count (parts_of column.now) + 1 }
-    requires blocks { IsTrue (are_blocks (bits_of_type column.now.ptype) (length column.now.packed.now) (numbers boundaries.now)) }
-    ensures column { Answers column_of_primitive result (Ok (plus_references references.entry column.now.offset (column_of_packed (parts_of column.now) (boundary_blocks (numbers boundaries.now))))) }
-    ensures blocks { OnOk result (work.new.blocks ≡ min (work.old.blocks + block_count (parts_of column.now)) u64.MAX) }
-    ensures most { work.new.blocks ≤ work.old.blocks + block_count (parts_of column.now) }
-    ensures words { work.new.words ≡ work.old.words }
-{
-    unfor_column(
-        alloc,
-        column,
-        Widths::Boundaries(boundaries),
-        references,
-        work,
     )
 }

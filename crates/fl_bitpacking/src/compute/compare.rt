@@ -4,7 +4,7 @@ mod block_tests;
 mod packed_data;
 pub mod primitive;
 
-ghost use Rattle.std.specs.Prelude.{◌≡◌, ◌==◌, ◌+◌, ◌*◌, ◌/◌, ◌<◌, ◌≤◌, ◌^◌, ℕ, IfOk, IfSome, IsTrue, OnOk, Ok, false, length, map, min, not, option_map, pos, slice_index_or, slice_set, unwrap_or, if◌then◌else◌};
+ghost use Rattle.std.specs.Prelude.{◌≡◌, ◌==◌, ◌+◌, ◌*◌, ◌/◌, ◌<◌, ◌≤◌, ◌^◌, ℕ, IfOk, IfSome, OnOk, Ok, false, length, map, min, not, option_map, pos, slice_index_or, slice_set, unwrap_or, if◌then◌else◌};
 ghost use Rattle.std.specs.Option.{option_copied};
 ghost use Rattle.fastlanes.specs.Compared.{has_bit, is_bit_set};
 ghost use Rattle.fastlanes.specs.Layout.{unpacked_item, word_at};
@@ -16,11 +16,12 @@ ghost use Rattle.fl_column.specs.Columns.{column_of_bools};
 ghost use Rattle.fl_column.specs.Numbers.{numbers, numbers_by};
 ghost use Rattle.fl_column.specs.Queries.{tested};
 ghost use Rattle.fl_patches.specs.PatchMaps.{patched, patched_in};
-ghost use Rattle.fl_bitpacking.specs.Blocks.{are_blocks, block_item, blocks_of, boundary_blocks, global_blocks, item_of_blocks};
+ghost use Rattle.fl_bitpacking.specs.Blocks.{block_item, blocks_of, item_of_blocks};
 ghost use Rattle.fl_bitpacking.specs.Columns.{block_count, column_of_packed};
 ghost use Rattle.fl_bitpacking.specs.Compared.{AreBlockTests, IsPackedTest, answer_at, passes_in};
 ghost use Rattle.fl_bitpacking.specs.Decided.{is_decided, undecided_below, undecided_by_block};
-ghost use Rattle.fl_bitpacking.specs.Parts.{AreReadable, Fit, blocks_in, blocks_to_read, parts_of};
+ghost use Rattle.fl_bitpacking.specs.Parts.{AreReadable, Fit, blocks_in, parts_of};
+ghost use Rattle.fl_bitpacking.specs.ReadWidths.{AreWidthsOf};
 ghost use Rattle.fl_bitpacking.specs.Placed.{ArePlaced, value_beside};
 ghost use Rattle.fl_bitpacking.specs.RangeTests.{IsTestOf, answer_of, in_range, passes};
 ghost use Rattle.fl_bitpacking.specs.References.{AreBlockReferences, of_sum_if_some, plus_block_references};
@@ -458,7 +459,7 @@ fn with_patches(
 
 /// The answers of a test for the items of these parts, whose blocks have these widths, or for the sums of the items and the
 /// references of their blocks; nulls stay null.
-pub(crate) fn test_column(
+fn test_column(
     alloc: Global,
     column: &PackedColumn,
     widths: Widths,
@@ -469,7 +470,7 @@ pub(crate) fn test_column(
     requires test { IsTestOf column.now.ptype range }
     requires references { AreBlockReferences column.now.ptype (block_count (parts_of column.now)) (option_copied references) }
     requires fit { Fit (parts_of column.now) }
-    requires readable { AreReadable (bits_of_type column.now.ptype) (blocks_to_read column.now widths) }
+    requires widths { AreWidthsOf (parts_of column.now) widths }
     ensures column { Answers column_of_bools result (Ok (tested (passes range) (plus_block_references (option_copied references.entry) column.now.offset (column_of_packed (parts_of column.now) (blocks_of widths.entry))))) }
     ensures blocks { OnOk result (work.new.blocks ≡ min (work.old.blocks + undecided_by_block (parts_of column.now) (blocks_of widths.entry) (of_sum_if_some column.now.ptype (option_copied references.entry) (passes range))) u64.MAX) }
     ensures most { work.new.blocks ≤ work.old.blocks + undecided_by_block (parts_of column.now) (blocks_of widths.entry) (of_sum_if_some column.now.ptype (option_copied references.entry) (passes range)) }
@@ -487,53 +488,4 @@ pub(crate) fn test_column(
     let bits = with_patches(tests, stored, column.patches, column.offset);
     let validity = column.validity.try_clone(alloc)?;
     BoolArray::new(bits, validity)
-}
-
-/// The same of parts whose blocks all have one width. The width is at most the type's bits, and the blocks lie in the bytes.
-pub(crate) fn test_global(
-    alloc: Global,
-    column: &PackedColumn,
-    width: usize,
-    references: Option<&PrimitiveArray>,
-    range: RangeTest,
-    work: &mut Work,
-) -> Result<BoolArray, FastLanesError>
-    requires test { IsTestOf column.now.ptype range }
-    requires references { AreBlockReferences column.now.ptype (block_count (parts_of column.now)) (option_copied references) }
-    requires fit { Fit (parts_of column.now) }
-    requires width { width ≤ bits_of_type column.now.ptype }
-    requires room { 128 * width * block_count (parts_of column.now) ≤ length column.now.packed.now }
-    ensures column { Answers column_of_bools result (Ok (tested (passes range) (plus_block_references (option_copied references.entry) column.now.offset (column_of_packed (parts_of column.now) (global_blocks width))))) }
-    ensures blocks { OnOk result (work.new.blocks ≡ min (work.old.blocks + undecided_by_block (parts_of column.now) (global_blocks width) (of_sum_if_some column.now.ptype (option_copied references.entry) (passes range))) u64.MAX) }
-    ensures most { work.new.blocks ≤ work.old.blocks + undecided_by_block (parts_of column.now) (global_blocks width) (of_sum_if_some column.now.ptype (option_copied references.entry) (passes range)) }
-    ensures words { work.new.words ≡ work.old.words }
-{
-    let widths = Widths::Global(width);
-    test_column(alloc, column, widths, references, range, work)
-}
-
-/// The same of parts whose block `j` lies between the boundaries `j` and `j + 1`, in bytes counted from the first boundary.
-///
-/// There is one boundary more than there are blocks, and each two neighbouring ones enclose a block in the bytes, of at most the
-/// type's bits.
-pub(crate) fn test_blocked(
-    alloc: Global,
-    column: &PackedColumn,
-    boundaries: &PrimitiveArray,
-    references: Option<&PrimitiveArray>,
-    range: RangeTest,
-    work: &mut Work,
-) -> Result<BoolArray, FastLanesError>
-    requires test { IsTestOf column.now.ptype range }
-    requires references { AreBlockReferences column.now.ptype (block_count (parts_of column.now)) (option_copied references) }
-    requires fit { Fit (parts_of column.now) }
-    requires count { length boundaries.now.slots ≡ block_count (parts_of column.now) + 1 }
-    requires blocks { IsTrue (are_blocks (bits_of_type column.now.ptype) (length column.now.packed.now) (numbers boundaries.now)) }
-    ensures column { Answers column_of_bools result (Ok (tested (passes range) (plus_block_references (option_copied references.entry) column.now.offset (column_of_packed (parts_of column.now) (boundary_blocks (numbers boundaries.now)))))) }
-    ensures blocks { OnOk result (work.new.blocks ≡ min (work.old.blocks + undecided_by_block (parts_of column.now) (boundary_blocks (numbers boundaries.now)) (of_sum_if_some column.now.ptype (option_copied references.entry) (passes range))) u64.MAX) }
-    ensures most { work.new.blocks ≤ work.old.blocks + undecided_by_block (parts_of column.now) (boundary_blocks (numbers boundaries.now)) (of_sum_if_some column.now.ptype (option_copied references.entry) (passes range)) }
-    ensures words { work.new.words ≡ work.old.words }
-{
-    let widths = Widths::Boundaries(boundaries);
-    test_column(alloc, column, widths, references, range, work)
 }

@@ -4,20 +4,20 @@
 pub(crate) mod kept_items;
 mod patched_part;
 
-ghost use Rattle.std.specs.Prelude.{◌≡◌, ◌+◌, ◌-◌, ◌*◌, ◌/◌, ◌<◌, ◌≤◌, ◌^◌, ℕ, IfOk, IfSome, IsTrue, Ok, OnOk, drop, false, length, map, min, slice_index_or, true, unwrap_or};
+ghost use Rattle.std.specs.Prelude.{◌≡◌, ◌+◌, ◌-◌, ◌*◌, ◌/◌, ◌<◌, ◌≤◌, ◌^◌, ℕ, IfOk, IfSome, Ok, OnOk, drop, false, length, map, min, slice_index_or, true, unwrap_or};
 ghost use Rattle.std.specs.Option.{option_copied};
 ghost use Rattle.fl_types.specs.declared.mask.Mask.TheVariants.{Values};
 ghost use Rattle.fl_types.specs.Bits.{bit_of_word};
 ghost use Rattle.fl_types.specs.Integers.{bits_of_type};
 ghost use Rattle.fl_types.specs.Refusals.{Answers};
-ghost use Rattle.fl_column.specs.Columns.{column_of_constant, column_of_primitive, numbers_of};
-ghost use Rattle.fl_column.specs.Numbers.{numbers};
+ghost use Rattle.fl_column.specs.Columns.{column_of_primitive};
 ghost use Rattle.fl_column.specs.Operations.{filter_of, kept};
 ghost use Rattle.fl_patches.specs.PatchMaps.{patched_in};
-ghost use Rattle.fl_bitpacking.specs.Blocks.{are_blocks, block_item, blocks_of, boundary_blocks, global_blocks, item_of_blocks, value_at};
+ghost use Rattle.fl_bitpacking.specs.Blocks.{block_item, blocks_of, item_of_blocks, value_at};
 ghost use Rattle.fl_bitpacking.specs.Columns.{block_count, column_of_packed};
 ghost use Rattle.fl_bitpacking.specs.Filtered.{AreKept, count_before, items_before, slots_of};
 ghost use Rattle.fl_bitpacking.specs.Parts.{AreReadable, Fit, blocks_in, blocks_to_read, parts_of};
+ghost use Rattle.fl_bitpacking.specs.ReadWidths.{AreWidthsOf};
 ghost use Rattle.fl_bitpacking.specs.Taken.{HasStarts};
 
 use crate::bit_packed::BitPacked;
@@ -30,9 +30,7 @@ use crate::compute::take::runs::{block_start, unpack_threshold};
 use crate::packed_data::PackedData;
 use crate::patching::write_at;
 use fastlanes::{FL_CHUNK_SIZE, Work};
-use fl_column::{
-    BitList, ConstantArray, FastLanesError, PhysicalPType, PrimitiveArray, filter_validity,
-};
+use fl_column::{BitList, FastLanesError, PhysicalPType, PrimitiveArray, filter_validity};
 use fl_patches::Widths;
 use fl_types::{NativePType, match_each_integer_ptype};
 use num_traits::WrappingAdd;
@@ -255,8 +253,9 @@ fn filter_typed<T: BitPacked + PhysicalPType + WrappingAdd>(
     Ok(PrimitiveArray::new_unchecked(slots, validity))
 }
 
-/// The items whose booleans are true.
-fn filter_named(
+/// The items of these parts whose booleans are true, where the blocks have these widths.
+#[tactic(auto, using(crate::proofs::ReadWidths::readable, crate::proofs::ReadWidths::starts))]
+fn filter_column(
     alloc: Global,
     column: &PackedColumn,
     widths: Widths,
@@ -264,11 +263,10 @@ fn filter_named(
     work: &mut Work,
 ) -> Result<PrimitiveArray, FastLanesError>
     requires fit { Fit (parts_of column.now) }
-    requires readable { AreReadable (bits_of_type column.now.ptype) (blocks_to_read column.now widths) }
-    requires starts { HasStarts widths }
+    requires widths { AreWidthsOf (parts_of column.now) widths }
     requires long { length bits.now ≡ column.now.len }
     ensures column { Answers column_of_primitive result (Ok (filter_of (Values bits.now) (column_of_packed (parts_of column.now) (blocks_of widths.entry)))) }
-    ensures blocks { work.new.blocks ≤ work.old.blocks + blocks_in (blocks_to_read column.now widths.entry) }
+    ensures blocks { work.new.blocks ≤ work.old.blocks + block_count (parts_of column.now) }
 {
     let filtering = Filtering {
         column: *column,
@@ -278,93 +276,21 @@ fn filter_named(
     match_each_integer_ptype!(column.ptype, filter_typed(alloc, filtering, work))
 }
 
-/// The items whose booleans are true, where all blocks have one width.
-fn filter_global(
-    alloc: Global,
-    column: &PackedColumn,
-    width: usize,
-    bits: &BitList,
-    work: &mut Work,
-) -> Result<PrimitiveArray, FastLanesError>
-    requires fit { Fit (parts_of column.now) }
-    requires width { width ≤ bits_of_type column.now.ptype }
-    requires room { 128 * width * block_count (parts_of column.now) ≤ length column.now.packed.now }
-    requires long { length bits.now ≡ column.now.len }
-    ensures column { Answers column_of_primitive result (Ok (filter_of (Values bits.now) (column_of_packed (parts_of column.now) (global_blocks width)))) }
-    ensures blocks { work.new.blocks ≤ work.old.blocks + block_count (parts_of column.now) }
-{
-    filter_named(alloc, column, Widths::Global(width), bits, work)
-}
-
-/// The items whose booleans are true, where the blocks lie between the boundaries.
-fn filter_blocked(
-    alloc: Global,
-    column: &PackedColumn,
-    boundaries: &PrimitiveArray,
-    bits: &BitList,
-    work: &mut Work,
-) -> Result<PrimitiveArray, FastLanesError>
-    requires fit { Fit (parts_of column.now) }
-    requires count { length boundaries.now.slots ≡ block_count (parts_of column.now) + 1 }
-    requires blocks { IsTrue (are_blocks (bits_of_type column.now.ptype) (length column.now.packed.now) (numbers boundaries.now)) }
-    requires long { length bits.now ≡ column.now.len }
-    ensures column { Answers column_of_primitive result (Ok (filter_of (Values bits.now) (column_of_packed (parts_of column.now) (boundary_blocks (numbers boundaries.now))))) }
-    ensures blocks { work.new.blocks ≤ work.old.blocks + block_count (parts_of column.now) }
-{
-    let widths = Widths::Boundaries(boundaries);
-    filter_named(alloc, column, widths, bits, work)
-}
-
 impl PackedData {
-    /// The items whose booleans are true, where all blocks have one width. A block is unpacked at most once, and only
+    /// The items whose booleans are true, whose blocks have these widths. A block is unpacked at most once, and only
     /// for more than sixteen of its items.
-    pub fn filter_global(
+    pub fn filter(
         &self,
         alloc: Global,
-        width: usize,
+        widths: Widths,
         bits: &BitList,
         work: &mut Work,
     ) -> Result<PrimitiveArray, FastLanesError>
-        requires width { width ≤ bits_of_type self.now.ptype }
-        requires room { 128 * width * block_count self.now ≤ length self.now.packed }
+        requires widths { AreWidthsOf self.now widths }
         requires long { length bits.now ≡ self.now.len }
-        ensures column { Answers column_of_primitive result (Ok (filter_of (Values bits.now) (column_of_packed self.now (global_blocks width)))) }
+        ensures column { Answers column_of_primitive result (Ok (filter_of (Values bits.now) (column_of_packed self.now (blocks_of widths.entry)))) }
         ensures blocks { work.new.blocks ≤ work.old.blocks + block_count self.now }
     {
-        filter_global(alloc, &self.column(), width, bits, work)
-    }
-
-    /// The items whose booleans are true, where the blocks lie between the boundaries. A block is unpacked at most once,
-    /// and only for more than sixteen of its items.
-    pub fn filter_blocked(
-        &self,
-        alloc: Global,
-        boundaries: &PrimitiveArray,
-        bits: &BitList,
-        work: &mut Work,
-    ) -> Result<PrimitiveArray, FastLanesError>
-        requires count { length boundaries.now.slots ≡ block_count self.now + 1 }
-        requires blocks { IsTrue (are_blocks (bits_of_type self.now.ptype) (length self.now.packed) (numbers boundaries.now)) }
-        requires long { length bits.now ≡ self.now.len }
-        ensures column { Answers column_of_primitive result (Ok (filter_of (Values bits.now) (column_of_packed self.now (boundary_blocks (numbers boundaries.now))))) }
-        ensures blocks { work.new.blocks ≤ work.old.blocks + block_count self.now }
-    {
-        filter_blocked(alloc, &self.column(), boundaries, bits, work)
-    }
-
-    /// The items whose booleans are true, where the blocks lie between boundaries that are all equal: no block has a
-    /// byte.
-    pub fn filter_without_bytes(
-        &self,
-        alloc: Global,
-        boundaries: &ConstantArray,
-        bits: &BitList,
-        work: &mut Work,
-    ) -> Result<PrimitiveArray, FastLanesError>
-        requires long { length bits.now ≡ self.now.len }
-        ensures column { Answers column_of_primitive result (Ok (filter_of (Values bits.now) (column_of_packed self.now (boundary_blocks (numbers_of (column_of_constant boundaries.now)))))) }
-        ensures blocks { work.new.blocks ≤ work.old.blocks + block_count self.now }
-    {
-        filter_named(alloc, &self.column(), Widths::Global(0), bits, work)
+        filter_column(alloc, &self.column(), widths, bits, work)
     }
 }

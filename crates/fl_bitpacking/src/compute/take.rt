@@ -4,30 +4,30 @@ mod patch_values;
 mod positions;
 pub(crate) mod runs;
 
-ghost use Rattle.std.specs.Prelude.{◌≡◌, ◌||◌, ◌+◌, ◌*◌, ◌<◌, ◌≤◌, ℕ, false, IfOk, IsTrue, None, Ok, OnOk, drop, length, not, option_map, slice_index, slice_index_or};
+ghost use Rattle.std.specs.Prelude.{◌≡◌, ◌||◌, ◌+◌, ◌*◌, ◌<◌, ◌≤◌, ℕ, IfOk, IsTrue, None, Ok, drop, length, not, option_map, slice_index, slice_index_or, true};
 ghost use Rattle.fl_types.specs.declared.dtype.DType.TheVariants.{Primitive};
 ghost use Rattle.fl_types.specs.declared.dtype.Nullability.TheVariants.{Nullable};
 ghost use Rattle.fl_types.specs.Integers.{bits_of_type};
 ghost use Rattle.fl_types.specs.Refusals.{Answers};
 ghost use Rattle.fl_types.specs.Types.{can_be_null, either_nullable};
 ghost use Rattle.fl_types.specs.Validities.{nullability_of};
-ghost use Rattle.fl_column.specs.Columns.{column_of_constant, column_of_primitive, numbers_of};
-ghost use Rattle.fl_column.specs.Numbers.{numbers};
+ghost use Rattle.fl_column.specs.Columns.{column_of_primitive};
 ghost use Rattle.fl_column.specs.Operations.{item_named, take_column};
-ghost use Rattle.fl_bitpacking.specs.Blocks.{are_blocks, blocks_of, boundary_blocks, global_blocks, value_at};
-ghost use Rattle.fl_bitpacking.specs.Columns.{block_count, column_of_packed, packed_item};
+ghost use Rattle.fl_bitpacking.specs.Blocks.{blocks_of, value_at};
+ghost use Rattle.fl_bitpacking.specs.Columns.{column_of_packed, packed_item};
 ghost use Rattle.fl_bitpacking.specs.Parts.{AreReadable, Fit, blocks_to_read, parts_of};
+ghost use Rattle.fl_bitpacking.specs.ReadWidths.{AreWidthsOf, are_read_by_runs};
 ghost use Rattle.fl_bitpacking.specs.Taken.{AreBelow, ArePositions, AreSlots, HasStarts, items_named, items_taken, named_positions};
 
 use crate::bit_packed::BitPacked;
-use crate::bitpack_decompress::{PackedColumn, unpack_values, with_values};
+use crate::bitpack_decompress::{PackedColumn, unpack_values, with_values, zeros};
 use crate::blocks::PackedBlocks;
 use crate::compute::take::patch_values::with_patches_at;
 use crate::compute::take::positions::named_positions;
 use crate::compute::take::runs::take_stored;
 use crate::packed_data::PackedData;
 use fastlanes::Work;
-use fl_column::{ConstantArray, PhysicalPType, PrimitiveArray, PrimitiveBuilder, is_full};
+use fl_column::{PhysicalPType, PrimitiveArray, PrimitiveBuilder, is_full};
 use fl_patches::Widths;
 use fl_types::{FastLanesError, NativePType, Nullability, Validity, match_each_integer_ptype};
 use num_traits::WrappingAdd;
@@ -115,11 +115,22 @@ impl<'a> Taking<'a> {
         gather(alloc, &items, self.positions)
     }
 
-    /// What is stored at the positions.
+    /// What is stored at the positions, where all blocks have width 0: no word is read.
+    fn slots_of_zeros<T: NativePType>(self, alloc: Global) -> Result<Vec<T>, AllocError>
+        requires typed { self.column.ptype ≡ T.PTYPE }
+        requires fit { Fit (parts_of self.column) }
+        requires zero { (j : ℕ) → (blocks_of self.widths).width j ≡ 0 }
+        ensures { IfOk result (λ v. AreSlots T.value self.entry v.items) }
+    {
+        let stored = zeros(alloc, self.positions.len())?;
+        Ok(with_patches_at(stored, self.column.patches, self.positions))
+    }
+
+    /// What is stored at the positions. Where all blocks have one width, more than an eighth of the items are taken out
+    /// of all, which are unpacked first.
     fn taken_slots<T: BitPacked + PhysicalPType + WrappingAdd>(
         self,
         alloc: Global,
-        whole: bool,
         work: &mut Work,
     ) -> Result<Vec<T>, AllocError>
         requires typed { self.column.ptype ≡ T.PTYPE }
@@ -128,10 +139,16 @@ impl<'a> Taking<'a> {
         requires starts { HasStarts self.widths }
         requires below { AreBelow self.column.len self.positions.now }
         ensures slots { IfOk result (λ v. AreSlots T.value self.entry v.items) }
-        ensures blocks { whole ≡ false → 17 * work.new.blocks ≤ 17 * work.old.blocks + length self.entry.positions.now }
-        ensures words { whole ≡ false → work.new.words ≤ work.old.words + 2 * length self.entry.positions.now }
+        ensures blocks { are_read_by_runs self.entry.widths ≡ true → 17 * work.new.blocks ≤ 17 * work.old.blocks + length self.entry.positions.now }
+        ensures words { are_read_by_runs self.entry.widths ≡ true → work.new.words ≤ work.old.words + 2 * length self.entry.positions.now }
     {
-        if whole {
+        let Widths::Global(width) = self.widths else {
+            return self.slots_by_runs(alloc, work);
+        };
+        if width == 0 {
+            return self.slots_of_zeros(alloc);
+        }
+        if self.positions.len() > self.column.len / 8 {
             self.slots_of_all(alloc, work)
         } else {
             self.slots_by_runs(alloc, work)
@@ -282,7 +299,6 @@ fn take_typed<T: BitPacked + PhysicalPType + WrappingAdd>(
     alloc: Global,
     taking: Taking,
     indices: &PrimitiveArray,
-    whole: bool,
     work: &mut Work,
 ) -> Result<PrimitiveArray, FastLanesError>
     requires typed { taking.column.ptype ≡ T.PTYPE }
@@ -291,10 +307,10 @@ fn take_typed<T: BitPacked + PhysicalPType + WrappingAdd>(
     requires starts { HasStarts taking.widths }
     requires positions { ArePositions taking.column.len (column_of_primitive indices.now).items taking.positions.now }
     ensures column { Answers column_of_primitive result (take_column (column_of_primitive indices.now) (column_of_packed (parts_of taking.entry.column) (blocks_of taking.entry.widths))) }
-    ensures blocks { whole ≡ false → 17 * work.new.blocks ≤ 17 * work.old.blocks + length (column_of_primitive indices.now).items }
-    ensures words { whole ≡ false → work.new.words ≤ work.old.words + 2 * length (column_of_primitive indices.now).items }
+    ensures blocks { are_read_by_runs taking.entry.widths ≡ true → 17 * work.new.blocks ≤ 17 * work.old.blocks + length (column_of_primitive indices.now).items }
+    ensures words { are_read_by_runs taking.entry.widths ≡ true → work.new.words ≤ work.old.words + 2 * length (column_of_primitive indices.now).items }
 {
-    let slots = taking.taken_slots::<T>(alloc, whole, work)?;
+    let slots = taking.taken_slots::<T>(alloc, work)?;
     taking.named_items(alloc, slots, indices)
 }
 
@@ -303,7 +319,6 @@ fn take_at(
     alloc: Global,
     taking: Taking,
     indices: &PrimitiveArray,
-    whole: bool,
     work: &mut Work,
 ) -> Result<PrimitiveArray, FastLanesError>
     requires fit { Fit (parts_of taking.column) }
@@ -311,157 +326,59 @@ fn take_at(
     requires starts { HasStarts taking.widths }
     requires positions { ArePositions taking.column.len (column_of_primitive indices.now).items taking.positions.now }
     ensures column { Answers column_of_primitive result (take_column (column_of_primitive indices.now) (column_of_packed (parts_of taking.entry.column) (blocks_of taking.entry.widths))) }
-    ensures blocks { whole ≡ false → 17 * work.new.blocks ≤ 17 * work.old.blocks + length (column_of_primitive indices.now).items }
-    ensures words { whole ≡ false → work.new.words ≤ work.old.words + 2 * length (column_of_primitive indices.now).items }
+    ensures blocks { are_read_by_runs taking.entry.widths ≡ true → 17 * work.new.blocks ≤ 17 * work.old.blocks + length (column_of_primitive indices.now).items }
+    ensures words { are_read_by_runs taking.entry.widths ≡ true → work.new.words ≤ work.old.words + 2 * length (column_of_primitive indices.now).items }
 {
     match_each_integer_ptype!(
         taking.column.ptype,
-        take_typed(alloc, taking, indices, whole, work)
+        take_typed(alloc, taking, indices, work)
     )
 }
 
-/// The items that indices name, null where an index is null. Where `is_global`, more than an eighth of the items
-/// are taken out of all, which are unpacked first.
-fn take_named(
+/// The items of these parts that indices name, null where an index is null, where the blocks have these widths.
+#[tactic(auto, using(crate::proofs::ReadWidths::readable, crate::proofs::ReadWidths::starts))]
+fn take_column(
     alloc: Global,
     column: &PackedColumn,
     widths: Widths,
     indices: &PrimitiveArray,
-    is_global: bool,
     work: &mut Work,
 ) -> Result<PrimitiveArray, FastLanesError>
     requires fit { Fit (parts_of column.now) }
-    requires readable { AreReadable (bits_of_type column.now.ptype) (blocks_to_read column.now widths) }
-    requires starts { HasStarts widths }
+    requires widths { AreWidthsOf (parts_of column.now) widths }
     ensures column { Answers column_of_primitive result (take_column (column_of_primitive indices.now) (column_of_packed (parts_of column.now) (blocks_of widths.entry))) }
-    ensures blocks { is_global ≡ false → 17 * work.new.blocks ≤ 17 * work.old.blocks + length (column_of_primitive indices.now).items }
-    ensures words { is_global ≡ false → work.new.words ≤ work.old.words + 2 * length (column_of_primitive indices.now).items }
+    ensures blocks { are_read_by_runs widths.entry ≡ true → 17 * work.new.blocks ≤ 17 * work.old.blocks + length (column_of_primitive indices.now).items }
+    ensures words { are_read_by_runs widths.entry ≡ true → work.new.words ≤ work.old.words + 2 * length (column_of_primitive indices.now).items }
 {
     let positions = named_positions(alloc, indices, column.len)?;
-    let whole = is_global && positions.len() > column.len / 8;
     let taking = Taking {
         column: *column,
         widths,
         positions: &positions,
     };
-    take_at(alloc, taking, indices, whole, work)
-}
-
-/// The items that indices name of a column whose blocks all have one width, null where an index is null. The
-/// integer under a null index is not read. A take of more than an eighth of the items unpacks all
-/// blocks; any other unpacks those of which it takes many items in a row.
-///
-/// The width is at most the type's bits, and the blocks lie in the bytes.
-///
-/// # Errors
-/// `IndexOutOfBounds` where an index is negative or not below the length.
-pub fn take_global(
-    alloc: Global,
-    column: &PackedColumn,
-    width: usize,
-    indices: &PrimitiveArray,
-    work: &mut Work,
-) -> Result<PrimitiveArray, FastLanesError>
-    requires fit { Fit (parts_of column.now) }
-    requires width { width ≤ bits_of_type column.now.ptype }
-    requires room { 128 * width * block_count (parts_of column.now) ≤ length column.now.packed.now }
-    ensures { Answers column_of_primitive result (take_column (column_of_primitive indices.now) (column_of_packed (parts_of column.now) (global_blocks width))) }
-{
-    take_named(alloc, column, Widths::Global(width), indices, true, work)
-}
-
-/// The items that indices name of a column whose block `j` lies between the boundaries `j` and `j + 1`, in bytes
-/// counted from the first boundary, null where an index is null. The integer under a null index is never looked
-/// at. A block is unpacked for more than sixteen indices in a row at least; for each of the others at most two
-/// words are read.
-///
-/// There is one boundary more than there are blocks, and each two neighbouring ones enclose a block in
-/// the bytes, of at most the type's bits.
-///
-/// # Errors
-/// `IndexOutOfBounds` where an index is negative or not below the length.
-pub fn take_blocked(
-    alloc: Global,
-    column: &PackedColumn,
-    boundaries: &PrimitiveArray,
-    indices: &PrimitiveArray,
-    work: &mut Work,
-) -> Result<PrimitiveArray, FastLanesError>
-    requires fit { Fit (parts_of column.now) }
-    requires count { length boundaries.now.slots ≡ block_count (parts_of column.now) + 1 }
-    requires blocks { IsTrue (are_blocks (bits_of_type column.now.ptype) (length column.now.packed.now) (numbers boundaries.now)) }
-    ensures column { Answers column_of_primitive result (take_column (column_of_primitive indices.now) (column_of_packed (parts_of column.now) (boundary_blocks (numbers boundaries.now)))) }
-    ensures blocks { 17 * work.new.blocks ≤ 17 * work.old.blocks + length (column_of_primitive indices.now).items }
-    ensures words { work.new.words ≤ work.old.words + 2 * length (column_of_primitive indices.now).items }
-{
-    take_named(
-        alloc,
-        column,
-        Widths::Boundaries(boundaries),
-        indices,
-        false,
-        work,
-    )
+    take_at(alloc, taking, indices, work)
 }
 
 impl PackedData {
-    /// The items that indices name, null where an index is null, where all blocks have one width. The integer
-    /// under a null index is not read.
+    /// The items that indices name, null where an index is null, whose blocks have these widths. The integer under a null
+    /// index is never looked at. A take of more than an eighth of the items of blocks of one width unpacks all blocks; any
+    /// other unpacks a block for more than sixteen indices in a row at least, and reads at most two words for each of the
+    /// others.
     ///
     /// # Errors
     /// `IndexOutOfBounds` where an index is negative or not below the length.
-    pub fn take_global(
+    pub fn take(
         &self,
         alloc: Global,
-        width: usize,
+        widths: Widths,
         indices: &PrimitiveArray,
         work: &mut Work,
     ) -> Result<PrimitiveArray, FastLanesError>
-        requires width { width ≤ bits_of_type self.now.ptype }
-        requires room { 128 * width * block_count self.now ≤ length self.now.packed }
-        ensures { Answers column_of_primitive result (take_column (column_of_primitive indices.now) (column_of_packed self.now (global_blocks width))) }
+        requires { AreWidthsOf self.now widths }
+        ensures column { Answers column_of_primitive result (take_column (column_of_primitive indices.now) (column_of_packed self.now (blocks_of widths.entry))) }
+        ensures blocks { are_read_by_runs widths.entry ≡ true → 17 * work.new.blocks ≤ 17 * work.old.blocks + length (column_of_primitive indices.now).items }
+        ensures words { are_read_by_runs widths.entry ≡ true → work.new.words ≤ work.old.words + 2 * length (column_of_primitive indices.now).items }
     {
-        take_global(alloc, &self.column(), width, indices, work)
-    }
-
-    /// The items that indices name, null where an index is null, where the blocks lie between the boundaries. The
-    /// integer under a null index is not read.
-    ///
-    /// # Errors
-    /// `IndexOutOfBounds` where an index is negative or not below the length.
-    pub fn take_blocked(
-        &self,
-        alloc: Global,
-        boundaries: &PrimitiveArray,
-        indices: &PrimitiveArray,
-        work: &mut Work,
-    ) -> Result<PrimitiveArray, FastLanesError>
-        requires count { length boundaries.now.slots ≡ block_count self.now + 1 }
-        requires blocks { IsTrue (are_blocks (bits_of_type self.now.ptype) (length self.now.packed) (numbers boundaries.now)) }
-        ensures column { Answers column_of_primitive result (take_column (column_of_primitive indices.now) (column_of_packed self.now (boundary_blocks (numbers boundaries.now)))) }
-        ensures blocks { 17 * work.new.blocks ≤ 17 * work.old.blocks + length (column_of_primitive indices.now).items }
-        ensures words { work.new.words ≤ work.old.words + 2 * length (column_of_primitive indices.now).items }
-    {
-        take_blocked(alloc, &self.column(), boundaries, indices, work)
-    }
-
-    /// The items that indices name, null where an index is null, where the blocks lie between boundaries that are all
-    /// equal: no block has a byte. The integer under a null index is not read.
-    ///
-    /// # Errors
-    /// `IndexOutOfBounds` where an index is negative or not below the length.
-    pub fn take_without_bytes(
-        &self,
-        alloc: Global,
-        boundaries: &ConstantArray,
-        indices: &PrimitiveArray,
-        work: &mut Work,
-    ) -> Result<PrimitiveArray, FastLanesError>
-        ensures column { Answers column_of_primitive result (take_column (column_of_primitive indices.now) (column_of_packed self.now (boundary_blocks (numbers_of (column_of_constant boundaries.now))))) }
-        ensures blocks { 17 * work.new.blocks ≤ 17 * work.old.blocks + length (column_of_primitive indices.now).items }
-        ensures words { work.new.words ≤ work.old.words + 2 * length (column_of_primitive indices.now).items }
-    {
-        let widths = Widths::Global(0);
-        take_named(alloc, &self.column(), widths, indices, false, work)
+        take_column(alloc, &self.column(), widths, indices, work)
     }
 }

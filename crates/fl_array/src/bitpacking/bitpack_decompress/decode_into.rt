@@ -7,17 +7,16 @@ ghost use Rattle.fl_column.specs.Columns.{column_of_primitive};
 ghost use Rattle.fl_bitpacking.specs.Columns.{block_count};
 ghost use Rattle.fl_bitpacking.specs.Parts.{written};
 ghost use Rattle.fl_bitpacking.specs.References.{AreReferencesIfSome, plus_references_if_some};
-ghost use Rattle.fl_array.specs.BitPackedArrays.{BlockBoundaries, GlobalWidth, tree_of_bitpacked};
+ghost use Rattle.fl_array.specs.BitPackedArrays.{tree_of_bitpacked};
 ghost use Rattle.fl_array.specs.Reads.{AreItemsOf};
 ghost use Rattle.fl_array.specs.Trees.{column};
 
-use crate::array::ArrayRef;
-use crate::bitpacking::{BitPackedArray, BitWidthsView};
+use crate::bitpacking::BitPackedArray;
 use fastlanes::Work;
 use fl_bitpacking::bitpack_decompress::unfor::References;
 use fl_bitpacking::laws::parts_are_consistent;
 use fl_bitpacking::unpack_iter::BitPacked;
-use fl_column::{FastLanesError, NativePType, PrimitiveArray};
+use fl_column::{FastLanesError, NativePType};
 use num_traits::WrappingAdd;
 use std::alloc::Global;
 
@@ -29,54 +28,6 @@ impl BitPackedArray {
         ensures { self.now.parts.ptype ≡ T.PTYPE }
     {
         let _ = self.packed_data();
-    }
-
-    /// Writes the items plus the references, if there are any, where all blocks have this width.
-    fn decode_global_into<T: BitPacked + WrappingAdd>(
-        &self,
-        width: u8,
-        references: Option<References>,
-        values: &mut [T],
-        work: &mut Work,
-    )
-        requires same { GlobalWidth width ≡ self.now.widths }
-        requires typed { self.now.parts.ptype ≡ T.PTYPE }
-        requires references { AreReferencesIfSome self.now.parts.ptype (block_count self.now.parts) references }
-        requires long { length values.old ≡ length (column (tree_of_bitpacked self.now)).items }
-        ensures items { AreItemsOf (map T.value values.new) (plus_references_if_some references.entry self.now.parts.offset (column (tree_of_bitpacked self.now))) }
-        ensures blocks { work.new.blocks ≡ min (work.old.blocks + block_count self.now.parts) u64.MAX }
-        ensures words { work.new.words ≡ work.old.words }
-    {
-        self.prove_well_formed();
-        let _len = self.len();
-        let data = self.packed_data();
-        parts_are_consistent(data);
-        data.decode_global_into(usize::from(width), references, values, work);
-    }
-
-    /// The same where the blocks lie between these boundaries, which `plain` has decoded.
-    fn decode_blocked_into<T: BitPacked + WrappingAdd>(
-        &self,
-        boundaries: &ArrayRef,
-        plain: &PrimitiveArray,
-        references: Option<References>,
-        values: &mut [T],
-        work: &mut Work,
-    )
-        requires same { BlockBoundaries boundaries.now ≡ self.now.widths }
-        requires plain { column_of_primitive plain.now ≡ column boundaries.now }
-        requires typed { self.now.parts.ptype ≡ T.PTYPE }
-        requires references { AreReferencesIfSome self.now.parts.ptype (block_count self.now.parts) references }
-        requires long { length values.old ≡ length (column (tree_of_bitpacked self.now)).items }
-        ensures items { AreItemsOf (map T.value values.new) (plus_references_if_some references.entry self.now.parts.offset (column (tree_of_bitpacked self.now))) }
-        ensures blocks { work.new.blocks ≡ min (work.old.blocks + block_count self.now.parts) u64.MAX }
-        ensures words { work.new.words ≡ work.old.words }
-    {
-        self.prove_well_formed();
-        let (_len, _count) = (self.len(), plain.len());
-        let data = self.packed_data();
-        parts_are_consistent(data);
-        data.decode_blocked_into(plain, references, values, work);
     }
 
     /// Writes the items plus the references, if there are any: one for all items, or one for those of each block.
@@ -98,17 +49,11 @@ impl BitPackedArray {
         ensures words { work.new.words ≡ work.old.words }
     {
         self.prove_typed::<T>();
-        match self.bit_widths() {
-            BitWidthsView::Global(width) => {
-                self.decode_global_into(width, references, values, work);
-                Ok(())
-            }
-            BitWidthsView::Blocked(boundaries) => {
-                self.prove_boundaries_are_integers(boundaries);
-                let plain = boundaries.to_primitive(alloc)?;
-                self.decode_blocked_into(boundaries, &plain, references, values, work);
-                Ok(())
-            }
-        }
+        let _len = self.len();
+        let widths = self.widths(alloc)?;
+        let data = self.packed_data();
+        parts_are_consistent(data);
+        data.decode_into(widths.view(), references, values, work);
+        Ok(())
     }
 }

@@ -4,19 +4,18 @@ ghost use Rattle.std.specs.Prelude.{◌≡◌, ◌+◌, ◌≤◌, IfOk, Ok, OnO
 ghost use Rattle.std.specs.Option.{option_copied};
 ghost use Rattle.fl_types.specs.Refusals.{Answers};
 ghost use Rattle.fl_types.specs.Values.{integer_of};
-ghost use Rattle.fl_column.specs.Columns.{column_of_bools, column_of_primitive};
+ghost use Rattle.fl_column.specs.Columns.{column_of_bools};
 ghost use Rattle.fl_column.specs.Queries.{holds, is_between, tested};
 ghost use Rattle.fl_codec.specs.FoRColumns.{chunked_for};
 ghost use Rattle.fl_bitpacking.specs.Columns.{block_count};
 ghost use Rattle.fl_bitpacking.specs.Decided.{undecided_by_block};
 ghost use Rattle.fl_bitpacking.specs.RangeTests.{IsTestOf, passes};
 ghost use Rattle.fl_bitpacking.specs.References.{AreBlockReferences, of_sum_if_some, plus_block_references};
-ghost use Rattle.fl_array.specs.BitPackedArrays.{BlockBoundaries, GlobalWidth, blocks_of_widths, tree_of_bitpacked};
+ghost use Rattle.fl_array.specs.BitPackedArrays.{blocks_of_widths, tree_of_bitpacked};
 ghost use Rattle.fl_array.specs.Trees.{column};
 ghost use Rattle.fl_array.specs.UnpackedBlocks.{IsComparisonOf, IsComparisonOfSums};
 
-use crate::array::ArrayRef;
-use crate::bitpacking::{BitPackedArray, BitWidthsView};
+use crate::bitpacking::BitPackedArray;
 use fastlanes::Work;
 use fl_bitpacking::RangeTest;
 use fl_bitpacking::laws::parts_are_consistent;
@@ -26,52 +25,6 @@ use fl_column::{
 use std::alloc::Global;
 
 impl BitPackedArray {
-    /// The answers of a test, where all blocks have this width.
-    fn test_global(
-        &self,
-        alloc: Global,
-        width: u8,
-        references: Option<&PrimitiveArray>,
-        range: RangeTest,
-        work: &mut Work,
-    ) -> Result<BoolArray, FastLanesError>
-        requires test { IsTestOf self.now.parts.ptype range }
-        requires references { AreBlockReferences self.now.parts.ptype (block_count self.now.parts) (option_copied references) }
-        requires widths { GlobalWidth width ≡ self.now.widths }
-        ensures column { Answers column_of_bools result (Ok (tested (passes range) (plus_block_references (option_copied references.entry) self.now.parts.offset (column (tree_of_bitpacked self.now))))) }
-        ensures blocks { OnOk result (work.new.blocks ≡ min (work.old.blocks + undecided_by_block self.now.parts (blocks_of_widths self.now.widths) (of_sum_if_some self.now.parts.ptype (option_copied references.entry) (passes range))) u64.MAX) }
-        ensures words { work.new.words ≡ work.old.words }
-    {
-        self.prove_well_formed();
-        let width = usize::from(width);
-        self.packed_data()
-            .test_global(alloc, width, references, range, work)
-    }
-
-    /// The answers of a test, where the blocks lie between these boundaries, which `plain` has decoded.
-    fn test_blocked(
-        &self,
-        alloc: Global,
-        boundaries: &ArrayRef,
-        plain: &PrimitiveArray,
-        references: Option<&PrimitiveArray>,
-        range: RangeTest,
-        work: &mut Work,
-    ) -> Result<BoolArray, FastLanesError>
-        requires test { IsTestOf self.now.parts.ptype range }
-        requires references { AreBlockReferences self.now.parts.ptype (block_count self.now.parts) (option_copied references) }
-        requires same { BlockBoundaries boundaries.now ≡ self.now.widths }
-        requires plain { column_of_primitive plain.now ≡ column boundaries.now }
-        ensures column { Answers column_of_bools result (Ok (tested (passes range) (plus_block_references (option_copied references.entry) self.now.parts.offset (column (tree_of_bitpacked self.now))))) }
-        ensures blocks { OnOk result (work.new.blocks ≡ min (work.old.blocks + undecided_by_block self.now.parts (blocks_of_widths self.now.widths) (of_sum_if_some self.now.parts.ptype (option_copied references.entry) (passes range))) u64.MAX) }
-        ensures words { work.new.words ≡ work.old.words }
-    {
-        self.prove_well_formed();
-        let _len = plain.len();
-        self.packed_data()
-            .test_blocked(alloc, plain, references, range, work)
-    }
-
     /// The answers of a test for the items or, if there are references, for the sums of the items and the references of their
     /// blocks; nulls stay null.
     fn test(
@@ -87,14 +40,9 @@ impl BitPackedArray {
         ensures blocks { OnOk result (work.new.blocks ≡ min (work.old.blocks + undecided_by_block self.now.parts (blocks_of_widths self.now.widths) (of_sum_if_some self.now.parts.ptype (option_copied references.entry) (passes range))) u64.MAX) }
         ensures words { work.new.words ≡ work.old.words }
     {
-        match self.bit_widths() {
-            BitWidthsView::Global(width) => self.test_global(alloc, width, references, range, work),
-            BitWidthsView::Blocked(boundaries) => {
-                self.prove_boundaries_are_integers(boundaries);
-                let plain = boundaries.to_primitive(alloc)?;
-                self.test_blocked(alloc, boundaries, &plain, references, range, work)
-            }
-        }
+        let widths = self.widths(alloc)?;
+        self.packed_data()
+            .test(alloc, widths.view(), references, range, work)
     }
 
     /// The answers of a test for the items, and what was unpacked of the packed bytes for it; nulls stay null. An array of one

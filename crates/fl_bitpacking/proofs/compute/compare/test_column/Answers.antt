@@ -16,7 +16,11 @@ use Rattle.fl_bitpacking.specs.References.{of_sum_if_some}
 use Rattle.fl_bitpacking.specs.Compared.{passes_in}
 use Rattle.fl_bitpacking.proofs.BlockTestLaws.{item_answered, tests_are, undecided_is}
 use Rattle.fl_bitpacking.proofs.ComparedLaws.{column_tested}
+use Rattle.fl_bitpacking.proofs.ReadWidths.{readable}
 use Rattle.fl_bitpacking.proofs.compute.compare.test_column.Goals as goal
+
+pub test_items-requires-clause-readable : goal.test_items-requires-clause-readable
+test_items-requires-clause-readable c = rw c.new-test.ensures.typed (readable c.args.column.now c.args.widths c.requires.fit c.requires.widths)
 
 pub returns-clause-column : goal.returns-clause-column
 returns-clause-column c =
