@@ -511,12 +511,13 @@ int32_t flcol_import_arrow_stream(struct ArrowArrayStream *stream, flcol_array *
 
 /* ---- Give back ---- */
 
-/* How many bytes flcol_serialize writes. FLCOL_NO_ARRAY. FLCOL_BAD_CONTAINER: the array has no container, as where more
-   than sixteen arrays stand in one another. */
+/* How many bytes flcol_serialize writes; nothing is written for it. FLCOL_NO_ARRAY. FLCOL_BAD_CONTAINER: the array has no
+   container, as where more than sixteen arrays stand in one another. */
 int32_t flcol_serialized_len(flcol_array *array, size_t *len);
 
-/* The array as a container, in exactly that many bytes. FLCOL_NO_ARRAY. FLCOL_BAD_CONTAINER. FLCOL_WRONG_LENGTH. */
-int32_t flcol_serialize(flcol_array *array, uint8_t *bytes, size_t len);
+/* The array as a container, in the first of `room` bytes; `len` is how many it has, and those behind it stay as they were.
+   FLCOL_NO_ARRAY. FLCOL_BAD_CONTAINER. FLCOL_WRONG_LENGTH: the container is longer. */
+int32_t flcol_serialize(flcol_array *array, uint8_t *bytes, size_t room, size_t *len);
 
 /* Frees the array, if one is held, which is none from then on. */
 void flcol_free(flcol_array *array);

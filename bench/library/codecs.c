@@ -56,7 +56,7 @@ static int flcol_encodes(void) {
     from_items(&plain);
     MUST(flcol_encode(&plain, scheme, strlen(scheme), &encoded) == FLCOL_OK);
     flcol_free(&plain);
-    return flcol_serialized_len(&encoded, &column.encoded_len) == FLCOL_OK;
+    return flcol_serialize(&encoded, column.encoded, column.room, &column.encoded_len) == FLCOL_OK;
 }
 
 static void flcol_decodes(void) {

@@ -3,7 +3,7 @@
 #include "arrow_columns.h"
 #include "refusing.h"
 
-enum { ITEMS = 1500, CHUNKS = 2, ROOM = 40000 };
+enum { ITEMS = 1500, CHUNKS = 2 };
 
 /* The array that is handed over, of a type, and what it was made of. */
 static flcol_array array = {NULL};
@@ -112,10 +112,10 @@ static int imports_stream(long requests) {
 }
 
 static int inspects(long requests) {
-    static uint8_t container[ROOM];
+    static uint8_t container[40000];
     size_t len = 0, text_len = 0, whole_len = 0;
     char text[100], whole[100];
-    CHECK(flcol_serialized_len(&array, &len) == FLCOL_OK && len <= ROOM && flcol_serialize(&array, container, len) == FLCOL_OK);
+    CHECK(flcol_serialize(&array, container, sizeof container, &len) == FLCOL_OK);
     memset(text, UNWRITTEN, sizeof text), memset(whole, UNWRITTEN, sizeof whole);
     CHECK(flcol_inspect(container, len, whole, sizeof whole, &whole_len) == FLCOL_OK);
     granted = requests;

@@ -41,7 +41,7 @@ static int32_t write_container(flcol_array *array) {
     if (status != FLCOL_OK) return status;
     uint8_t *container = (uint8_t *)malloc(len);
     CHECK(container != NULL);
-    status = flcol_serialize(array, container, len);
+    status = flcol_serialize(array, container, len, &len);
     if (status == FLCOL_OK) CHECK(fwrite(container, 1, len, stdout) == len);
     free(container);
     return status;

@@ -61,7 +61,7 @@ static void refusals(void) {
     CHECK(flcol_is_sorted(&none, 1, &byte) == FLCOL_NO_ARRAY);
     CHECK(flcol_scheme_len(&none, &number) == FLCOL_NO_ARRAY && flcol_scheme(&none, (char *)&byte, 1) == FLCOL_NO_ARRAY);
     CHECK(flcol_serialized_len(&none, &number) == FLCOL_NO_ARRAY);
-    CHECK(flcol_serialize(&none, &byte, 1) == FLCOL_NO_ARRAY && encode(&none, "?", &out) == FLCOL_NO_ARRAY);
+    CHECK(flcol_serialize(&none, &byte, 1, &number) == FLCOL_NO_ARRAY && encode(&none, "?", &out) == FLCOL_NO_ARRAY);
     CHECK(flcol_slice(&none, 2, 1, &out) == FLCOL_NO_ARRAY && flcol_take(&none, &index, 1, NULL, 0, &out) == FLCOL_NO_ARRAY);
     CHECK(flcol_take_ranges(&none, &range, 1, &out) == FLCOL_NO_ARRAY && flcol_filter(&none, &byte, 1, &out) == FLCOL_NO_ARRAY);
     CHECK(flcol_cast(&none, 99, &out) == FLCOL_NO_ARRAY && flcol_to_blocked(&none, &out) == FLCOL_NO_ARRAY);
@@ -117,14 +117,15 @@ static void booleans(void) {
     flcol_array array = {NULL}, out = {NULL};
     const uint64_t index = 0;
     const flcol_range range = {0, 1};
-    size_t number = 0;
+    size_t number = 0, len = 0;
     uint64_t bytes = 0;
     uint8_t byte = 0, bits = 7, written[sizeof container] = {0};
     CHECK(flcol_deserialize(container, sizeof container, &array) == FLCOL_OK);
     CHECK(flcol_len(&array, &number) == FLCOL_OK && number == 3 && flcol_dtype(&array, &byte) == FLCOL_OK && byte == FLCOL_BOOL);
     CHECK(flcol_null_count(&array, &number) == FLCOL_OK && number == 0 && flcol_nbytes(&array, &bytes) == FLCOL_OK && bytes == 1);
     CHECK(flcol_slice(&array, 1, 3, &out) == FLCOL_OK && flcol_len(&out, &number) == FLCOL_OK && number == 2);
-    CHECK(flcol_serialize(&array, written, sizeof written) == FLCOL_OK && memcmp(written, container, sizeof written) == 0);
+    CHECK(flcol_serialize(&array, written, sizeof written, &len) == FLCOL_OK && len == sizeof written);
+    CHECK(memcmp(written, container, sizeof written) == 0);
     void *held = out.at;
     CHECK(flcol_scheme_len(&array, &number) == FLCOL_NOT_INTEGER && flcol_scheme(&array, (char *)&byte, 1) == FLCOL_NOT_INTEGER);
     CHECK(encode(&array, "primitive", &out) == FLCOL_NOT_INTEGER && flcol_compress(&array, &out) == FLCOL_NOT_INTEGER);

@@ -167,21 +167,30 @@ static void FN(answers)(flcol_array *array, const ITEM *items, const uint8_t *va
     if (!nulls) CHECK(CALL(compare)(array, FLCOL_LT, 7, bits, bytes, NULL, 0) == FLCOL_OK);
 }
 
+/* The container is written where there is room for it, and over no byte behind it; where there is less, over none. */
+static void FN(gives_back)(flcol_array *array, const ITEM *items, const uint8_t *validity, size_t n) {
+    enum { BEHIND = 9 };
+    flcol_array out = {NULL};
+    size_t len = 0, written = 3;
+    CHECK(flcol_serialized_len(array, &len) == FLCOL_OK);
+    uint8_t *exact = (uint8_t *)malloc(len), *roomy = (uint8_t *)malloc(len + BEHIND);
+    CHECK(exact != NULL && roomy != NULL);
+    memset(roomy, UNWRITTEN, len + BEHIND);
+    CHECK(flcol_serialize(array, NULL, 0, &written) == FLCOL_WRONG_LENGTH && flcol_serialize(array, roomy, 4, &written) == FLCOL_WRONG_LENGTH);
+    CHECK(flcol_serialize(array, roomy, len - 1, &written) == FLCOL_WRONG_LENGTH && unwritten(roomy, len + BEHIND) && written == 3);
+    CHECK(flcol_serialize(array, roomy, len + BEHIND, &written) == FLCOL_OK && written == len && unwritten(roomy + len, BEHIND));
+    CHECK(flcol_serialize(array, exact, len, &written) == FLCOL_OK && written == len && memcmp(exact, roomy, len) == 0);
+    CHECK(flcol_deserialize(exact, len - 1, &out) == FLCOL_BAD_CONTAINER && out.at == NULL);
+    CHECK(flcol_deserialize(exact, len, &out) == FLCOL_OK);
+    free(exact), free(roomy);
+    FN(has)(&out, items, validity, n);
+    flcol_free(&out);
+}
+
 static void FN(changes_form)(flcol_array *array, const ITEM *items, const uint8_t *validity, size_t n) {
     flcol_array out = {NULL};
-    size_t len = 0, nulls = 0;
+    size_t nulls = 0;
     uint8_t dtype = 0;
-    CHECK(flcol_serialized_len(array, &len) == FLCOL_OK);
-    uint8_t *container = (uint8_t *)malloc(len + 1);
-    CHECK(container != NULL);
-    memset(container, UNWRITTEN, len + 1);
-    CHECK(flcol_serialize(array, container, len + 1) == FLCOL_WRONG_LENGTH && unwritten(container, len + 1));
-    CHECK(flcol_serialize(array, container, len) == FLCOL_OK && container[len] == UNWRITTEN);
-    CHECK(flcol_deserialize(container, len - 1, &out) == FLCOL_BAD_CONTAINER && out.at == NULL);
-    CHECK(flcol_deserialize(container, len, &out) == FLCOL_OK);
-    free(container);
-    FN(has)(&out, items, validity, n);
-
     CHECK(flcol_to_blocked(array, &out) == FLCOL_OK);
     FN(has)(&out, items, validity, n);
     CHECK(flcol_cast(array, NUMBER + FLCOL_NULLABLE, &out) == FLCOL_OK);
@@ -217,6 +226,7 @@ static void FN(every_call)(flcol_array *array, const ITEM *items, const uint8_t 
     FN(reads)(array, items, validity, n);
     FN(chooses)(array, items, validity, n);
     FN(answers)(array, items, validity, n);
+    FN(gives_back)(array, items, validity, n);
     FN(changes_form)(array, items, validity, n);
     FN(has)(array, items, validity, n);
 }

@@ -10,7 +10,7 @@ static int32_t FN(attempt)(int call) {
     case 0: return CALL(from)(FN(items), ITEMS, validity, ITEM_BYTES, &out);
     case 1: return CALL(constant)(7, 0, ITEMS, &out);
     case 2: return flcol_deserialize(container, container_len, &out);
-    case 3: return flcol_serialize(&array, written, container_len);
+    case 3: return flcol_serialize(&array, written, sizeof written, &number);
     case 4: return flcol_serialized_len(&array, &number);
     case 5: return flcol_null_count(&array, &number);
     case 6: return flcol_is_constant(&array, bits);
@@ -75,8 +75,8 @@ static void FN(refuses)(void) {
     CHECK(CALL(from)(FN(items), ITEMS, validity, ITEM_BYTES, &plain) == FLCOL_OK);
     for (size_t s = 0; s < SCHEME_COUNT; s++) {
         FN(encoded_in_turn)(&plain, SCHEMES[s]);
-        CHECK(flcol_serialized_len(&array, &container_len) == FLCOL_OK && container_len <= sizeof container);
-        CHECK(flcol_serialize(&array, container, container_len) == FLCOL_OK && flcol_scheme_len(&array, &scheme_len) == FLCOL_OK);
+        CHECK(flcol_serialize(&array, container, sizeof container, &container_len) == FLCOL_OK);
+        CHECK(flcol_scheme_len(&array, &scheme_len) == FLCOL_OK);
         for (int call = 0; FN(attempt)(call) != LAST_CALL; call++) FN(refused_in_turn)(call);
         FN(is_as_before)();
     }

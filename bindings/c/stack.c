@@ -85,7 +85,7 @@ static void goes_through(flcol_array *plain, const char *open, const char *last,
     tell("encode", text, job.scheme_len, encoded);
     CHECK(flcol_serialized_len(&deep, &job.container_len) == FLCOL_OK);
     job.container = (uint8_t *)malloc(job.container_len);
-    CHECK(job.container != NULL && flcol_serialize(&deep, job.container, job.container_len) == FLCOL_OK);
+    CHECK(job.container != NULL && flcol_serialize(&deep, job.container, job.container_len, &job.container_len) == FLCOL_OK);
     job.call = deserialize_job, job.made = &again;
     tell("deserialize", text, job.scheme_len, run(&job));
     CHECK(job.status == FLCOL_OK);

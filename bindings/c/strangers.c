@@ -54,7 +54,7 @@ static void change_each_byte(flcol_array *array) {
     CHECK(flcol_serialized_len(array, &len) == FLCOL_OK);
     uint8_t *container = (uint8_t *)malloc(len);
     flcol_array out = {NULL};
-    CHECK(container != NULL && flcol_serialize(array, container, len) == FLCOL_OK);
+    CHECK(container != NULL && flcol_serialize(array, container, len, &len) == FLCOL_OK);
     for (size_t end = 0; end < len; end++) CHECK(read_container(container, end, &out) == FLCOL_BAD_CONTAINER);
     for (size_t i = 0; i < len; i++) {
         if (container[i] == 0 && i + 8 < len && container[i + 8] == 0 && i % 16) continue; /* most of the padding of a block */

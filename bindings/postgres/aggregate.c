@@ -93,7 +93,7 @@ static void send_array(StringInfo bytes, flcol_array *array) {
     check(flcol_serialized_len(array, &len));
     pq_sendint32(bytes, len);
     enlargeStringInfo(bytes, len);
-    check(flcol_serialize(array, (uint8_t *)bytes->data + bytes->len, len));
+    check(flcol_serialize(array, (uint8_t *)bytes->data + bytes->len, len, &len));
     bytes->len += len;
     flcol_free(array);
 }

@@ -111,7 +111,7 @@ Datum array_value(flcol_array *array) {
     CHECK_FOR_INTERRUPTS();
     bytea *value = palloc(VARHDRSZ + len);
     SET_VARSIZE(value, VARHDRSZ + len);
-    check(flcol_serialize(array, (uint8_t *)VARDATA(value), len));
+    check(flcol_serialize(array, (uint8_t *)VARDATA(value), len, &len));
     flcol_free(array);
     return PointerGetDatum(value);
 }

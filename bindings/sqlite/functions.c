@@ -28,7 +28,7 @@ static int32_t serialize(flcol_array *array, uint8_t **bytes, size_t *len) {
     if (status != FLCOL_OK) return status;
     *bytes = sqlite3_malloc64(*len);
     if (*bytes == NULL) return FLCOL_OUT_OF_MEMORY;
-    status = flcol_serialize(array, *bytes, *len);
+    status = flcol_serialize(array, *bytes, *len, len);
     if (status != FLCOL_OK) sqlite3_free(*bytes);
     return status;
 }

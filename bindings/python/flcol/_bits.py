@@ -1,12 +1,11 @@
 """Bitmaps: a bit for each item, in Arrow's order. The library counts and joins them."""
 from __future__ import annotations
 
-import ctypes
 import operator
-from ctypes import byref, c_size_t, create_string_buffer
+from ctypes import byref, c_size_t
 from typing import Any, Iterable, Optional
 
-from ._buffers import address, is_buffer, kind_of, new_bytes, one_dimension
+from ._buffers import address, copied, is_buffer, kind_of, new_bytes, one_dimension
 from ._dtypes import numpy
 from ._library import Handle, call
 
@@ -69,9 +68,10 @@ def count(bits: bytes, validity: Optional[bytes], length: int) -> int:
 
 def inverted(bits: bytes, length: int) -> bytes:
     """The bits turned, those behind the last one 0."""
-    turned = create_string_buffer(bits, len(bits))
-    call("not", ctypes.addressof(turned), len(bits), length)
-    return turned.raw
+    turned = copied(bits)
+    with address(turned) as at:
+        call("not", at, len(turned), length)
+    return turned
 
 
 def ones(length: int) -> bytes:
@@ -85,13 +85,11 @@ def joined(
     """Answers joined with others by ``and``, ``or`` or ``xor`` of SQL, and which of the results are known."""
     if validity is None and other_validity is not None:
         validity = ones(length)
-    answers = create_string_buffer(bits, len(bits))
-    valid = None if validity is None else create_string_buffer(validity, len(validity))
-    to = None if valid is None else ctypes.addressof(valid)
-    with address(other) as at, address(other_validity) as known:
-        own, others = (to, len(validity or b"")), (known, len(other_validity or b""))
-        call(operation, ctypes.addressof(answers), len(bits), *own, at, len(other), *others)
-    return answers.raw, None if valid is None else valid.raw
+    answers, valid = copied(bits), None if validity is None else copied(validity)
+    with address(answers) as to, address(valid) as to_valid, address(other) as at, address(other_validity) as known:
+        own, others = (to_valid, len(valid or b"")), (known, len(other_validity or b""))
+        call(operation, to, len(answers), *own, at, len(other), *others)
+    return answers, valid
 
 
 def both(left: bytes, right: bytes) -> bytes:

@@ -28,7 +28,7 @@ class BoolArray(Column):
 
     def __init__(self, bits: bytes, validity: Optional[bytes], length: int) -> None:
         self._size, self._handle, self._lock = operator.index(length), None, threading.RLock()
-        self._answers: Any = bytes(memoryview(bits)), None if validity is None else bytes(memoryview(validity))
+        self._answers: Any = _as_bytes(bits), None if validity is None else _as_bytes(validity)
         needed = bytes_of_bits(max(self._size, 0))
         if self._size < 0 or any(it is not None and len(it) != needed for it in self._answers):
             raise ValueError(f"{length} answers need {needed} bytes of bits, and as many of validity or None")
@@ -256,6 +256,11 @@ class BoolArray(Column):
             raise Error(CAST_NULL)
         valid = (ones(self._size) if validity is None else validity) if nullable else None
         return BoolArray(bits, valid, self._size)
+
+
+def _as_bytes(bitmap: Any) -> bytes:
+    """A bitmap as bytes, which don't change: those that it is, or a copy."""
+    return bitmap if type(bitmap) is bytes else bytes(memoryview(bitmap))
 
 
 def _handle_of(bits: bytes, validity: Optional[bytes], length: int) -> Handle:

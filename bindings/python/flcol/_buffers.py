@@ -59,6 +59,14 @@ def new_bytes(size: int) -> bytes:
     return made
 
 
+def copied(memory: bytes) -> bytes:
+    """New bytes that are the same, for a call that writes over them before anything else sees them."""
+    made = new_bytes(len(memory))
+    with address(made) as at:
+        ctypes.memmove(at, memory, len(memory))
+    return made
+
+
 def new_values(kind: Kind, length: int) -> Any:
     """New memory for values: an array of NumPy, or one of the module ``array``."""
     _possible(length * kind.size)

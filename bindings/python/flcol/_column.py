@@ -219,7 +219,7 @@ class Column:
         try:
             container = new_bytes(self._ask("serialized_len", c_size_t))
             with address(container) as at:
-                self._call("serialize", at, len(container))
+                self._ask("serialize", c_size_t, at, len(container))
         except Error as error:
             if error.number != BAD_CONTAINER:
                 raise

@@ -133,7 +133,7 @@ CALLS: dict[str, tuple[Any, list[Any]]] = {
     "flcol_export_arrow_stream": (c_int32, [c_void_p, c_size_t, c_void_p]),
     "flcol_import_arrow_stream": (c_int32, [c_void_p, POINTER(Handle)]),
     "flcol_serialized_len": (c_int32, [POINTER(Handle), POINTER(c_size_t)]),
-    "flcol_serialize": (c_int32, [POINTER(Handle), c_void_p, c_size_t]),
+    "flcol_serialize": (c_int32, [POINTER(Handle), c_void_p, c_size_t, POINTER(c_size_t)]),
     "flcol_free": (None, [POINTER(Handle)]),
     "flcol_status_name": (c_char_p, [c_int32]),
     "flcol_status_message": (c_char_p, [c_int32]),

@@ -139,7 +139,7 @@ extern "C" {
     #[cfg(feature = "arrow")]
     pub fn flcol_import_arrow_stream(stream: *mut ArrowArrayStream, out: *mut Handle) -> i32;
     pub fn flcol_serialized_len(array: *mut Handle, len: *mut usize) -> i32;
-    pub fn flcol_serialize(array: *mut Handle, bytes: *mut u8, bytes_len: usize) -> i32;
+    pub fn flcol_serialize(array: *mut Handle, bytes: *mut u8, bytes_len: usize, len: *mut usize) -> i32;
     pub fn flcol_free(array: *mut Handle);
     pub fn flcol_status_name(status: i32) -> *const c_char;
     pub fn flcol_status_message(status: i32) -> *const c_char;

@@ -1,5 +1,5 @@
 -- Containers that arrays come from and are written as.
-use Rattle.std.specs.Prelude.{◌≡◌, ◌≢◌, ◌⊎◌, ℕ, ℤ, pos, Option, Some, None, List, length, Result, Ok, Err}
+use Rattle.std.specs.Prelude.{◌≡◌, ◌≢◌, ◌⊎◌, ◌<◌, ℕ, ℤ, pos, Option, Some, None, List, ◌++◌, drop, length, Result, Ok, Err}
 use Rattle.fl_types.specs.declared.error.FastLanesError.{FastLanesError}
 use Rattle.fl_types.specs.declared.error.FastLanesError.TheVariants.{OutOfMemory}
 use Rattle.fl_array.specs.Trees.{Tree}
@@ -51,16 +51,25 @@ abbrev pub IsContainerStatus : Option Tree → ℤ → Type 0
 IsContainerStatus None status = status ≡ status_of NoArray
 IsContainerStatus (Some t) status = status ≢ pos 0 → status ≢ pos 1 → (status ≡ status_of BadContainer) × HasNoContainer (written t)
 
--- the status of writing an array's container to so many bytes: the same, or it has another length
+-- the status of writing an array's container where there is room for so many bytes: none is held, it has none, or a longer one, unless memory ran out
 abbrev pub IsWriteStatus : ℕ → Option Tree → ℤ → Type 0
-IsWriteStatus len None status = status ≡ status_of NoArray
-IsWriteStatus len (Some t) status =
+IsWriteStatus room None status = status ≡ status_of NoArray
+IsWriteStatus room (Some t) status =
     status ≢ pos 0 → status ≢ pos 1
-    → ((status ≡ status_of BadContainer) × HasNoContainer (written t)) ⊎ ((status ≡ status_of WrongLength) × ((bytes : List ℕ) × IsContainerOf t bytes × (length bytes ≢ len)))
+    → ((status ≡ status_of BadContainer) × HasNoContainer (written t)) ⊎ ((status ≡ status_of WrongLength) × ((bytes : List ℕ) × IsContainerOf t bytes × (room < length bytes)))
 
 -- so many bytes are an array's container
 abbrev pub HasContainerLen : ℕ → Tree → Type 0
 HasContainerLen len t = (bytes : List ℕ) × IsContainerOf t bytes × (length bytes ≡ len)
+
+-- it was found how many bytes an array's container has, or it has none, unless memory ran out
+abbrev pub GivesContainerLen : Tree → Result ℕ Fault → Type 0
+GivesContainerLen t (Ok len) = HasContainerLen len t
+GivesContainerLen t (Err fault) = fault ≢ Refused OutOfMemory → (fault ≡ BadContainer) × HasNoContainer (written t)
+
+-- an array's container, of so many bytes, stands in place of the first bytes, and those behind them are as before
+abbrev pub IsWrittenOver : List ℕ → List ℕ → ℕ → Tree → Type 0
+IsWrittenOver before after len t = (bytes : List ℕ) × IsContainerOf t bytes × (length bytes ≡ len) × (after ≡ bytes ++ drop len before)
 
 -- an array is held of which this is true
 abbrev pub Holds : (Tree → Type 0) → Option Tree → Type 0

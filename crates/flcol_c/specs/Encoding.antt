@@ -8,7 +8,7 @@ use Rattle.fl_array.specs.Trees.{Tree, column}
 use Rattle.fl_encode.specs.declared.scheme.Scheme.{Scheme}
 use Rattle.fl_encode.specs.Encodings.{IsEncodedAs, encode_refusal}
 use Rattle.fl_encode.specs.Shapes.{Shape, shape}
-use Rattle.fl_encode.specs.Texts.{scheme_of_text}
+use Rattle.fl_encode.specs.Texts.{says_children, scheme_of_text}
 use Rattle.flcol_c.specs.declared.fault.Fault.{Fault}
 use Rattle.flcol_c.specs.declared.fault.Fault.TheVariants.{BadScheme, NoArray, Refused}
 use Rattle.flcol_c.specs.Plain.{IsSimplestOf}
@@ -36,7 +36,13 @@ abbrev pub GivesEncoding : Result Shape ℕ → Tree → Result Tree Fault → T
 GivesEncoding read t (Ok encoded) = IsEncodingOf read t encoded
 GivesEncoding read t (Err fault) = fault ≢ Refused OutOfMemory → IsFaultOf read t fault
 
--- the status of encoding an array says the first fault, unless memory ran out
+-- the text says no scheme, and no children, for which alone memory is asked for before that is known
+abbrev pub IsWrongAtOnce : List ℕ → Type 0
+IsWrongAtOnce text = (says_children text ≡ false) × (position : ℕ) × (scheme_of_text text ≡ Err position)
+
+-- the status of encoding an array says the first fault, unless memory ran out, as it does not of a text that is wrong at once
 abbrev pub IsEncodingStatus : List ℕ → Option Tree → ℤ → Type 0
 IsEncodingStatus text None status = status ≡ status_of NoArray
-IsEncodingStatus text (Some t) status = status ≢ pos 0 → status ≢ pos 1 → (fault : Fault) × (status ≡ status_of fault) × IsFaultOf (scheme_of_text text) t fault
+IsEncodingStatus text (Some t) status =
+    (IsWrongAtOnce text → status ≡ status_of BadScheme)
+    × (status ≢ pos 0 → status ≢ pos 1 → (fault : Fault) × (status ≡ status_of fault) × IsFaultOf (scheme_of_text text) t fault)

@@ -1,14 +1,14 @@
 //! Containers that arrays come from and are written as.
 
 ghost use Rattle.std.specs.Prelude.{◌≡◌};
-ghost use Rattle.flcol_c.specs.Containers.{GivesArray, GivesContainer, of_container};
+ghost use Rattle.flcol_c.specs.Containers.{GivesArray, GivesContainer, GivesContainerLen, of_container};
 
 use crate::fault::Fault;
 use bytes::Bytes;
 use fl_array::ArrayRef;
 use fl_serde::{deserialize, serialize};
 use fl_types::FastLanesError;
-use flcol_container::{ContainerError, read_container, write_container};
+use flcol_container::{ContainerError, container_len, read_container, write_container};
 use std::alloc::Global;
 
 impl From<ContainerError> for Fault {
@@ -45,6 +45,22 @@ pub(crate) fn container_of(alloc: Global, array: &ArrayRef) -> Result<Vec<u8>, F
     let node = serialize(alloc, array)?;
     match write_container(alloc, &node) {
         Ok(bytes) => Ok(bytes),
+        Err(ContainerError::OutOfMemory) => Err(Fault::Refused(FastLanesError::OutOfMemory)),
+        Err(ContainerError::BadContainer) => Err(Fault::BadContainer),
+    }
+}
+
+/// How many bytes an array's container has. No container is made.
+///
+/// # Errors
+/// `BadContainer` where it has none.
+#[tactic(auto, using(crate::proofs::ContainerLaws::len_given))]
+pub(crate) fn container_len_of(alloc: Global, array: &ArrayRef) -> Result<usize, Fault>
+    ensures { GivesContainerLen array.now result }
+{
+    let node = serialize(alloc, array)?;
+    match container_len(&node) {
+        Ok(len) => Ok(len),
         Err(ContainerError::OutOfMemory) => Err(Fault::Refused(FastLanesError::OutOfMemory)),
         Err(ContainerError::BadContainer) => Err(Fault::BadContainer),
     }

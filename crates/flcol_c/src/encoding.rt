@@ -1,9 +1,10 @@
 //! Arrays encoded by the text of a scheme.
 
-ghost use Rattle.std.specs.Prelude.{Ok};
+ghost use Rattle.std.specs.Prelude.{◌≡◌, Err, Ok};
 ghost use Rattle.fl_encode.specs.Shapes.{shape};
 ghost use Rattle.fl_encode.specs.Texts.{scheme_of_text};
-ghost use Rattle.flcol_c.specs.Encoding.{GivesEncoding};
+ghost use Rattle.flcol_c.specs.declared.fault.Fault.TheVariants.{BadScheme};
+ghost use Rattle.flcol_c.specs.Encoding.{GivesEncoding, IsWrongAtOnce};
 
 use crate::fault::Fault;
 use crate::plain::simplest_of;
@@ -28,9 +29,11 @@ fn encode_as(alloc: Global, array: &ArrayRef, scheme: &Scheme) -> Result<ArrayRe
 /// An array of the same column, by the scheme of a text.
 ///
 /// # Errors
-/// `BadScheme` where the text says none, `NotInteger` of booleans, then those of the scheme.
+/// `BadScheme` where the text says none, `NotInteger` of booleans, then those of the scheme. A text that says no
+/// children either is refused before memory is asked for.
 pub(crate) fn encode_by(alloc: Global, array: &ArrayRef, text: &[u8]) -> Result<ArrayRef, Fault>
-    ensures { GivesEncoding (scheme_of_text text.now) array.now result }
+    ensures given { GivesEncoding (scheme_of_text text.now) array.now result }
+    ensures at_once { IsWrongAtOnce text.now → result ≡ Err BadScheme }
 {
     match parse(alloc, text) {
         Ok(scheme) => encode_as(alloc, array, &scheme),

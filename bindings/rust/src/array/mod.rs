@@ -68,8 +68,9 @@ impl Array {
     /// `BadContainer` if it has none, as where more than sixteen arrays stand in one another; `OutOfMemory`.
     pub fn to_bytes(&self) -> Result<Vec<u8>, Error> {
         let len = self.ask(|array, len| unsafe { ffi::flcol_serialized_len(array, len) })?;
+        let mut all = 0;
         // SAFETY: the call writes exactly so many bytes.
-        unsafe { written(len, |bytes| ffi::flcol_serialize(self.word(), bytes, len)) }
+        unsafe { written(len, |bytes| ffi::flcol_serialize(self.word(), bytes, len, &mut all)) }
     }
 
     /// How many bytes all buffers of the array take.

@@ -12,6 +12,7 @@ use crate::kept::keep;
 use std::alloc::Global;
 
 /// Makes an array of the same column in the encoding that the text of a scheme names.
+#[tactic(auto, using(crate::proofs::EncodeLaws::encoding_held))]
 #[unsafe(no_mangle)]
 pub extern "C" fn flcol_encode(
     alloc: Global,

@@ -1,10 +1,10 @@
 //! The calls that read and write containers.
 
 ghost use Rattle.std.specs.Prelude.{◌≡◌, ◌≢◌, length, pos};
-ghost use Rattle.flcol_c.specs.Containers.{HasContainerLen, Holds, IsArrayOf, IsContainerOf, IsContainerStatus, IsReadStatus, IsWriteStatus};
+ghost use Rattle.flcol_c.specs.Containers.{HasContainerLen, Holds, IsArrayOf, IsContainerStatus, IsReadStatus, IsWriteStatus, IsWrittenOver};
 ghost use Rattle.flcol_c.specs.Held.{IsKept};
 
-use crate::containers::{container_of, from_container};
+use crate::containers::{container_len_of, container_of, from_container};
 use crate::fault::{DONE, Fault};
 use crate::handle::ArrayHandle;
 use crate::kept::keep;
@@ -20,8 +20,7 @@ pub extern "C" fn flcol_deserialize(alloc: Global, bytes: &[u8], out: &mut Array
     keep(out, alloc, from_container(alloc, bytes))
 }
 
-/// Writes how many bytes the array's container has.
-#[tactic(auto, using(crate::proofs::ContainerLaws::container_len))]
+/// Writes how many bytes the array's container has. None is made for it.
 #[unsafe(no_mangle)]
 pub extern "C" fn flcol_serialized_len(
     alloc: Global,
@@ -36,22 +35,27 @@ pub extern "C" fn flcol_serialized_len(
     let Some(source) = array.array() else {
         return Fault::NoArray.status();
     };
-    match container_of(alloc, source) {
-        Ok(bytes) => {
-            *len = bytes.len();
+    match container_len_of(alloc, source) {
+        Ok(found) => {
+            *len = found;
             DONE
         }
         Err(fault) => fault.status(),
     }
 }
 
-/// Writes the array's container to exactly its bytes.
+/// Writes the array's container over the first of the bytes, and how many it has. The bytes behind it stay as they are.
 #[unsafe(no_mangle)]
-pub extern "C" fn flcol_serialize(alloc: Global, array: &mut ArrayHandle, bytes: &mut [u8]) -> i32
+pub extern "C" fn flcol_serialize(
+    alloc: Global,
+    array: &mut ArrayHandle,
+    bytes: &mut [u8],
+    len: &mut usize,
+) -> i32
     ensures kept { IsKept array.old array.new }
     ensures status { IsWriteStatus (length bytes.old) array.old.tree result }
-    ensures written { result ≡ pos 0 → Holds (λ t. IsContainerOf t bytes.new) array.old.tree }
-    ensures unwritten { result ≢ pos 0 → bytes.new ≡ bytes.old }
+    ensures written { result ≡ pos 0 → Holds (IsWrittenOver bytes.old bytes.new len.new) array.old.tree }
+    ensures unwritten { result ≢ pos 0 → (bytes.new ≡ bytes.old) × (len.new ≡ len.old) }
 {
     let Some(source) = array.array() else {
         return Fault::NoArray.status();
@@ -60,9 +64,10 @@ pub extern "C" fn flcol_serialize(alloc: Global, array: &mut ArrayHandle, bytes:
         Ok(container) => container,
         Err(fault) => return fault.status(),
     };
-    if container.len() != bytes.len() {
+    if bytes.len() < container.len() {
         return Fault::WrongLength.status();
     }
-    bytes.copy_from_slice(&container);
+    bytes[..container.len()].copy_from_slice(&container);
+    *len = container.len();
     DONE
 }
