@@ -7,7 +7,7 @@ use std::hint::black_box;
 
 /// The places of the names in `Encoding`, in `crates/fastlanes_ffi/src/arrays.rt`.
 #[derive(Clone, Copy, PartialEq)]
-pub enum Encoding { Primitive, BitPacked, BestWidth, BestWidths, FoR, PackedFoR, ChunkedFoR, Delta, RLE }
+pub enum Encoding { Primitive, BitPacked, BestWidth, BestWidths, FoR, PackedFoR, ChunkedFoR, Delta, RLE, PackedDelta, PackedRLE }
 
 /// The places of the names in `Question`, in `crates/fastlanes_ffi/src/questions.rt`.
 #[derive(Clone, Copy, PartialEq, Debug)]

@@ -61,6 +61,8 @@ impl<W: Word> Columns<W> {
         let array = |encoding, items| Array { encoding, width: 0, null_every: 0, items };
         self.decode("delta".into(), array(Encoding::Delta, &rising));
         self.decode("RLE, runs of 16".into(), array(Encoding::RLE, &runs));
+        self.decode("delta over bit-packed deltas".into(), array(Encoding::PackedDelta, &rising));
+        self.decode("RLE over bit-packed run indices".into(), array(Encoding::PackedRLE, &runs));
         let patched = self.numbers(W::BITS / 4, 0, 100);
         let above = self.numbers(W::BITS / 2, 5, 0);
         let cases = [

@@ -76,6 +76,33 @@ fn encoded(megabytes: usize) {
     }
 }
 
+/// Times questions of so many megabytes of `u64` in encodings over bit-packed parts, and of FoR by chunks.
+fn nested(megabytes: usize) {
+    let len = (megabytes << 20) / 8;
+    let noise = random(1 << 16);
+    let mut sum = 0u64;
+    let rising: Vec<u64> = (0..len).map(|i| { sum += noise[(i * 7 + i / 65536) % 65536] & 7; sum }).collect();
+    let runs: Vec<u64> = (0..len).map(|i| noise[(i / 16) % 65536] >> 32).collect();
+    let places: Vec<u64> = (0..len / 100).map(|i| (i * 100) as u64 / 64 * 64 + i as u64 % 64).map(|place| place.min(len as u64 - 1)).collect();
+    let mask = tenth(&random(1 << 20), len);
+    let mut to = vec![0u64; len];
+    let memcpy = best(|| black_box(&mut to[..]).copy_from_slice(black_box(&rising)));
+    println!("\n{megabytes} MB of u64: milliseconds; in parentheses the time of memcpy into memory that is there, {} ms, by ours\n", milliseconds(memcpy));
+    println!("| array | decode | compare | filter of a tenth | take of 1 %, rising | is_sorted | is_constant |\n|---|---|---|---|---|---|---|");
+    let cases: [(&str, Encoding, &[u64]); 4] = [
+        ("delta over bit-packed deltas", Encoding::PackedDelta, &rising), ("RLE over bit-packed run indices", Encoding::PackedRLE, &runs),
+        ("delta", Encoding::Delta, &rising), ("FoR by chunks", Encoding::ChunkedFoR, &rising),
+    ];
+    for (name, encoding, items) in cases {
+        let array = Array { encoding, width: 0, null_every: 0, items };
+        let decode = array.decode();
+        let middle = [items[len / 2]];
+        let rest: [(Question, &[u64]); 5] = [(Question::Compare, &middle), (Question::Filter, &mask), (Question::Take, &places), (Question::IsSorted, &[]), (Question::IsConstant, &[])];
+        let cells: Vec<String> = rest.iter().map(|(question, numbers)| milliseconds(array.ask(*question, numbers))).collect();
+        println!("| {name} | {} ({:.2}) | {} |", milliseconds(decode), memcpy / decode, cells.join(" | "));
+    }
+}
+
 /// Nanoseconds an item of ours and of the loop, for items without nulls and with one in seven.
 fn beside_the_loop(name: &str, len: usize, mut pair: impl FnMut(usize) -> (f64, f64)) {
     let mut row = format!("| {name} |");
@@ -133,5 +160,6 @@ fn plain() {
 /// Times what is asked of arrays, and prints the tables.
 pub fn run(megabytes: usize) {
     encoded(megabytes);
+    nested(megabytes);
     plain();
 }
