@@ -17,7 +17,7 @@ use Rattle.fl_column.proofs.ListLaws.{all_part, any_at, any_from, and_true, list
 use Rattle.fl_patches.specs.Costs.{block_histogram, padded_block}
 use Rattle.fl_patches.specs.Exceptions.{is_negative}
 use Rattle.fl_patches.proofs.Blocks.{take_between}
-use Rattle.fl_patches.proofs.Signs.{last_entry, no_negatives}
+use Rattle.fl_patches.proofs.Signs.{signs_counted}
 
 no_negative_null : (n : ℕ) → list_any is_negative (replicate n None) ≡ false
 no_negative_null zero = refl
@@ -45,10 +45,7 @@ padded_fit t items j fit =
 pub block_signs : (t : PType) (items : List (Option ℤ)) (j : ℕ) (entries : List ℕ) → entries ≡ block_histogram t items j → IsTrue (list_all (option_all (fits t)) items)
     → (not (is_unsigned t) && nat_lt 0 (get_or entries (bits_of_type t) 0)) ≡ list_any is_negative (between (1024 * j) (1024 * (j + 1)) items)
 unfolding block_histogram
-block_signs t items j entries is fit = elim (cases_Bool (is_unsigned t)) [
-  | inl unsigned ↦ rw unsigned (sym (no_negatives t (padded_block items j) unsigned (padded_fit t items j fit)) ∙ padded_negative items j)
-  | inr signed ↦ rw signed (last_entry t (padded_block items j) entries is signed (padded_fit t items j fit) ∙ padded_negative items j)
-]
+block_signs t items j entries is fit = signs_counted t (padded_block items j) entries is (padded_fit t items j fit) ∙ padded_negative items j
 
 -- no item of one block more
 pub none_more : (items : List (Option ℤ)) (block : ℕ) → list_any is_negative (take (1024 * block) items) ≡ false → list_any is_negative (between (1024 * block) (1024 * (block + 1)) items) ≡ false

@@ -6,7 +6,7 @@ use Rattle.std.proofs.lemmas.List.FromFn.{fill_by_all, get_or-map-range_with_len
 use Rattle.std.proofs.lemmas.List.Sums.{count_by-le-length, sum_by_push, sum_by-append, sum_by-cons}
 use Rattle.fl_types.specs.declared.dtype.PType.{PType}
 use Rattle.fl_types.specs.Bits.{between}
-use Rattle.fl_types.specs.Integers.{bits_of_type, pattern_of}
+use Rattle.fl_types.specs.Integers.{bits_of_type, pattern_of, read_as}
 use Rattle.fl_patches.specs.Exceptions.{bit_count, bits_of_item, count_with_bits, histogram_of}
 use Rattle.std.proofs.Common.{IsTrue}
 use Rattle.fl_types.specs.Validities.{covers, items_of}
@@ -212,3 +212,7 @@ entry_of_run t xs a b n k entries is so =
     let few = entry_few t (between a b xs) entries k so in
     let most = length_between_few xs a b in
     omega arith
+
+-- a word as an item of a type
+abbrev pub word_value : {X : Type 0} → (X → ℕ) → PType → X → ℤ
+word_value pattern ptype word = read_as ptype (pattern word)

@@ -1,9 +1,9 @@
 -- The sign of an integer and the bits of its pattern.
-use Rattle.std.proofs.Common.{◌≡◌, ℕ, ℤ, pos, negsuc, suc, ◌+◌, ◌-◌, ◌<◌, ◌≤◌, ◌^◌, ◌%◌, ◌==◌, ◌||◌, Bool, true, false, cond, not, nat_lt, List, [], ◌∷◌, get_or, Option, Some, None, IsTrue, refl, ap, sym, ◌∙◌, inl, inr, arith, le_trans, lit≤, zero-add}
+use Rattle.std.proofs.Common.{◌≡◌, ℕ, ℤ, pos, negsuc, suc, ◌+◌, ◌-◌, ◌<◌, ◌≤◌, ◌^◌, ◌%◌, ◌==◌, ◌&&◌, ◌||◌, Bool, true, false, cond, not, nat_lt, List, [], ◌∷◌, get_or, Option, Some, None, IsTrue, refl, ap, sym, ◌∙◌, inl, inr, arith, le_trans, lit≤, zero-add}
 use Rattle.std.specs.Prelude.{int_lt}
 use Rattle.std.specs.List.{list_all, list_any}
 use Rattle.std.proofs.Math.Nat.{mod-eq_of_lt, pow-le-pow_right}
-use Rattle.std.proofs.lemmas.Bool.{cases_lt, eq-eqb, ne_eqb, le-ltb, lt-ltb}
+use Rattle.std.proofs.lemmas.Bool.{cases_Bool, cases_lt, eq-eqb, ne_eqb, le-ltb, lt-ltb}
 use Rattle.fl_types.specs.declared.dtype.PType.{PType}
 use Rattle.fl_types.specs.declared.dtype.PType.TheVariants.{U8, U16, U32, U64, I8, I16, I32, I64}
 use Rattle.fl_types.specs.Integers.{bits_of_type, fits, is_unsigned, pattern_of}
@@ -74,7 +74,7 @@ counts_either true n = lt-ltb 0 (1 + n) (omega arith)
 counts_either false n = ap (nat_lt 0) (zero-add n)
 
 -- a signed type's items of all bits are the negative ones
-pub negatives_counted : (t : PType) (items : List (Option ℤ)) → is_unsigned t ≡ false → IsTrue (list_all (option_all (fits t)) items) → nat_lt 0 (count_with_bits t items (bits_of_type t)) ≡ list_any is_negative items
+negatives_counted : (t : PType) (items : List (Option ℤ)) → is_unsigned t ≡ false → IsTrue (list_all (option_all (fits t)) items) → nat_lt 0 (count_with_bits t items (bits_of_type t)) ≡ list_any is_negative items
 negatives_counted t [] e fit = ap (nat_lt 0) (count_with_bits_none t (bits_of_type t))
 negatives_counted t (item ∷ items) e fit =
     let full : Bool = bits_of_item t item == bits_of_type t in
@@ -83,12 +83,19 @@ negatives_counted t (item ∷ items) e fit =
     ap (nat_lt 0) (count_cons t item items (bits_of_type t)) ∙ (counts_either full (count_with_bits t items (bits_of_type t)) ∙ (ap (λ b. full || b) rest ∙ ap (λ b. b || list_any is_negative items) (sym first)))
 
 -- an unsigned type has none
-pub no_negatives : (t : PType) (items : List (Option ℤ)) → is_unsigned t ≡ true → IsTrue (list_all (option_all (fits t)) items) → list_any is_negative items ≡ false
+no_negatives : (t : PType) (items : List (Option ℤ)) → is_unsigned t ≡ true → IsTrue (list_all (option_all (fits t)) items) → list_any is_negative items ≡ false
 no_negatives t [] e fit = refl
 no_negatives t (None ∷ items) e fit = no_negatives t items e fit
 no_negatives t (Some z ∷ items) e fit = rw (no_sign t z e (and_first (fits t z) (list_all (option_all (fits t)) items) fit)) (no_negatives t items e (and_second (fits t z) (list_all (option_all (fits t)) items) fit))
 
 -- the last entry of a histogram counts them
-pub last_entry : (t : PType) (items : List (Option ℤ)) (entries : List ℕ) → entries ≡ histogram_of t items → is_unsigned t ≡ false → IsTrue (list_all (option_all (fits t)) items) → nat_lt 0 (get_or entries (bits_of_type t) 0) ≡ list_any is_negative items
+last_entry : (t : PType) (items : List (Option ℤ)) (entries : List ℕ) → entries ≡ histogram_of t items → is_unsigned t ≡ false → IsTrue (list_all (option_all (fits t)) items) → nat_lt 0 (get_or entries (bits_of_type t) 0) ≡ list_any is_negative items
 last_entry t items entries is e fit =
     ap (nat_lt 0) (ap (λ xs. get_or xs (bits_of_type t) 0) is ∙ entry_at t items (bits_of_type t) (omega arith)) ∙ negatives_counted t items e fit
+
+-- so the last entry tells of them where the type is signed
+pub signs_counted : (t : PType) (items : List (Option ℤ)) (entries : List ℕ) → entries ≡ histogram_of t items → IsTrue (list_all (option_all (fits t)) items) → (not (is_unsigned t) && nat_lt 0 (get_or entries (bits_of_type t) 0)) ≡ list_any is_negative items
+signs_counted t items entries is fit = elim (cases_Bool (is_unsigned t)) [
+  | inl unsigned ↦ rw unsigned (sym (no_negatives t items unsigned fit))
+  | inr signed ↦ rw signed (last_entry t items entries is signed fit)
+]

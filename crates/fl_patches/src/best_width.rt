@@ -1,6 +1,6 @@
 //! The width of least cost.
 
-ghost use Rattle.std.specs.Prelude.{IfOk, ◌≡◌, ◌+◌, ◌*◌, ◌^◌, ◌<◌, ◌≤◌, length, sum};
+ghost use Rattle.std.specs.Prelude.{IfOk, ◌≡◌, ◌+◌, ◌*◌, ◌^◌, ◌<◌, ◌≤◌, ℕ, length, sum};
 ghost use Rattle.std.specs.Int.{div_ceil};
 ghost use Rattle.fl_patches.specs.Costs.{best_width, choose_width, count_above, exception_bytes};
 
@@ -73,6 +73,17 @@ pub(crate) fn least_cost(ptype: PType, histogram: &[usize]) -> u8
         }
     }
     best
+}
+
+/// The best width by a histogram, as `find_best_bit_width` chooses it, and how many items have more bits than that.
+pub fn best_of(ptype: PType, histogram: &[usize]) -> (u8, usize)
+    requires entries { length histogram.now ≤ 255 }
+    requires few { (width : ℕ) → count_above width histogram.now < 2 ^ 64 }
+    ensures width { result.0 ≡ best_width ptype histogram.now }
+    ensures exceptions { result.1 ≡ count_above result.0 histogram.now }
+{
+    let width = least_cost(ptype, histogram);
+    (width, count_exceptions(width, histogram))
 }
 
 /// The smallest width of least cost for the items of a histogram, below the number of entries, or 0

@@ -11,8 +11,8 @@ ghost use Rattle.fl_column.specs.Columns.{option_all};
 ghost use Rattle.fl_patches.specs.Costs.{CostLeast, best_width, block_histogram, choose_widths, chosen_widths, count_above};
 ghost use Rattle.fl_patches.specs.Exceptions.{is_negative};
 
-use crate::best_width::{count_exceptions, least_cost};
-use crate::histogram::{clear, count_items};
+use crate::best_width::best_of;
+use crate::histogram::{clear, count_items, counts_signs};
 use crate::patterns::type_bits;
 use fastlanes::FL_CHUNK_SIZE;
 use fl_column::laws::stored_integers_are_in_range;
@@ -59,7 +59,7 @@ pub fn has_negative_in_block<T: NativePType>(items: &[T], validity: &Validity, b
 }
 
 /// Whether one of these items is negative and not null.
-pub fn has_negative<T: NativePType>(items: &[T], validity: &Validity) -> bool
+fn has_negative_item<T: NativePType>(items: &[T], validity: &Validity) -> bool
     requires { IsTrue (covers validity.now (length items.now)) }
     ensures { result ≡ list_any is_negative (items_of validity.now (map T.value items.now)) }
 {
@@ -69,6 +69,21 @@ pub fn has_negative<T: NativePType>(items: &[T], validity: &Validity) -> bool
         }
     }
     false
+}
+
+fn has_negative_typed<T: NativePType>(array: &PrimitiveArray) -> bool
+    requires { array.now.ptype ≡ T.PTYPE }
+    ensures { result ≡ list_any is_negative (items_of array.now.validity array.now.slots) }
+{
+    let validity = array.validity();
+    has_negative_item(array.as_slice::<T>(), validity)
+}
+
+/// Whether an item of an array is negative and not null.
+pub fn has_negative(array: &PrimitiveArray) -> bool
+    ensures { result ≡ list_any is_negative (items_of array.now.validity array.now.slots) }
+{
+    match_each_integer_ptype!(array.ptype(), has_negative_typed(array))
 }
 
 /// Counts the items of a block by their bits, and those after the last item as nulls.
@@ -89,14 +104,6 @@ fn count_block<T: PhysicalPType>(
     entries[0] += FL_CHUNK_SIZE - (end - start);
 }
 
-/// Whether a histogram of a type counts items of all its bits where the type is signed: those are the negative ones.
-fn counts_signs<T: NativePType>(entries: &[usize]) -> bool
-    requires { length entries.now ≡ bits_of_type T.PTYPE + 1 }
-    ensures { result ≡ (not (is_unsigned T.PTYPE) && nat_lt 0 (slice_index entries.now (bits_of_type T.PTYPE))) }
-{
-    !T::PTYPE.is_unsigned() && entries[T::PTYPE.bit_width()] > 0
-}
-
 /// The best width of a block, and how many exceptions it leaves. The entries become its histogram.
 fn choose_width<T: PhysicalPType>(
     items: &[T],
@@ -112,9 +119,7 @@ fn choose_width<T: PhysicalPType>(
     ensures exceptions { result.1 ≡ count_above result.0 (block_histogram T.PTYPE (items_of validity.now (map T.value items.now)) block) }
 {
     count_block(items, validity, block, entries);
-    let width = least_cost(T::PTYPE, entries);
-    let exceptions = count_exceptions(width, entries);
-    (width, exceptions)
+    best_of(T::PTYPE, entries)
 }
 
 /// The best width of each block, and how many exceptions they leave. Negative items are found by the histograms, in
@@ -139,7 +144,7 @@ fn widths_of<T: PhysicalPType>(
     let mut total = 0;
     for block in 0..blocks {
         let (width, exceptions) = choose_width(items, validity, block, entries);
-        if counts_signs::<T>(entries) {
+        if counts_signs(T::PTYPE, entries) {
             return Err(FastLanesError::NegativeValue);
         }
         widths.push(width)?;

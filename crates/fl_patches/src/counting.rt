@@ -6,10 +6,12 @@
 ghost use Rattle.std.specs.Prelude.{◌≡◌, ◌+◌, ◌*◌, ◌<◌, ◌≤◌, ◌^◌, [], ℕ, ℤ, List, Option, None, Some, length, map, slice_index_or};
 ghost use Rattle.fl_types.specs.declared.dtype.PType.{PType};
 ghost use Rattle.fl_types.specs.Bits.{between};
+ghost use Rattle.fl_types.specs.Integers.{read_as};
 ghost use Rattle.fl_types.specs.Validities.{masked};
 ghost use Rattle.fl_patches.specs.Exceptions.{bits_of_item, histogram_of};
 
-use crate::patterns::bits_of;
+use crate::patterns::{bit_count, bits_of};
+use fastlanes::FastLanes;
 use fl_column::PhysicalPType;
 use fl_types::BitList;
 
@@ -46,6 +48,26 @@ impl<T: PhysicalPType> CountedItems for PresentItems<'_, T> {
 
     fn prove_few(&self) {
         let _len = self.items.len();
+    }
+}
+
+/// The words of items none of which is null.
+#[derive(Drop)]
+pub(crate) struct Words<'a, T: PhysicalPType> {
+    pub(crate) words: &'a [T::Physical],
+}
+
+impl<T: PhysicalPType> CountedItems for Words<'_, T> {
+    ghost PTYPE = { T.PTYPE };
+
+    ghost items = { λ p. map (λ z. Some z) (map (λ w. read_as T.PTYPE (T.Physical.pattern w)) p.words.now) };
+
+    fn bits_at(&self, i: usize) -> usize {
+        bit_count(self.words[i].to_u64())
+    }
+
+    fn prove_few(&self) {
+        let _len = self.words.len();
     }
 }
 

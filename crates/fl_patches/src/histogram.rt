@@ -1,19 +1,19 @@
 //! Histograms of the bits of items.
 
-ghost use Rattle.std.specs.Prelude.{◌≡◌, ◌+◌, ◌%◌, ◌≤◌, [], ℕ, IfOk, IsTrue, Ok, Some, length, map};
+ghost use Rattle.std.specs.Prelude.{◌≡◌, ◌+◌, ◌%◌, ◌≤◌, ◌&&◌, [], ℕ, IfOk, IsTrue, Ok, Some, length, map, nat_lt, not, slice_index};
 ghost use Rattle.std.specs.List.{list_any};
 ghost use Rattle.fl_types.specs.Bits.{between};
-ghost use Rattle.fl_types.specs.Integers.{bits_of_type};
+ghost use Rattle.fl_types.specs.Integers.{bits_of_type, is_unsigned, read_as};
 ghost use Rattle.fl_types.specs.Refusals.{Answers};
 ghost use Rattle.fl_types.specs.Validities.{covers, items_of, masked};
 ghost use Rattle.fl_patches.specs.Exceptions.{histogram_of, is_negative};
 
-use crate::counting::{MaskedItems, PresentItems, count_all};
+use crate::counting::{MaskedItems, PresentItems, Words, count_all};
 use crate::patterns::type_bits;
 use crate::{comparing, masking};
 use fl_column::laws::stored_integers_are_in_range;
 use fl_column::{PhysicalPType, PrimitiveArray};
-use fl_types::{BitList, FastLanesError, Validity, match_each_integer_ptype};
+use fl_types::{BitList, FastLanesError, PType, Validity, match_each_integer_ptype};
 use std::alloc::{AllocError, Global};
 
 /// Makes every entry 0.
@@ -46,6 +46,18 @@ fn count_present<T: PhysicalPType>(items: &[T], start: usize, end: usize, entrie
         comparing::count_all(items, start, end, entries);
     } else {
         count_all(&PresentItems { items }, start, end, entries);
+    }
+}
+
+/// Counts words by their bits: entry `b` becomes how many have `b` bits. Each is read as an item of the type.
+pub fn count_words<T: PhysicalPType>(words: &[T::Physical], entries: &mut [usize])
+    requires { length entries.old ≡ bits_of_type T.PTYPE + 1 }
+    ensures { entries.new ≡ histogram_of T.PTYPE (map (λ z. Some z) (map (λ w. read_as T.PTYPE (T.Physical.pattern w)) words.now)) }
+{
+    clear::<T>(entries);
+    match T::values_of(words) {
+        Some(integers) => count_present(integers, 0, integers.len(), entries),
+        None => count_all(&Words::<T> { words }, 0, words.len(), entries),
     }
 }
 
@@ -121,6 +133,14 @@ pub fn bit_width_histogram(
     match_each_integer_ptype!(array.ptype(), histogram_typed(alloc, array))
 }
 
+/// Whether a histogram of a type counts items of all its bits where the type is signed: those are the negative ones.
+pub fn counts_signs(ptype: PType, histogram: &[usize]) -> bool
+    requires { length histogram.now ≡ bits_of_type ptype + 1 }
+    ensures { result ≡ (not (is_unsigned ptype) && nat_lt 0 (slice_index histogram.now (bits_of_type ptype))) }
+{
+    !ptype.is_unsigned() && histogram[ptype.bit_width()] > 0
+}
+
 /// Whether an array's histogram counts an item that is negative and not null: it has all bits of a signed type,
 /// which no other item has.
 pub fn counts_negative(array: &PrimitiveArray, histogram: &[usize]) -> bool
@@ -128,9 +148,5 @@ pub fn counts_negative(array: &PrimitiveArray, histogram: &[usize]) -> bool
     ensures { result ≡ list_any is_negative (items_of array.now.validity array.now.slots) }
 {
     stored_integers_are_in_range(array);
-    let ptype = array.ptype();
-    if ptype.is_unsigned() {
-        return false;
-    }
-    histogram[ptype.bit_width()] > 0
+    counts_signs(array.ptype(), histogram)
 }

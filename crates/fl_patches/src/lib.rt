@@ -18,9 +18,10 @@ mod patterns;
 mod selection;
 pub mod widths;
 
-pub use crate::best_width::{count_exceptions, find_best_bit_width};
-pub use crate::block_widths::find_best_bit_widths;
+pub use crate::best_width::{best_of, count_exceptions, find_best_bit_width};
+pub use crate::block_widths::{find_best_bit_widths, has_negative};
 pub use crate::gathering::{BlockExceptions, Exceptions, gather_blocked_patches, gather_patches};
-pub use crate::histogram::{bit_width_histogram, counts_negative};
+pub use crate::histogram::{bit_width_histogram, count_words, counts_negative, counts_signs};
 pub use crate::patches::Patches;
+pub use crate::patterns::type_bits;
 pub use crate::widths::Widths;

@@ -24,7 +24,7 @@ pub(crate) fn bits_of<T: PhysicalPType>(item: T) -> usize
 }
 
 /// How many bits a value of the type has.
-pub(crate) fn type_bits<T: PhysicalPType>() -> usize
+pub fn type_bits<T: PhysicalPType>() -> usize
     ensures { result ≡ bits_of_type T.PTYPE }
 {
     T::PTYPE.bit_width()

@@ -1,18 +1,17 @@
 -- Items less the references of their blocks, block by block.
-use Rattle.std.proofs.Common.{◌≡◌, ℕ, ℤ, pos, ◌+◌, ◌-◌, ◌*◌, ◌/◌, ◌<◌, ◌≤◌, true, List, [], length, map, take, drop, get_or, set, min, Option, Some, None, option_map, refl, ap, sym, ◌∙◌, arith, inl, inr, zero-add}
-use Rattle.std.proofs.lemmas.Bool.{cases_lt}
-use Rattle.std.proofs.lemmas.List.{get_or-map, get_or-take, get_or-drop, length-map, length-take, length-drop, take_all}
+use Rattle.std.proofs.Common.{◌≡◌, ℕ, ℤ, pos, ◌+◌, ◌-◌, ◌*◌, ◌/◌, ◌<◌, Bool, true, false, cond, not, IsTrue, List, [], length, map, take, drop, get_or, min, Option, Some, None, is_none, option_map, refl, ap, sym, ◌∙◌, arith, zero-add}
+use Rattle.std.proofs.lemmas.List.{ext_get_or, get_or-map, get_or-take, get_or-drop, length-map, length-take, length-drop}
 use Rattle.std.proofs.lemmas.List.FromFn.{fill_by_all, get_or-map-range_with_len, length-map-range_with_len}
 use Rattle.std.specs.List.{list_all}
 use Rattle.fl_types.specs.declared.dtype.PType.{PType}
-use Rattle.fl_types.specs.Bits.{between, tabulate}
+use Rattle.fl_types.specs.declared.validity.Validity.{Validity}
 use Rattle.fl_types.specs.Integers.{fits, wrap}
+use Rattle.fl_types.specs.Validities.{covers, is_valid_at, items_of}
 use Rattle.fl_column.specs.Columns.{option_all}
+use Rattle.fl_column.proofs.ItemLaws.{get_or-items_of, length-items_of}
 use Rattle.fl_column.proofs.ListLaws.{all_at, all_from}
-use Rattle.fl_patches.specs.Costs.{block_histogram}
-use Rattle.fl_patches.specs.Exceptions.{histogram_of}
-use Rattle.fl_patches.proofs.Histograms.{histogram_nulls}
-use Rattle.fl_statistics.specs.Differences.{difference, less_references}
+use Rattle.fl_codec.specs.Chunks.{chunk}
+use Rattle.fl_statistics.specs.Differences.{difference, less_references, slot_of}
 use Rattle.fl_statistics.proofs.Signs.{difference_fits, fitting, minus_none}
 
 pub length-less : (t : PType) (one : ℤ) (references : List ℤ) (items : List (Option ℤ)) → length (less_references t one references items) ≡ length items
@@ -23,68 +22,73 @@ pub get_or-less : (t : PType) (one : ℤ) (references : List ℤ) (items : List 
 unfolding less_references
 get_or-less t one references items i h = get_or-map-range_with_len (λ k. option_map (difference t (get_or references (k / 1024) one)) (get_or items k None)) 0 (length items) i i None h (zero-add i)
 
--- the difference at a place, by the reference and the item that are read
-pub difference_read : (t : PType) (one : ℤ) (references : List ℤ) (items : List (Option ℤ)) (i : ℕ) (reference : ℤ) (item made : Option ℤ) → i < length items → reference ≡ get_or references (i / 1024) one → item ≡ get_or items i None → made ≡ option_map (difference t reference) item
-    → made ≡ get_or (less_references t one references items) i None
-difference_read t one references items i reference item made h is read so =
-    so ∙ (ap (λ r. option_map (difference t r) item) is ∙ (ap (option_map (difference t (get_or references (i / 1024) one))) read ∙ sym (get_or-less t one references items i h)))
-
 -- ---- one block
--- a part item by item
-part_by : {A : Type 0} (f : ℕ → A) (xs : List A) (start end : ℕ) (d : A) → start ≤ end → end ≤ length xs → ((i : ℕ) → i < end - start → get_or xs (start + i) d ≡ f i) → between start end xs ≡ tabulate f (end - start)
-part_by f xs start end d order within each =
-    fill_by_all f (between start end xs) (end - start) d (omega (arith, length-take (end - start) (drop start xs), length-drop start xs))
-    (λ i h. get_or-take (end - start) (drop start xs) i d h ∙ (get_or-drop start xs i d ∙ each i h))
+-- an item of a block
+pub chunk_read : (items : List (Option ℤ)) (block q : ℕ) → q < 1024 → get_or (chunk block items) q None ≡ get_or items (1024 * block + q) None
+chunk_read items block q h = get_or-take (1024 * (block + 1) - 1024 * block) (drop (1024 * block) items) q None (omega arith) ∙ get_or-drop (1024 * block) items q None
 
--- in a block all items have one reference
-pub less_in_block : (t : PType) (one : ℤ) (references : List ℤ) (items : List (Option ℤ)) (block start end : ℕ) (reference : ℤ) → start ≡ 1024 * block → end ≤ 1024 * (block + 1) → start ≤ end → end ≤ length items → reference ≡ get_or references block one
-    → map (option_map (difference t reference)) (between start end items) ≡ between start end (less_references t one references items)
-less_in_block t one references items block start end reference starts ends order within is =
-    let turn : Option ℤ → Option ℤ = option_map (difference t reference) in
+pub length-chunk : (items : List (Option ℤ)) (block : ℕ) → length (chunk block items) ≡ min (length items - 1024 * block) 1024
+length-chunk items block = omega (arith, length-take (1024 * (block + 1) - 1024 * block) (drop (1024 * block) items), length-drop (1024 * block) items)
+
+-- ---- nulls
+turned_null : (f : ℤ → ℤ) (item : Option ℤ) → is_none (option_map f item) ≡ is_none item
+turned_null f None = refl
+turned_null f (Some z) = refl
+
+-- a null stays a null
+less_null : (t : PType) (one : ℤ) (references : List ℤ) (items : List (Option ℤ)) (i : ℕ) → i < length items → is_none (get_or (less_references t one references items) i None) ≡ is_none (get_or items i None)
+less_null t one references items i h = ap is_none (get_or-less t one references items i h) ∙ turned_null (difference t (get_or references (i / 1024) one)) (get_or items i None)
+
+null_by : (b : Bool) (z : ℤ) → not b ≡ is_none (cond b (Some z) None)
+null_by true z = refl
+null_by false z = refl
+
+-- an item is null where it is not valid
+item_null : (v : Validity) (slots : List ℤ) (i : ℕ) → IsTrue (covers v (length slots)) → i < length slots → not (is_valid_at v i) ≡ is_none (get_or (items_of v slots) i None)
+item_null v slots i covered h = null_by (is_valid_at v i) (get_or slots i (pos 0)) ∙ ap is_none (sym (get_or-items_of v slots i (pos 0) covered h))
+
+-- the same in a block
+pub null_read : (t : PType) (one : ℤ) (references : List ℤ) (v : Validity) (slots : List ℤ) (block q : ℕ) → IsTrue (covers v (length slots)) → q < 1024 → 1024 * block + q < length slots
+    → is_none (get_or (chunk block (less_references t one references (items_of v slots))) q None) ≡ not (is_valid_at v (1024 * block + q))
+null_read t one references v slots block q covered inside h =
+    let items = items_of v slots in
+    let count : length items ≡ length slots = length-items_of v slots covered in
+    ap is_none (chunk_read (less_references t one references items) block q inside)
+    ∙ (less_null t one references items (1024 * block + q) (omega arith) ∙ sym (item_null v slots (1024 * block + q) covered h))
+
+kept_slot : (b : Bool) (f : ℤ → ℤ) (z : ℤ) → cond b (f z) (pos 0) ≡ slot_of (option_map f (cond b (Some z) None))
+kept_slot true f z = refl
+kept_slot false f z = refl
+
+-- what is written of a block, less its reference, with 0 in the place of a null
+pub slots_of_block : (t : PType) (one : ℤ) (references : List ℤ) (v : Validity) (slots written less cleared : List ℤ) (block count : ℕ) (reference : ℤ) → IsTrue (covers v (length slots)) → 1024 * block < length slots → count ≡ min (length slots - 1024 * block) 1024
+    → reference ≡ get_or references block one → length cleared ≡ 1024
+    → ((q : ℕ) → q < 1024 → 1024 * block + q < length slots → get_or written q (pos 0) ≡ get_or slots (1024 * block + q) (pos 0))
+    → ((q : ℕ) → q < 1024 → get_or less q (pos 0) ≡ difference t reference (get_or written q (pos 0)))
+    → ((q : ℕ) → q < count → get_or cleared q (pos 0) ≡ cond (is_valid_at v (1024 * block + q)) (get_or less q (pos 0)) (pos 0))
+    → take count cleared ≡ map slot_of (chunk block (less_references t one references (items_of v slots)))
+slots_of_block t one references v slots written less cleared block count reference covered begun counted is whole writes subtracts clears =
+    let items = items_of v slots in
     let all = less_references t one references items in
-    let long = length-less t one references items in
-    let size : length (between start end items) ≡ end - start = omega (arith, length-take (end - start) (drop start items), length-drop start items) in
-    let here : map turn (between start end items) ≡ tabulate (λ i. turn (get_or items (start + i) None)) (end - start) =
-    fill_by_all (λ i. turn (get_or items (start + i) None)) (map turn (between start end items)) (end - start) None (length-map (between start end items) turn ∙ size)
-    (λ i h. get_or-map turn (between start end items) i None None (omega arith) ∙ ap turn (get_or-take (end - start) (drop start items) i None h ∙ get_or-drop start items i None)) in
-    let there : between start end all ≡ tabulate (λ i. turn (get_or items (start + i) None)) (end - start) =
-    part_by (λ i. turn (get_or items (start + i) None)) all start end None order (omega arith)
-    (λ i h.
-    let place : (start + i) / 1024 ≡ block = omega arith in
-    get_or-less t one references items (start + i) (omega arith) ∙ ap (λ r. option_map (difference t r) (get_or items (start + i) None)) (ap (λ k. get_or references k one) place ∙ sym is)) in
-    here ∙ sym there
-
--- the items to the end of a block, which may be short
-to_block_end : {A : Type 0} (xs : List A) (j size : ℕ) → size ≡ min (length xs - 1024 * j) 1024 → between (1024 * j) (1024 * j + size) xs ≡ between (1024 * j) (1024 * (j + 1)) xs
-to_block_end xs j size sized =
-    let this : 1024 * j + size - 1024 * j ≡ size = omega arith in
-    let that : 1024 * (j + 1) - 1024 * j ≡ 1024 = omega arith in
-    let long = length-drop (1024 * j) xs in
-    rw (this, that) (elim (cases_lt (length (drop (1024 * j) xs)) 1024) [
-      | inl short ↦ take_all size (drop (1024 * j) xs) (omega arith) ∙ sym (take_all 1024 (drop (1024 * j) xs) (omega arith))
-      | inr whole ↦ (let full : size ≡ 1024 = omega arith in ap (λ n. take n (drop (1024 * j) xs)) full)
-    ])
-
--- a block's items and the nulls after them
-pub block_counted : (t : PType) (items : List (Option ℤ)) (j start end had : ℕ) (entries : List ℕ) → 1024 * j < length items → start ≡ 1024 * j → end ≡ min (1024 * (j + 1)) (length items)
-    → entries ≡ histogram_of t (between start end items) → had ≡ get_or entries 0 0 → set entries 0 (had + (1024 - (end - start))) ≡ block_histogram t items j
-unfolding block_histogram
-block_counted t items j start end had entries begun start_is end_is is was =
-    let size = end - start in
-    let sized : size ≡ min (length items - 1024 * j) 1024 = omega arith in
-    let ends : end ≡ 1024 * j + size = omega arith in
-    let block = between (1024 * j) (1024 * (j + 1)) items in
-    let part : between start end items ≡ between (1024 * j) (1024 * j + size) items = ap (λ from. between from end items) start_is ∙ ap (λ to. between (1024 * j) to items) ends in
-    let so : entries ≡ histogram_of t block = is ∙ ap (histogram_of t) (part ∙ to_block_end items j size sized) in
-    let full : length block ≡ size = omega (arith, length-take (1024 * (j + 1) - 1024 * j) (drop (1024 * j) items), length-drop (1024 * j) items) in
-    let rest : 1024 - size ≡ 1024 - length block = ap (λ n. 1024 - n) (sym full) in
-    rw rest (histogram_nulls t block entries (1024 - length block) had so was)
-
--- the items of a block that are counted less its reference
-pub counted_less : (t : PType) (one : ℤ) (references : List ℤ) (items : List (Option ℤ)) (block start end : ℕ) (reference : ℤ) (entries : List ℕ) → 1024 * block < length items → start ≡ 1024 * block → end ≡ min (1024 * (block + 1)) (length items) → reference ≡ get_or references block one
-    → entries ≡ histogram_of t (map (option_map (difference t reference)) (between start end items)) → entries ≡ histogram_of t (between start end (less_references t one references items))
-counted_less t one references items block start end reference entries begun starts ends is counted =
-    counted ∙ ap (histogram_of t) (less_in_block t one references items block start end reference starts (omega arith) (omega arith) (omega arith) is)
+    let long : length items ≡ length slots = length-items_of v slots covered in
+    let same : length all ≡ length items = length-less t one references items in
+    let size : length (chunk block all) ≡ count = length-chunk all block ∙ omega arith in
+    let taken : length (take count cleared) ≡ count = omega (arith, length-take count cleared) in
+    ext_get_or (pos 0) (take count cleared) (map slot_of (chunk block all)) (taken ∙ sym (length-map (chunk block all) slot_of ∙ size))
+    (λ q h.
+    let inside : q < count = omega arith in
+    let i = 1024 * block + q in
+    let valid : Bool = is_valid_at v i in
+    let place : i / 1024 ≡ block = omega arith in
+    let turn : ℤ → ℤ = difference t reference in
+    let z = get_or slots i (pos 0) in
+    let left : get_or (take count cleared) q (pos 0) ≡ cond valid (turn z) (pos 0) =
+    get_or-take count cleared q (pos 0) inside ∙ (clears q inside ∙ ap (λ y. cond valid y (pos 0)) (subtracts q (omega arith) ∙ ap turn (writes q (omega arith) (omega arith)))) in
+    let item : get_or (chunk block all) q None ≡ option_map turn (cond valid (Some z) None) =
+    chunk_read all block q (omega arith) ∙ (get_or-less t one references items i (omega arith)
+    ∙ (ap (λ r. option_map (difference t r) (get_or items i None)) (ap (λ k. get_or references k one) place ∙ sym is)
+    ∙ ap (option_map turn) (get_or-items_of v slots i (pos 0) covered (omega arith)))) in
+    left ∙ (kept_slot valid turn z ∙ sym (get_or-map slot_of (chunk block all) q None (pos 0) (omega arith) ∙ ap slot_of item)))
 
 -- ---- all items
 one_less_none : (t : PType) (item : Option ℤ) → option_all (fits t) item ≡ true → option_map (difference t (pos 0)) item ≡ item

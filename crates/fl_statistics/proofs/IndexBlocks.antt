@@ -1,14 +1,15 @@
 -- Run indices of an array, chunk by chunk.
-use Rattle.std.proofs.Common.{◌≡◌, ℕ, ℤ, pos, ◌+◌, ◌-◌, ◌*◌, ◌<◌, ◌≤◌, Bool, true, false, cond, List, [], ◌∷◌, ◌++◌, drop, length, map, get_or, suc, zero, replicate, Option, Some, None, option_map, IsTrue, refl, ap, sym, subst, ◌∙◌, arith, inl, inr}
+use Rattle.std.proofs.Common.{◌≡◌, ℕ, ℤ, pos, ◌+◌, ◌-◌, ◌*◌, ◌<◌, ◌≤◌, ◌^◌, Bool, true, false, cond, List, [], ◌++◌, drop, length, map, get_or, suc, zero, replicate, Some, None, IsTrue, refl, ap, sym, subst, ◌∙◌, arith, inl, inr}
 use Rattle.std.specs.Prelude.{◌⊎◌}
 use Rattle.std.specs.List.{list_all}
+use Rattle.std.proofs.Math.Nat.{mod-eq_of_lt}
 use Rattle.std.proofs.lemmas.List.{get_or-append_right, get_or_append_left, get_or-map, length-drop, length-map, length-take}
+use Rattle.fl_types.specs.declared.dtype.PType.{PType}
 use Rattle.fl_types.specs.declared.dtype.PType.TheVariants.{U16}
 use Rattle.fl_types.specs.declared.validity.Validity.TheVariants as valid
-use Rattle.fl_types.specs.Integers.{fits}
+use Rattle.fl_types.specs.Integers.{fits, read_as}
 use Rattle.fl_types.specs.Validities.{covers, is_valid_at, items_of}
 use Rattle.fl_column.specs.Columns.{PrimitiveParts, option_all}
-use Rattle.fl_column.specs.Queries.{are_constant}
 use Rattle.fl_column.proofs.ItemLaws.{get_or-items_of, length-items_of}
 use Rattle.fl_codec.specs.Chunks.{chunk, chunks_of}
 use Rattle.fl_codec.specs.Parts.{encode_runs}
@@ -16,9 +17,9 @@ use Rattle.fl_codec.specs.Runs.{run_validity}
 use Rattle.fl_codec.proofs.DeltaRoundTrips.{items_fit}
 use Rattle.fl_codec.proofs.RunIndices.{indices_fit, length-indices}
 use Rattle.fl_codec.proofs.RunLaws.{covers-run_validity}
-use Rattle.fl_codec.proofs.Tables.{get_or-between, map-between}
-use Rattle.fl_statistics.specs.Differences.{difference, indices_of, less_references}
-use Rattle.fl_statistics.proofs.Differences.{get_or-less, length-less, less_in_block, less_none}
+use Rattle.fl_codec.proofs.Tables.{get_or-between}
+use Rattle.fl_statistics.specs.Differences.{indices_of, less_references}
+use Rattle.fl_statistics.proofs.Differences.{less_none}
 
 pub indices_cover : (p : PrimitiveParts) → IsTrue (covers p.validity (length p.slots)) → IsTrue (covers (encode_runs p).indices.validity (length (encode_runs p).indices.slots))
 indices_cover p h =
@@ -76,41 +77,19 @@ pub position_read : (p : PrimitiveParts) (k q : ℕ) (positions : List ℕ) (ind
 position_read p k q positions index written h place is =
     ap (λ n. pos n) is ∙ (sym (get_or-map (λ n. pos n) positions q index (pos 0) h) ∙ (ap (λ zs. get_or zs q (pos 0)) written ∙ get_or-between (encode_runs p).indices.slots (1024 * k) (1024 * (k + 1)) q (pos 0) (omega arith)))
 
--- less its reference
-pub less_indices : (p : PrimitiveParts) (one : ℤ) (references : List ℤ) (k : ℕ) (reference : ℤ) → IsTrue (covers p.validity (length p.slots)) → k < chunks_of (length p.slots) → reference ≡ get_or references k one
-    → map (option_map (difference U16 reference)) (chunk k (indices_of p)) ≡ chunk k (less_references U16 one references (indices_of p))
-less_indices p one references k reference covered within is =
-    let size = length-indices_of p covered in
-    less_in_block U16 one references (indices_of p) k (1024 * k) (1024 * (k + 1)) reference refl (omega arith) (omega arith) (omega arith) is
-
 -- less 0 they are themselves
 pub less_zero_indices : (p : PrimitiveParts) → IsTrue (covers p.validity (length p.slots)) → less_references U16 (pos 0) [] (indices_of p) ≡ indices_of p
 less_zero_indices p covered = less_none U16 (indices_of p) (indices_of_fit p covered)
-
--- the first of them, less its reference
-pub first_index : (p : PrimitiveParts) (one : ℤ) (references : List ℤ) (reference : ℤ) (item made : Option ℤ) → IsTrue (covers p.validity (length p.slots)) → 0 < chunks_of (length p.slots) → reference ≡ get_or references 0 one → item ≡ get_or (chunk 0 (indices_of p)) 0 None → made ≡ option_map (difference U16 reference) item
-    → get_or (less_references U16 one references (indices_of p)) 0 None ≡ made
-first_index p one references reference item made covered some is read so =
-    let size = length-indices_of p covered in
-    let here : item ≡ get_or (indices_of p) 0 None = read ∙ get_or-between (indices_of p) (1024 * 0) (1024 * (0 + 1)) 0 None (omega arith) in
-    get_or-less U16 one references (indices_of p) 0 (omega arith) ∙ (ap (λ r. option_map (difference U16 r) (get_or (indices_of p) 0 None)) (sym is) ∙ (ap (option_map (difference U16 reference)) (sym here) ∙ sym so))
-
-pub length-less_indices : (p : PrimitiveParts) (one : ℤ) (references : List ℤ) → IsTrue (covers p.validity (length p.slots)) → length (less_references U16 one references (indices_of p)) ≡ 1024 * chunks_of (length p.slots)
-length-less_indices p one references covered = length-less U16 one references (indices_of p) ∙ length-indices_of p covered
-
-pub are_full : (p : PrimitiveParts) → (p.validity ≡ valid.NonNullable) ⊎ (p.validity ≡ valid.AllValid) → indices_of p ≡ map (λ z. Some z) (encode_runs p).indices.slots
-are_full p (inl e) = ap (λ v. items_of (run_validity v (length p.slots) (1024 * chunks_of (length p.slots))) (encode_runs p).indices.slots) e
-are_full p (inr e) = ap (λ v. items_of (run_validity v (length p.slots) (1024 * chunks_of (length p.slots))) (encode_runs p).indices.slots) e
-
--- a chunk of them, where none is null
-pub full_chunk : (p : PrimitiveParts) (k : ℕ) (made : List ℤ) → indices_of p ≡ map (λ z. Some z) (encode_runs p).indices.slots → made ≡ chunk k (encode_runs p).indices.slots → map (λ z. Some z) made ≡ chunk k (indices_of p)
-full_chunk p k made full written = ap (map (λ z. Some z)) written ∙ (map-between (λ z. Some z) (encode_runs p).indices.slots (1024 * k) (1024 * (k + 1)) ∙ ap (chunk k) (sym full))
 
 pub length-index_chunk : (p : PrimitiveParts) (k : ℕ) → IsTrue (covers p.validity (length p.slots)) → k < chunks_of (length p.slots) → length (chunk k (indices_of p)) ≡ 1024
 length-index_chunk p k covered within =
     omega (arith, length-indices_of p covered, length-take (1024 * (k + 1) - 1024 * k) (drop (1024 * k) (indices_of p)), length-drop (1024 * k) (indices_of p))
 
--- no items are equal
-pub constant_none : (items : List (Option ℤ)) → length items ≡ 0 → are_constant items ≡ true
-constant_none [] e = refl
-constant_none (x ∷ items) e = absurd (omega arith)
+-- as a word of the type
+pub index_word : (t : PType) (n : ℕ) → t ≡ U16 → n < 2 ^ 16 → read_as t n ≡ pos n
+index_word t n e small = ap (λ u. read_as u n) e ∙ ap pos (mod-eq_of_lt small)
+
+-- those of a column without nulls are not null
+pub are_full : (p : PrimitiveParts) → (p.validity ≡ valid.NonNullable) ⊎ (p.validity ≡ valid.AllValid) → indices_of p ≡ map (λ z. Some z) (encode_runs p).indices.slots
+are_full p (inl e) = ap (λ v. items_of (run_validity v (length p.slots) (1024 * chunks_of (length p.slots))) (encode_runs p).indices.slots) e
+are_full p (inr e) = ap (λ v. items_of (run_validity v (length p.slots) (1024 * chunks_of (length p.slots))) (encode_runs p).indices.slots) e

@@ -1,7 +1,9 @@
 pub mod Counts
+pub mod FirstItems
 pub mod Signs
 pub mod WidthTotals
 pub mod Differences
 pub mod DeltaBlocks
 pub mod IndexBlocks
 pub mod IndexLeasts
+pub mod Slots

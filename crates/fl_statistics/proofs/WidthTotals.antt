@@ -1,5 +1,5 @@
 -- Totals over the best widths of blocks, one block at a time.
-use Rattle.std.proofs.Common.{◌≡◌, ℕ, ℤ, ◌+◌, ◌*◌, ◌≤◌, ◌<◌, ◌==◌, ◌&&◌, Bool, true, false, not, nat_lt, List, [], ◌∷◌, ◌++◌, length, get_or, min, sum, Option, refl, ap, sym, ◌∙◌, arith}
+use Rattle.std.proofs.Common.{◌≡◌, ℕ, ℤ, ◌+◌, ◌*◌, ◌≤◌, ◌<◌, ◌==◌, ◌&&◌, Bool, true, false, not, nat_lt, List, [], ◌∷◌, ◌++◌, length, get_or, sum, Option, refl, ap, sym, ◌∙◌, arith}
 use Rattle.std.specs.List.{list_all, list_any}
 use Rattle.std.proofs.lemmas.List.{take_all}
 use Rattle.std.proofs.lemmas.List.Folds.{list_all-append}
@@ -11,13 +11,13 @@ use Rattle.fl_column.specs.Chunks.{chunk_count}
 use Rattle.fl_column.specs.Columns.{option_all}
 use Rattle.fl_patches.specs.Costs.{best_width, best_widths, block_histogram, count_above, first_widths}
 use Rattle.fl_patches.specs.Exceptions.{exception_count, histogram_of, is_negative, width_of_block}
-use Rattle.fl_patches.proofs.Blocks.{take_to_block}
 use Rattle.fl_patches.proofs.LeastTotals.{chosen_after, exceptions_few, exceptions_more, exceptions_to, widths_more}
 use Rattle.fl_statistics.specs.BitStatistics.{bit_statistics}
 use Rattle.fl_statistics.specs.declared.widths.WidthTotals.{WidthTotals}
 use Rattle.fl_statistics.specs.WidthTotals.{AreWidthTotals}
-use Rattle.fl_statistics.proofs.Counts.{entry_at, first_part}
-use Rattle.fl_statistics.proofs.Signs.{negative_by_bits}
+use Rattle.fl_patches.proofs.Histograms.{entry_at}
+use Rattle.fl_patches.proofs.Signs.{signs_counted}
+use Rattle.fl_statistics.proofs.Counts.{first_part}
 
 next_widths : (t : PType) (items : List (Option ℤ)) (block w : ℕ) → w ≡ best_width t (block_histogram t items block) → first_widths t items block ++ w ∷ [] ≡ first_widths t items (block + 1)
 next_widths t items block w best = widths_more t items block w (first_widths t items block) (first_widths t items block ++ w ∷ []) best refl refl
@@ -39,22 +39,6 @@ native_more t items block w native last best so is =
     let f : ℕ → Bool = λ width. width == bits_of_type t in
     ap (λ a. a && last) so ∙ (ap (λ b. list_all f (first_widths t items block) && b) is ∙ (sym (all_push f (first_widths t items block) w) ∙ ap (list_all f) (next_widths t items block w best)))
 
--- where they are so far
-pub native_then : (t : PType) (items : List (Option ℤ)) (block w v bits : ℕ) (native now : Bool) → w ≡ best_width t (block_histogram t items block) → native ≡ list_all (λ width. width == bits_of_type t) (first_widths t items block) → native ≡ true → now ≡ (v == bits) → v ≡ w → bits ≡ bits_of_type t
-    → now ≡ list_all (λ width. width == bits_of_type t) (first_widths t items (block + 1))
-native_then t items block w v bits native now best so all is same room =
-    is ∙ (ap (λ b. b && (v == bits)) (sym all) ∙ native_more t items block w native (v == bits) best so (ap (λ n. n == bits) same ∙ ap (λ n. w == n) room))
-
--- where one is not
-pub native_else : (t : PType) (items : List (Option ℤ)) (block w : ℕ) (native now : Bool) → w ≡ best_width t (block_histogram t items block) → native ≡ list_all (λ width. width == bits_of_type t) (first_widths t items block) → native ≡ false → now ≡ false
-    → now ≡ list_all (λ width. width == bits_of_type t) (first_widths t items (block + 1))
-native_else t items block w native now best so other is =
-    is ∙ (ap (λ b. b && (w == bits_of_type t)) (sym other) ∙ native_more t items block w native (w == bits_of_type t) best so refl)
-
--- the items to the end of a block
-pub to_block : {A : Type 0} (items : List A) (block start end : ℕ) → start ≡ 1024 * block → end ≡ min (1024 * (block + 1)) (length items) → 1024 * block ≤ length items → between 0 end items ≡ between 0 (1024 * (block + 1)) items
-to_block items block start end starts ends begun = first_part items end ∙ (take_to_block items block end begun (omega arith) ∙ sym (first_part items (1024 * (block + 1))))
-
 -- ---- the answer
 pub statistics_are : (t : PType) (items : List (Option ℤ)) (blocks width exceptions widths block_exceptions bits : ℕ) (all : List ℕ) (native negative : Bool) → list_all (option_all (fits t)) items ≡ true → negative ≡ (not (is_unsigned t) && nat_lt 0 (get_or all bits 0)) → blocks ≡ chunk_count (length items) → bits ≡ bits_of_type t → all ≡ histogram_of t (between 0 (1024 * blocks) items)
     → width ≡ best_width t all → exceptions ≡ count_above width all → widths ≡ sum (first_widths t items blocks) → block_exceptions ≡ exceptions_to t items blocks → native ≡ list_all (λ w. w == bits_of_type t) (first_widths t items blocks)
@@ -65,7 +49,7 @@ statistics_are t items blocks width exceptions widths block_exceptions bits all 
     let chosen = chosen_after t items blocks (first_widths t items blocks) block_exceptions last refl left in
     let lost : block_exceptions ≡ exception_count t (width_of_block (best_widths t items)) items = ap (λ c. c.exceptions) chosen in
     let entry = ap (λ n. get_or all n 0) room ∙ (ap (λ es. get_or es (bits_of_type t) 0) whole ∙ entry_at t items (bits_of_type t) (omega arith)) in
-    let below : negative ≡ list_any is_negative items = wide ∙ (ap (λ n. not (is_unsigned t) && nat_lt 0 n) entry ∙ sym (negative_by_bits t items fit)) in
+    let below : negative ≡ list_any is_negative items = wide ∙ (ap (λ n. not (is_unsigned t) && nat_lt 0 (get_or all n 0)) room ∙ signs_counted t items all whole fit) in
     rw (below, entry, lost, natives, sums, out, best, whole, last) refl
   where
     all_items : between 0 (1024 * blocks) items ≡ items

@@ -1,8 +1,8 @@
 -- Items less references.
-use Rattle.std.specs.Prelude.{◌/◌, ◌-ℤ◌, ℤ, List, length, Option, None, option_map, slice_index_or}
+use Rattle.std.specs.Prelude.{◌/◌, ◌-ℤ◌, ℕ, ℤ, List, length, map, Option, None, option_map, pos, slice_index_or, unwrap_or}
 use Rattle.fl_types.specs.declared.dtype.PType.{PType}
 use Rattle.fl_types.specs.Bits.{tabulate}
-use Rattle.fl_types.specs.Integers.{wrap}
+use Rattle.fl_types.specs.Integers.{read_as, wrap}
 use Rattle.fl_column.specs.Columns.{PrimitiveParts}
 use Rattle.fl_codec.specs.Parts.{compress_deltas, encode_runs, items_of_primitive}
 
@@ -22,3 +22,11 @@ deltas_of p = items_of_primitive (compress_deltas p).1
 -- the run indices of an array, null where it is
 abbrev pub indices_of : PrimitiveParts → List (Option ℤ)
 indices_of p = items_of_primitive (encode_runs p).indices
+
+-- the integer of an item, 0 of a null
+abbrev pub slot_of : Option ℤ → ℤ
+slot_of item = unwrap_or item (pos 0)
+
+-- words, each read as an integer of a type
+abbrev pub read_words : {X : Type 0} → (X → ℕ) → PType → List X → List ℤ
+read_words pattern ptype words = map (λ word. read_as ptype (pattern word)) words

@@ -2,97 +2,98 @@
 
 pub mod leasts;
 
-ghost use Rattle.std.specs.Prelude.{◌≡◌, ◌*◌, ◌+◌, ◌<◌, None, length, map, option_map, pos, slice_index_or, Some};
-ghost use Rattle.std.specs.List.{list_all};
+ghost use Rattle.std.specs.Prelude.{◌≡◌, ◌*◌, ◌<◌, ℕ, length, map, not, pos, refl, slice_index_or};
 ghost use Rattle.fl_types.specs.declared.dtype.PType.TheVariants.{U16};
-ghost use Rattle.fl_column.specs.Queries.{are_constant, same_item};
-ghost use Rattle.fl_patches.specs.Exceptions.{histogram_of};
-ghost use Rattle.fl_codec.specs.Chunks.{chunk, chunks_of};
+ghost use Rattle.fl_types.specs.Integers.{read_as};
+ghost use Rattle.fl_types.specs.Validities.{is_valid_at};
+ghost use Rattle.fl_column.specs.Queries.{are_constant};
+ghost use Rattle.fl_codec.specs.Chunks.{chunks_of};
 ghost use Rattle.fl_codec.specs.Parts.{encode_runs};
 ghost use Rattle.fl_statistics.specs.BitStatistics.{bit_statistics};
-ghost use Rattle.fl_statistics.specs.Differences.{difference, indices_of, less_references};
+ghost use Rattle.fl_statistics.specs.Differences.{indices_of, less_references, read_words};
 
-use crate::constants::{difference, is_same_item};
-use crate::counting::{add_entries, clear, count_present, count_slot};
-use crate::widths::{BitStatistics, add_block, no_totals, prove_few, reference_of, statistics_by};
-use fastlanes::FL_CHUNK_SIZE;
+use crate::constants::is_constant;
+use crate::sources::{BlockSource, References};
+use crate::widths::{BitStatistics, prove_few, statistics_of};
+use fastlanes::{FL_CHUNK_SIZE, FastLanes};
 use fl_codec::rle::blocks::write_indices;
-use fl_column::{PrimitiveArray, chunk_count};
-use fl_types::{NativePType, PValue, Validity};
+use fl_column::{PhysicalPType, PrimitiveArray, chunk_count};
+use fl_types::{NativePType, Validity};
+use num_traits::WrappingSub;
 
-/// The run index at position `q` of chunk `k`, or `None` where it is null: where the array is, and in the padding where its
-/// validity has a bit for each item or none is valid.
-pub(crate) fn index_item(array: &PrimitiveArray, k: usize, q: usize, index: u16) -> Option<u16>
-    requires chunk { k < chunks_of (length array.now.slots) }
-    requires position { q < 1024 }
-    requires index { pos index ≡ slice_index_or (encode_runs array.now).indices.slots (1024 * k + q) (pos 0) }
-    ensures { option_map (λ n. pos n) result ≡ slice_index_or (chunk k (indices_of array.now)) q None }
-{
-    prove_few(array);
-    let i = FL_CHUNK_SIZE * k + q;
-    match array.validity() {
-        Validity::NonNullable | Validity::AllValid => Some(index),
-        Validity::AllInvalid => None,
-        Validity::Array(bits) => {
-            if i < bits.len() && bits.get(i) {
-                Some(index)
-            } else {
-                None
-            }
-        }
-    }
-}
-
-/// Counts the run indices of chunk `k` minus a reference by their bits, each of which may be null.
-fn count_valid(
-    array: &PrimitiveArray,
-    k: usize,
-    positions: &[u16],
-    reference: u16,
-    entries: &mut [usize],
-)
-    requires chunk { k < chunks_of (length array.now.slots) }
-    requires written { map (λ n. pos n) positions.now ≡ chunk k (encode_runs array.now).indices.slots }
-    requires room { length entries.old ≡ 17 }
-    ensures { entries.new ≡ histogram_of U16 (map (option_map (difference U16 (pos reference))) (chunk k (indices_of array.now))) }
-{
-    let _validity = array.validity();
-    clear::<u16>(entries);
-    for q in 0..positions.len() {
-        let item = index_item(array, k, q, positions[q]);
-        count_slot(entries, item, reference);
-    }
-}
-
-/// Counts the run indices of chunk `k` minus a reference by their bits: entry `b` is how many have `b` bits. A null has none.
-fn count_indices(
-    array: &PrimitiveArray,
-    k: usize,
-    positions: &[u16],
-    reference: u16,
-    entries: &mut [usize],
-)
-    requires chunk { k < chunks_of (length array.now.slots) }
-    requires written { map (λ n. pos n) positions.now ≡ chunk k (encode_runs array.now).indices.slots }
-    requires room { length entries.old ≡ 17 }
-    ensures { entries.new ≡ histogram_of U16 (map (option_map (difference U16 (pos reference))) (chunk k (indices_of array.now))) }
+/// Whether a run index is null: where the array is, and in the padding where its validity has a bit for each item or none is
+/// valid.
+pub(crate) fn is_null_index(array: &PrimitiveArray, i: usize) -> bool
+    requires { i < 1024 * chunks_of (length array.now.slots) }
+    ensures { result ≡ not (is_valid_at (encode_runs array.now).indices.validity i) }
 {
     match array.validity() {
-        Validity::NonNullable | Validity::AllValid => {
-            count_present(positions, reference, entries)
-        }
-        _ => count_valid(array, k, positions, reference, entries),
+        Validity::NonNullable | Validity::AllValid => false,
+        Validity::AllInvalid => true,
+        Validity::Array(bits) => i >= bits.len() || !bits.get(i),
     }
 }
 
-/// The index that an integer of its type is.
-fn index_of<T: NativePType>(item: T) -> u16
+/// The word of a run index.
+fn word_of_index<T: PhysicalPType>(index: u16) -> T::Physical
     requires { T.PTYPE ≡ U16 }
-    ensures { pos result ≡ T.value item }
+    ensures { read_as T.PTYPE (T.Physical.pattern result) ≡ pos index }
 {
-    match item.into_pvalue() {
-        PValue::U16(index) => index,
-        _ => unreachable!(),
+    T::Physical::from_u64(u64::from(index))
+}
+
+/// Writes the words of run indices.
+fn write_words<T: PhysicalPType>(
+    positions: &[u16; FL_CHUNK_SIZE],
+    words: &mut [T::Physical; FL_CHUNK_SIZE],
+)
+    requires { T.PTYPE ≡ U16 }
+    ensures { (q : ℕ) → q < 1024 → slice_index_or (read_words T.Physical.pattern T.PTYPE words.new) q (pos 0) ≡ slice_index_or (map (λ n. pos n) positions.now) q (pos 0) }
+{
+    for q in 0..FL_CHUNK_SIZE {
+        words[q] = word_of_index::<T>(positions[q]);
+    }
+}
+
+/// The run indices of an array.
+#[derive(Clone, Copy)]
+struct Indices<'a> {
+    array: &'a PrimitiveArray,
+}
+
+impl<T: PhysicalPType> BlockSource<T> for Indices<'_> {
+    ghost typed = { λ s. T.PTYPE ≡ U16 };
+
+    ghost parts = { λ s. (encode_runs s.array.now).indices };
+
+    ghost carried = { λ s k. pos 0 };
+
+    ghost carried_law = { λ s. refl };
+
+    fn len(&self) -> usize {
+        prove_few(self.array);
+        let _validity = self.array.validity();
+        let _len = self.array.len();
+        index_count(self.array)
+    }
+
+    fn write_block(&self, k: usize, _last: T, room: &mut [T::Physical; FL_CHUNK_SIZE]) -> T {
+        let _len = index_count(self.array);
+        let mut positions = [0u16; FL_CHUNK_SIZE];
+        write_indices(self.array, k, &mut positions);
+        write_words::<T>(&positions, room);
+        T::zero()
+    }
+
+    fn is_null(&self, i: usize) -> bool {
+        is_null_index(self.array, i)
+    }
+
+    fn has_nulls(&self) -> bool {
+        match self.array.validity() {
+            Validity::NonNullable | Validity::AllValid => false,
+            _ => true,
+        }
     }
 }
 
@@ -101,7 +102,7 @@ fn index_of<T: NativePType>(item: T) -> u16
 /// 16. The indices are made and counted chunk by chunk, and nothing is allocated.
 ///
 /// The references are of the indices' type.
-pub fn index_statistics_less<T: NativePType>(
+pub fn index_statistics_less<T: PhysicalPType + WrappingSub>(
     array: &PrimitiveArray,
     one: T,
     references: &[T],
@@ -109,23 +110,11 @@ pub fn index_statistics_less<T: NativePType>(
     requires { T.PTYPE ≡ U16 }
     ensures { result ≡ bit_statistics U16 (less_references U16 (T.value one) (map T.value references.now) (indices_of array.now)) }
 {
-    prove_few(array);
-    let _validity = array.validity();
-    let mut all = [0; 17];
-    let all = &mut all[..];
-    let mut entries = [0; 17];
-    let entries = &mut entries[..];
-    clear::<u16>(all);
-    let mut positions = [0u16; FL_CHUNK_SIZE];
-    let mut totals = no_totals();
-    for k in 0..chunk_count(array.len()) {
-        write_indices(array, k, &mut positions);
-        let reference = index_of(reference_of(one, references, k));
-        count_indices(array, k, &positions[..], reference, entries);
-        add_entries(all, entries);
-        totals = add_block::<u16>(entries, totals);
-    }
-    statistics_by::<u16>(all, totals)
+    let references = References {
+        one,
+        list: references,
+    };
+    statistics_of::<T, Indices>(&Indices { array }, &references)
 }
 
 /// The best width of an array's run indices and the best widths of their blocks, and what they leave out. The indices are
@@ -138,34 +127,12 @@ pub fn index_statistics(array: &PrimitiveArray) -> BitStatistics
     index_statistics_less(array, 0u16, none)
 }
 
-/// Whether the run indices of chunk `k` minus a reference are all equal to another one; a null equals a null.
-fn are_same_as(
-    array: &PrimitiveArray,
-    k: usize,
-    positions: &[u16],
-    reference: u16,
-    first: Option<u16>,
-) -> bool
-    requires chunk { k < chunks_of (length array.now.slots) }
-    requires written { map (λ n. pos n) positions.now ≡ chunk k (encode_runs array.now).indices.slots }
-    ensures { result ≡ list_all (same_item (option_map (λ n. pos n) first)) (map (option_map (difference U16 (pos reference))) (chunk k (indices_of array.now))) }
-{
-    let _validity = array.validity();
-    for q in 0..positions.len() {
-        let item = difference(index_item(array, k, q, positions[q]), reference);
-        if !is_same_item(first, item) {
-            return false;
-        }
-    }
-    true
-}
-
 /// Whether an array's run indices minus the references of their blocks are all equal; a null equals a null. A block for which
 /// the list has no reference takes `one`. The differences are taken modulo 2 to the 16. The indices are made up to the first
 /// that differs, and nothing is allocated.
 ///
 /// The references are of the indices' type.
-pub fn is_index_constant_less<T: NativePType>(
+pub fn is_index_constant_less<T: PhysicalPType + WrappingSub>(
     array: &PrimitiveArray,
     one: T,
     references: &[T],
@@ -173,24 +140,11 @@ pub fn is_index_constant_less<T: NativePType>(
     requires { T.PTYPE ≡ U16 }
     ensures { result ≡ are_constant (less_references U16 (T.value one) (map T.value references.now) (indices_of array.now)) }
 {
-    let _validity = array.validity();
-    if array.len() == 0 {
-        return true;
-    }
-    // The first index is 0.
-    let first = difference(
-        index_item(array, 0, 0, 0),
-        index_of(reference_of(one, references, 0)),
-    );
-    let mut positions = [0u16; FL_CHUNK_SIZE];
-    for k in 0..chunk_count(array.len()) {
-        write_indices(array, k, &mut positions);
-        let reference = index_of(reference_of(one, references, k));
-        if !are_same_as(array, k, &positions[..], reference, first) {
-            return false;
-        }
-    }
-    true
+    let references = References {
+        one,
+        list: references,
+    };
+    is_constant::<T, Indices>(&Indices { array }, &references)
 }
 
 /// Whether an array's run indices are all equal; a null equals a null. They are made up to the first that differs, and

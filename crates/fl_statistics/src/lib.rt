@@ -2,9 +2,10 @@
 #![tactic(auto)]
 
 pub mod constants;
-mod counting;
 pub mod deltas;
 pub mod indices;
+mod items;
+mod sources;
 pub mod widths;
 
 pub use crate::constants::is_constant_less;

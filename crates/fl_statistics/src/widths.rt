@@ -1,25 +1,27 @@
 //! The best widths of an array and of its blocks, and what they leave out, in one pass.
 
-ghost use Rattle.std.specs.Prelude.{◌≡◌, ◌+◌, ◌*◌, ◌<◌, ◌≤◌, ◌^◌, ◌==◌, ◌&&◌, ℕ, ℤ, IsTrue, List, Option, Some, length, map, nat_lt, not, option_map, slice_index, slice_index_or, true};
+ghost use Rattle.std.specs.Prelude.{◌≡◌, ◌+◌, ◌*◌, ◌<◌, ◌≤◌, ◌^◌, ◌==◌, ◌&&◌, ℕ, ℤ, IsTrue, List, Option, length, map, slice_index, true};
 ghost use Rattle.std.specs.List.{list_all};
 ghost use Rattle.fl_types.specs.Bits.{between};
-ghost use Rattle.fl_types.specs.Integers.{bits_of_type, fits, is_unsigned};
-ghost use Rattle.fl_types.specs.Validities.{covers, items_of};
+ghost use Rattle.fl_types.specs.Integers.{bits_of_type, fits};
+ghost use Rattle.fl_types.specs.Validities.{items_of};
 ghost use Rattle.fl_column.specs.Chunks.{chunk_count};
 ghost use Rattle.fl_column.specs.Columns.{option_all};
-ghost use Rattle.fl_patches.specs.Costs.{best_width, block_histogram, count_above};
+ghost use Rattle.fl_patches.specs.Costs.{block_histogram, count_above};
 ghost use Rattle.fl_patches.specs.Exceptions.{histogram_of};
 ghost use Rattle.fl_statistics.specs.BitStatistics.{bit_statistics};
 ghost use Rattle.fl_codec.specs.Chunks.{chunk};
-ghost use Rattle.fl_statistics.specs.Differences.{difference, less_references};
+ghost use Rattle.fl_codec.specs.Parts.{items_of_primitive};
+ghost use Rattle.fl_statistics.specs.Differences.{less_references, read_words, slot_of};
 ghost use Rattle.fl_statistics.specs.WidthTotals.{AreWidthTotals};
 
-use crate::counting::{add_entries, clear, count_items, count_present};
-use fastlanes::FL_CHUNK_SIZE;
+use crate::items::Items;
+use crate::sources::{BlockSource, References, write_differences};
+use fastlanes::{FL_CHUNK_SIZE, FastLanes};
 use fl_column::laws::stored_integers_are_in_range;
-use fl_column::{PhysicalPType, PrimitiveArray, chunk_bounds, chunk_count};
-use fl_patches::{count_exceptions, find_best_bit_width};
-use fl_types::{NativePType, PType, Validity, match_each_integer_ptype};
+use fl_column::{PhysicalPType, PrimitiveArray, chunk_count};
+use fl_patches::{best_of, count_words, counts_signs, type_bits};
+use fl_types::{NativePType, PType, match_each_integer_ptype};
 use num_traits::WrappingSub;
 
 /// What the histograms of an array's items say of packing it: that of all items, and that of each
@@ -42,83 +44,31 @@ pub struct BitStatistics {
     pub widest: usize,
 }
 
-/// The reference of a block, `one` where the list has none for it.
-pub(crate) fn reference_of<T: NativePType>(one: T, references: &[T], block: usize) -> T
-    ensures { T.value result ≡ slice_index_or (map T.value references.now) block (T.value one) }
+/// Adds to each entry the other one at its place.
+fn add_entries(entries: &mut [usize], others: &[usize])
+    requires even { length others.now ≡ length entries.old }
+    requires fit { (k : ℕ) → slice_index entries.old k + slice_index others.now k < 2 ^ 64 }
+    ensures long { length entries.new ≡ length entries.old }
+    ensures sums { (k : ℕ) → k < length entries.old → slice_index entries.new k ≡ slice_index entries.old k + slice_index others.now k }
 {
-    if block < references.len() {
-        references[block]
-    } else {
-        one
+    for k in 0..entries.len() {
+        entries[k] += others[k];
     }
 }
 
-/// Counts the items of a block less its reference by their bits, with nulls after the last item, and adds the
-/// items to the histogram of those before.
-fn count_block<T: PhysicalPType + WrappingSub>(
-    items: &[T],
-    validity: &Validity,
-    block: usize,
-    one: T,
-    references: &[T],
-    entries: &mut [usize],
-    all: &mut [usize],
-)
-    requires covers { IsTrue (covers validity.now (length items.now)) }
-    requires begun { 1024 * block < length items.now }
-    requires room { length entries.old ≡ bits_of_type T.PTYPE + 1 }
-    requires before { all.old ≡ histogram_of T.PTYPE (between 0 (1024 * block) (less_references T.PTYPE (T.value one) (map T.value references.now) (items_of validity.now (map T.value items.now)))) }
-    ensures block { entries.new ≡ block_histogram T.PTYPE (less_references T.PTYPE (T.value one) (map T.value references.now) (items_of validity.now (map T.value items.now))) block }
-    ensures all { all.new ≡ histogram_of T.PTYPE (between 0 (1024 * (block + 1)) (less_references T.PTYPE (T.value one) (map T.value references.now) (items_of validity.now (map T.value items.now)))) }
-{
-    let (start, end) = chunk_bounds(block, items.len());
-    let reference = reference_of(one, references, block);
-    count_items(items, validity, start, end, reference, entries);
-    add_entries(all, entries);
-    entries[0] += FL_CHUNK_SIZE - (end - start);
-}
-
-/// Counts the integers of a whole block less its reference by their bits, and adds them to the histogram of those before.
-pub(crate) fn count_whole<T: PhysicalPType + WrappingSub>(
-    integers: &[T],
-    reference: T,
-    entries: &mut [usize],
-    all: &mut [usize],
-)
-    requires whole { length integers.now ≡ 1024 }
+/// Counts words that are a block's items by their bits, with nulls after the last one, and adds the items to the histogram of
+/// those before.
+fn count_block<T: PhysicalPType>(words: &[T::Physical], entries: &mut [usize], all: &mut [usize])
+    requires few { length words.now ≤ 1024 }
     requires room { length entries.old ≡ bits_of_type T.PTYPE + 1 }
     requires even { length all.old ≡ bits_of_type T.PTYPE + 1 }
-    requires few { (k : ℕ) → slice_index all.old k < 2 ^ 63 }
-    ensures block { (items : List (Option ℤ)) → (block : ℕ) → 1024 * (block + 1) ≤ length items → map (option_map (difference T.PTYPE (T.value reference))) (map (λ z. Some z) (map T.value integers.now)) ≡ chunk block items → entries.new ≡ block_histogram T.PTYPE items block }
-    ensures all { (items : List (Option ℤ)) → (block : ℕ) → 1024 * (block + 1) ≤ length items → map (option_map (difference T.PTYPE (T.value reference))) (map (λ z. Some z) (map T.value integers.now)) ≡ chunk block items → all.old ≡ histogram_of T.PTYPE (between 0 (1024 * block) items) → all.new ≡ histogram_of T.PTYPE (between 0 (1024 * (block + 1)) items) }
+    requires fit { (k : ℕ) → slice_index all.old k ≤ 2 ^ 63 }
+    ensures block { (items : List (Option ℤ)) → (block : ℕ) → read_words T.Physical.pattern T.PTYPE words.now ≡ map slot_of (chunk block items) → entries.new ≡ block_histogram T.PTYPE items block }
+    ensures all { (items : List (Option ℤ)) → (block : ℕ) → read_words T.Physical.pattern T.PTYPE words.now ≡ map slot_of (chunk block items) → all.old ≡ histogram_of T.PTYPE (between 0 (1024 * block) items) → all.new ≡ histogram_of T.PTYPE (between 0 (1024 * (block + 1)) items) }
 {
-    count_present(integers, reference, entries);
+    count_words::<T>(words, entries);
     add_entries(all, entries);
-}
-
-/// How many bits a value of the type has.
-pub(crate) fn type_bits<T: PhysicalPType>() -> usize
-    ensures { result ≡ bits_of_type T.PTYPE }
-{
-    T::PTYPE.bit_width()
-}
-
-/// The best width by a histogram, and how many items it leaves out.
-fn best_of<T: PhysicalPType>(entries: &[usize]) -> (u8, usize)
-    requires room { length entries.now ≡ bits_of_type T.PTYPE + 1 }
-    requires few { (width : ℕ) → count_above width entries.now < 2 ^ 64 }
-    ensures width { result.0 ≡ best_width T.PTYPE entries.now }
-    ensures exceptions { result.1 ≡ count_above result.0 entries.now }
-{
-    let width = find_best_bit_width(T::PTYPE, entries).unwrap();
-    (width, count_exceptions(width, entries))
-}
-
-/// Whether an item is negative, by how many have all of the type's bits.
-fn has_negative<T: NativePType>(widest: usize) -> bool
-    ensures { result ≡ (not (is_unsigned T.PTYPE) && nat_lt 0 widest) }
-{
-    !T::PTYPE.is_unsigned() && widest > 0
+    entries[0] += FL_CHUNK_SIZE - words.len();
 }
 
 /// What the best widths of the first blocks add up to.
@@ -133,7 +83,7 @@ pub(crate) struct WidthTotals {
 }
 
 /// The totals of no blocks.
-pub(crate) fn no_totals() -> WidthTotals
+fn no_totals() -> WidthTotals
     ensures { result ≡ record { widths = 0; exceptions = 0; all_native = true } }
 {
     WidthTotals {
@@ -151,7 +101,7 @@ fn are_native<T: PhysicalPType>(before: bool, width: u8) -> bool
 }
 
 /// Adds the best width of a block by its histogram.
-pub(crate) fn add_block<T: PhysicalPType>(entries: &[usize], totals: WidthTotals) -> WidthTotals
+fn add_block<T: PhysicalPType>(entries: &[usize], totals: WidthTotals) -> WidthTotals
     requires room { length entries.now ≡ bits_of_type T.PTYPE + 1 }
     requires few { (width : ℕ) → count_above width entries.now ≤ 1024 }
     requires widths { totals.widths < 2 ^ 63 }
@@ -159,7 +109,7 @@ pub(crate) fn add_block<T: PhysicalPType>(entries: &[usize], totals: WidthTotals
     ensures totals { (items : List (Option ℤ)) → (block : ℕ) → 1024 * block < length items → entries.now ≡ block_histogram T.PTYPE items block → AreWidthTotals T.PTYPE items block totals → AreWidthTotals T.PTYPE items (block + 1) result }
     ensures few { result.widths ≤ totals.widths + 255 }
 {
-    let (width, exceptions) = best_of::<T>(entries);
+    let (width, exceptions) = best_of(T::PTYPE, entries);
     WidthTotals {
         widths: totals.widths + usize::from(width),
         exceptions: totals.exceptions + exceptions,
@@ -168,46 +118,43 @@ pub(crate) fn add_block<T: PhysicalPType>(entries: &[usize], totals: WidthTotals
 }
 
 /// The statistics of items by the histogram of all and the totals of their blocks.
-pub(crate) fn statistics_by<T: PhysicalPType>(all: &[usize], totals: WidthTotals) -> BitStatistics
+fn statistics_by<T: PhysicalPType>(all: &[usize], totals: WidthTotals) -> BitStatistics
     requires room { length all.now ≡ bits_of_type T.PTYPE + 1 }
     requires few { (width : ℕ) → count_above width all.now < 2 ^ 64 }
     ensures { (items : List (Option ℤ)) → IsTrue (list_all (option_all (fits T.PTYPE)) items) → all.now ≡ histogram_of T.PTYPE items → AreWidthTotals T.PTYPE items (chunk_count (length items)) totals → result ≡ bit_statistics T.PTYPE items }
 {
-    let (width, exceptions) = best_of::<T>(all);
-    let widest = all[type_bits::<T>()];
+    let (width, exceptions) = best_of(T::PTYPE, all);
     BitStatistics {
-        negative: has_negative::<T>(widest),
+        negative: counts_signs(T::PTYPE, all),
         width,
         exceptions,
         block_widths: totals.widths,
         block_exceptions: totals.exceptions,
         all_native: totals.all_native,
-        widest,
+        widest: all[type_bits::<T>()],
     }
 }
 
-/// The statistics of items minus the references of their blocks, `one` where the list has none.
-fn statistics_of<T: PhysicalPType + WrappingSub>(
-    items: &[T],
-    validity: &Validity,
-    one: T,
-    references: &[T],
+/// The statistics of the items of a source minus the references of their blocks. They are made once, and only one block of them
+/// is kept.
+pub(crate) fn statistics_of<T: PhysicalPType + WrappingSub, S: BlockSource<T>>(
+    source: &S,
+    references: &References<T>,
 ) -> BitStatistics
-    requires covers { IsTrue (covers validity.now (length items.now)) }
-    requires few { length items.now < 2 ^ 63 }
-    ensures { result ≡ bit_statistics T.PTYPE (less_references T.PTYPE (T.value one) (map T.value references.now) (items_of validity.now (map T.value items.now))) }
+    requires typed { S.typed source.now }
+    ensures { result ≡ bit_statistics T.PTYPE (less_references T.PTYPE (T.value references.now.one) (map T.value references.now.list.now) (items_of_primitive (S.parts source.now))) }
 {
     // No type here has more than 64 bits.
-    let bits = type_bits::<T>();
-    let mut all = [0; 65];
-    let all = &mut all[..bits + 1];
-    let mut entries = [0; 65];
-    let entries = &mut entries[..bits + 1];
-    clear::<T>(all);
-    let mut totals = no_totals();
-    for block in 0..chunk_count(items.len()) {
-        count_block(items, validity, block, one, references, entries, all);
+    let (mut all, mut entries) = ([0; 65], [0; 65]);
+    let all = &mut all[..type_bits::<T>() + 1];
+    let entries = &mut entries[..type_bits::<T>() + 1];
+    let mut room = [T::Physical::zero(); FL_CHUNK_SIZE];
+    let (mut last, mut totals) = (T::zero(), no_totals());
+    for block in 0..chunk_count(source.len()) {
+        let (count, next) = write_differences(source, references, block, last, &mut room);
+        count_block::<T>(&room[..count], entries, all);
         totals = add_block::<T>(entries, totals);
+        last = next;
     }
     statistics_by::<T>(all, totals)
 }
@@ -241,9 +188,11 @@ pub fn bit_statistics_less<T: PhysicalPType + WrappingSub>(
     requires { array.now.ptype ≡ T.PTYPE }
     ensures { result ≡ bit_statistics array.now.ptype (less_references array.now.ptype (T.value one) (map T.value references.now) (items_of array.now.validity array.now.slots)) }
 {
-    prove_few(array);
-    let validity = array.validity();
-    statistics_of(array.as_slice::<T>(), validity, one, references)
+    let references = References {
+        one,
+        list: references,
+    };
+    statistics_of::<T, Items>(&Items { array }, &references)
 }
 
 fn statistics_typed<T: PhysicalPType + WrappingSub>(array: &PrimitiveArray) -> BitStatistics

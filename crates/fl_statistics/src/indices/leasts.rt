@@ -1,6 +1,6 @@
 //! The least run indices of an array, of which none is kept.
 
-ghost use Rattle.std.specs.Prelude.{◌≡◌, ◌++◌, ◌<◌, List, Option, Some, ℤ, IfOk, length, map, option_map, pos};
+ghost use Rattle.std.specs.Prelude.{◌≡◌, ◌++◌, ◌*◌, ◌+◌, ◌<◌, List, None, Option, Some, ℤ, IfOk, length, map, option_map, pos, slice_index_or};
 ghost use Rattle.fl_types.specs.declared.dtype.PType.TheVariants.{U16};
 ghost use Rattle.fl_codec.specs.Chunks.{chunk, chunks_of};
 ghost use Rattle.fl_codec.specs.ForwardFill.{first_some};
@@ -8,13 +8,13 @@ ghost use Rattle.fl_codec.specs.FoRColumns.{chunk_leasts, chunk_references, leas
 ghost use Rattle.fl_codec.specs.Parts.{encode_runs};
 ghost use Rattle.fl_statistics.specs.Differences.{difference, indices_of};
 
-use crate::constants::difference;
-use crate::indices::index_item;
+use crate::indices::{index_count, is_null_index};
 use fastlanes::FL_CHUNK_SIZE;
 use fl_codec::for_::ItemOrder;
 use fl_codec::rle::blocks::write_indices;
 use fl_column::{PrimitiveArray, chunk_count};
 use fl_types::{NativePType, PValue};
+use num_traits::WrappingSub;
 use std::alloc::{AllocError, Global};
 
 /// What is subtracted from indices so that their order becomes the natural one.
@@ -45,6 +45,32 @@ fn lesser(x: Option<u16>, y: Option<u16>) -> Option<u16>
     }
 }
 
+/// An item minus an origin, modulo 2 to the type's bits. Nulls stay null.
+fn turned<T: NativePType + WrappingSub>(item: Option<T>, origin: T) -> Option<T>
+    ensures { option_map T.value result ≡ option_map (difference T.PTYPE (T.value origin)) (option_map T.value item) }
+{
+    match item {
+        Some(item) => Some(item.wrapping_sub(&origin)),
+        None => None,
+    }
+}
+
+/// The run index at position `q` of chunk `k`, or `None` where it is null.
+fn index_item(array: &PrimitiveArray, k: usize, q: usize, index: u16) -> Option<u16>
+    requires chunk { k < chunks_of (length array.now.slots) }
+    requires position { q < 1024 }
+    requires index { pos index ≡ slice_index_or (encode_runs array.now).indices.slots (1024 * k + q) (pos 0) }
+    ensures { option_map (λ n. pos n) result ≡ slice_index_or (chunk k (indices_of array.now)) q None }
+{
+    let _validity = array.validity();
+    let _len = index_count(array);
+    if is_null_index(array, FL_CHUNK_SIZE * k + q) {
+        None
+    } else {
+        Some(index)
+    }
+}
+
 /// The least of those before and of the run indices of chunk `k` that are not null, each minus an origin.
 fn least_after(
     array: &PrimitiveArray,
@@ -60,7 +86,7 @@ fn least_after(
     let _validity = array.validity();
     let mut least = seed;
     for q in 0..positions.len() {
-        let item = difference(index_item(array, k, q, positions[q]), origin);
+        let item = turned(index_item(array, k, q, positions[q]), origin);
         least = lesser(least, item);
     }
     least
@@ -78,7 +104,7 @@ fn least_in_chunk(
     ensures { option_map (λ n. pos n) result ≡ least_by (reading order U16) (chunk k (indices_of array.now)) }
 {
     let origin = origin_of(order);
-    difference(least_after(array, k, positions, origin, None), origin)
+    turned(least_after(array, k, positions, origin, None), origin)
 }
 
 /// The least run index of the first chunk that has one.
@@ -118,7 +144,7 @@ pub fn least_index<T: NativePType>(array: &PrimitiveArray, order: ItemOrder) -> 
         write_indices(array, k, &mut positions);
         least = least_after(array, k, &positions[..], origin, least);
     }
-    match difference(least, origin) {
+    match turned(least, origin) {
         Some(index) => Some(integer_of(index)),
         None => None,
     }

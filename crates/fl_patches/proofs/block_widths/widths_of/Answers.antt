@@ -37,7 +37,7 @@ loop-block-preserved g c =
     let block = c.loop-block.block in
     let count : length items ≡ length c.args.items.now = covered_values g.T.Number.value c.args.validity.now c.args.items.now c.requires.covers in
     let counted = block_signs t items block c.choose_width-width.new.entries c.choose_width-width.ensures.histogram c.requires.fit in
-    let none : list_any is_negative (between (1024 * block) (1024 * (block + 1)) items) ≡ false = sym counted ∙ sym c.if-counts_signs.ensures in
+    let none : list_any is_negative (between (1024 * block) (1024 * (block + 1)) items) ≡ false = sym counted ∙ sym (rw c.PTYPE.ensures at c.if-counts_signs.ensures) in
     record {
       best = widths_more t items block c.choose_width-width.result.0 c.loop-block.widths.items c.push.new.self.items c.choose_width-width.ensures.width c.in_ok-push.ensures.items c.loop-block.invariant.best;
       counted = exceptions_more t items block c.choose_width-width.result.0 c.loop-block.total c.choose_width-width.result.1 (omega arith) c.choose_width-width.ensures.width c.choose_width-width.ensures.exceptions c.loop-block.invariant.counted;
@@ -58,7 +58,7 @@ returns-then-counts_signs g c =
     let items = items_of c.args.validity.now (map g.T.Number.value c.args.items.now) in
     let block = c.loop-block.block in
     let counted = block_signs t items block c.choose_width-width.new.entries c.choose_width-width.ensures.histogram c.requires.fit in
-    let here : list_any is_negative (between (1024 * block) (1024 * (block + 1)) items) ≡ true = sym counted ∙ sym c.if-counts_signs.ensures in
+    let here : list_any is_negative (between (1024 * block) (1024 * (block + 1)) items) ≡ true = sym counted ∙ sym (rw c.PTYPE.ensures at c.if-counts_signs.ensures) in
     rw (negative_in_block items block here) refl
 
 pub returns-in_err-widths : goal.returns-in_err-widths

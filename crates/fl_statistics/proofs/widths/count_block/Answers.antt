@@ -1,57 +1,50 @@
-use Rattle.std.proofs.Common.{◌≡◌, ◌≤◌, ◌-◌, ◌*◌, length, get_or, map, ap, ◌∙◌, arith, refl}
-use Rattle.fl_types.specs.Bits.{between}
-use Rattle.fl_types.specs.Validities.{items_of}
+use Rattle.std.proofs.Common.{◌≡◌, ◌+◌, ◌*◌, Some, length, map, ap, ◌∙◌, arith, refl}
+use Rattle.std.proofs.lemmas.List.{length-map}
+use Rattle.fl_types.specs.Integers.{bits_of_type}
+use Rattle.fl_codec.specs.Chunks.{chunk}
 use Rattle.fl_patches.specs.Exceptions.{histogram_of}
-use Rattle.fl_patches.proofs.Gathers.{covered_values}
-use Rattle.fl_patches.proofs.Histograms.{counts_fit}
-use Rattle.fl_statistics.specs.Differences.{less_references}
-use Rattle.fl_statistics.proofs.Counts.{few_of_part, parts_joined}
-use Rattle.fl_statistics.proofs.Differences.{block_counted, counted_less, length-less}
-use Rattle.fl_statistics.proofs.WidthTotals.{to_block}
+use Rattle.fl_patches.proofs.Histograms.{entry_few, length-histogram, word_value}
+use Rattle.fl_statistics.proofs.Counts.{parts_joined}
+use Rattle.fl_statistics.proofs.Slots.{block_filled, block_length, slots_histogram}
 use Rattle.fl_statistics.proofs.widths.count_block.Goals as goal
+
+pub add_entries-requires-clause-even : goal.add_entries-requires-clause-even
+add_entries-requires-clause-even g c =
+    let here : length c.count_words.new.entries ≡ bits_of_type g.T.NativePType.PTYPE + 1 = ap length c.count_words.ensures ∙ length-histogram g.T.NativePType.PTYPE _ in
+    omega (arith, c.requires.even)
 
 pub add_entries-requires-clause-fit : goal.add_entries-requires-clause-fit
 add_entries-requires-clause-fit g c = λ k.
-    let items = items_of c.args.validity.now (map g.T.Number.value c.args.items.now) in
-    let count : length items ≡ length c.args.items.now = covered_values g.T.Number.value c.args.validity.now c.args.items.now c.requires.covers in
-    let counted = counted_less g.T.NativePType.PTYPE (g.T.Number.value c.args.one) (map g.T.Number.value c.args.references.now) items c.args.block c.chunk_bounds-start.result.0 c.chunk_bounds-start.result.1 _ c.count_items.new.entries (omega arith) c.chunk_bounds-start.ensures.start (omega arith) c.reference_of-reference.ensures c.count_items.ensures in
-    let before = few_of_part g.T.NativePType.PTYPE (less_references g.T.NativePType.PTYPE (g.T.Number.value c.args.one) (map g.T.Number.value c.args.references.now) items) 0 (1024 * c.args.block) c.args.all.now k c.requires.before in
-    let here = few_of_part g.T.NativePType.PTYPE (less_references g.T.NativePType.PTYPE (g.T.Number.value c.args.one) (map g.T.Number.value c.args.references.now) items) c.chunk_bounds-start.result.0 c.chunk_bounds-start.result.1 c.count_items.new.entries k counted in
-    let start = c.chunk_bounds-start.ensures.start in
-    let end = c.chunk_bounds-start.ensures.end in
-    omega arith
+    let read = word_value g.T.Physical.FastLanes.pattern g.T.NativePType.PTYPE in
+    let here = entry_few g.T.NativePType.PTYPE (map (λ z. Some z) (map read c.args.words.now)) c.count_words.new.entries k c.count_words.ensures in
+    let before = c.requires.fit k in
+    omega (arith, c.requires.few, length-map (map read c.args.words.now) (λ z. Some z), length-map c.args.words.now read)
 
 pub overflow_add-entries : goal.overflow_add-entries
 overflow_add-entries g c =
-    let items = items_of c.args.validity.now (map g.T.Number.value c.args.items.now) in
-    let count : length items ≡ length c.args.items.now = covered_values g.T.Number.value c.args.validity.now c.args.items.now c.requires.covers in
-    let counted = counted_less g.T.NativePType.PTYPE (g.T.Number.value c.args.one) (map g.T.Number.value c.args.references.now) items c.args.block c.chunk_bounds-start.result.0 c.chunk_bounds-start.result.1 _ c.count_items.new.entries (omega arith) c.chunk_bounds-start.ensures.start (omega arith) c.reference_of-reference.ensures c.count_items.ensures in
-    let few : get_or c.count_items.new.entries 0 0 ≤ c.chunk_bounds-start.result.1 - c.chunk_bounds-start.result.0 = counts_fit g.T.NativePType.PTYPE (less_references g.T.NativePType.PTYPE (g.T.Number.value c.args.one) (map g.T.Number.value c.args.references.now) items) c.chunk_bounds-start.result.0 c.chunk_bounds-start.result.1 0 c.count_items.new.entries counted in
-    let start = c.chunk_bounds-start.ensures.start in
-    let end = c.chunk_bounds-start.ensures.end in
+    let read = word_value g.T.Physical.FastLanes.pattern g.T.NativePType.PTYPE in
+    let here = entry_few g.T.NativePType.PTYPE (map (λ z. Some z) (map read c.args.words.now)) c.count_words.new.entries 0 c.count_words.ensures in
+    omega (arith, c.requires.few, length-map (map read c.args.words.now) (λ z. Some z), length-map c.args.words.now read)
+
+pub bounds-entries-0 : goal.bounds-entries-0
+bounds-entries-0 g c =
+    let here : length c.count_words.new.entries ≡ bits_of_type g.T.NativePType.PTYPE + 1 = ap length c.count_words.ensures ∙ length-histogram g.T.NativePType.PTYPE _ in
+    omega arith
+
+pub bounds-entries-0-2 : goal.bounds-entries-0-2
+bounds-entries-0-2 g c =
+    let here : length c.count_words.new.entries ≡ bits_of_type g.T.NativePType.PTYPE + 1 = ap length c.count_words.ensures ∙ length-histogram g.T.NativePType.PTYPE _ in
     omega arith
 
 pub returns-clause-block : goal.returns-clause-block
-returns-clause-block g c =
-    let items = items_of c.args.validity.now (map g.T.Number.value c.args.items.now) in
-    let count : length items ≡ length c.args.items.now = covered_values g.T.Number.value c.args.validity.now c.args.items.now c.requires.covers in
-    let long = length-less g.T.NativePType.PTYPE (g.T.Number.value c.args.one) (map g.T.Number.value c.args.references.now) items in
-    let counted = counted_less g.T.NativePType.PTYPE (g.T.Number.value c.args.one) (map g.T.Number.value c.args.references.now) items c.args.block c.chunk_bounds-start.result.0 c.chunk_bounds-start.result.1 _ c.count_items.new.entries (omega arith) c.chunk_bounds-start.ensures.start (omega arith) c.reference_of-reference.ensures c.count_items.ensures in
-    block_counted g.T.NativePType.PTYPE (less_references g.T.NativePType.PTYPE (g.T.Number.value c.args.one) (map g.T.Number.value c.args.references.now) items) c.args.block c.chunk_bounds-start.result.0 c.chunk_bounds-start.result.1 _ c.count_items.new.entries (omega arith) c.chunk_bounds-start.ensures.start (omega arith) counted refl
+returns-clause-block g c = λ items block same.
+    let t = g.T.NativePType.PTYPE in
+    let read = word_value g.T.Physical.FastLanes.pattern t in
+    let counted : c.count_words.new.entries ≡ histogram_of t (chunk block items) = c.count_words.ensures ∙ (ap (λ zs. histogram_of t (map (λ z. Some z) zs)) same ∙ slots_histogram t (chunk block items)) in
+    block_filled t items block (length c.args.words.now) _ c.count_words.new.entries (block_length read c.args.words.now (chunk block items) same) counted refl
 
 pub returns-clause-all : goal.returns-clause-all
-returns-clause-all g c =
+returns-clause-all g c = λ items block same before.
     let t = g.T.NativePType.PTYPE in
-    let items = items_of c.args.validity.now (map g.T.Number.value c.args.items.now) in
-    let all = less_references g.T.NativePType.PTYPE (g.T.Number.value c.args.one) (map g.T.Number.value c.args.references.now) items in
-    let block = c.args.block in
-    let start = c.chunk_bounds-start.result.0 in
-    let end = c.chunk_bounds-start.result.1 in
-    let count : length items ≡ length c.args.items.now = covered_values g.T.Number.value c.args.validity.now c.args.items.now c.requires.covers in
-    let long : length all ≡ length items = length-less g.T.NativePType.PTYPE (g.T.Number.value c.args.one) (map g.T.Number.value c.args.references.now) items in
-    let counted = counted_less g.T.NativePType.PTYPE (g.T.Number.value c.args.one) (map g.T.Number.value c.args.references.now) items block start end _ c.count_items.new.entries (omega arith) c.chunk_bounds-start.ensures.start (omega arith) c.reference_of-reference.ensures c.count_items.ensures in
-    let starts : start ≡ 1024 * block = c.chunk_bounds-start.ensures.start in
-    let ends = c.chunk_bounds-start.ensures.end in
-    let before = c.requires.before ∙ ap (λ n. histogram_of t (between 0 n all)) (let back : 1024 * block ≡ start = omega arith in back) in
-    parts_joined t all start end c.args.all.now c.count_items.new.entries c.add_entries.new.entries (omega arith) before counted c.add_entries.ensures.long c.add_entries.ensures.sums
-    ∙ ap (histogram_of t) (to_block all block start end starts (omega arith) (omega arith))
+    let counted : c.count_words.new.entries ≡ histogram_of t (chunk block items) = c.count_words.ensures ∙ (ap (λ zs. histogram_of t (map (λ z. Some z) zs)) same ∙ slots_histogram t (chunk block items)) in
+    parts_joined t items (1024 * block) (1024 * (block + 1)) c.args.all.now c.count_words.new.entries c.add_entries.new.entries (omega arith) before counted c.add_entries.ensures.long c.add_entries.ensures.sums

@@ -19,7 +19,7 @@ loop-q-preserved c = λ before so.
     let size : length items ≡ 1024 = length-index_chunk p c.args.k c.validity-validity.ensures.covers c.requires.chunk in
     let all : length (map turn items) ≡ 1024 = length-map items turn ∙ size in
     let here : get_or (map turn items) c.loop-q.q None ≡ turn (get_or items c.loop-q.q None) = get_or-map turn items c.loop-q.q None None (omega arith) in
-    least_of_more before (map turn items) c.loop-q.q (option_map (λ n. pos n) c.loop-q.least) (option_map (λ n. pos n) c.difference-item.result) _ (omega arith) (c.difference-item.ensures ∙ (ap turn c.index_item.ensures ∙ sym here)) (c.loop-q.invariant before so) c.lesser-least.ensures
+    least_of_more before (map turn items) c.loop-q.q (option_map (λ n. pos n) c.loop-q.least) (option_map (λ n. pos n) c.turned-item.result) _ (omega arith) (c.turned-item.ensures ∙ (ap turn c.index_item.ensures ∙ sym here)) (c.loop-q.invariant before so) c.lesser-least.ensures
 
 pub returns : goal.returns
 returns c = λ before so.

@@ -21,7 +21,7 @@ returns-in-Some g c =
     let reached = c.loop-k.auto.k-end in
     let all : c.loop-k.k ≡ chunks_of (length p.slots) = omega arith in
     let least = least_turned_all c.args.order p c.loop-k.k (pos c.origin_of-origin.result) (option_map (λ n. pos n) c.loop-k.least) c.validity-validity.ensures.covers all c.origin_of-origin.ensures c.loop-k.invariant in
-    ap (λ z. Some z) c.integer_of.ensures ∙ (rw c.in-Some.is at c.difference.ensures ∙ least)
+    ap (λ z. Some z) c.integer_of.ensures ∙ (rw c.in-Some.is at c.turned.ensures ∙ least)
 
 pub returns-in-None : goal.returns-in-None
 returns-in-None g c =
@@ -32,4 +32,4 @@ returns-in-None g c =
     let reached = c.loop-k.auto.k-end in
     let all : c.loop-k.k ≡ chunks_of (length p.slots) = omega arith in
     let least = least_turned_all c.args.order p c.loop-k.k (pos c.origin_of-origin.result) (option_map (λ n. pos n) c.loop-k.least) c.validity-validity.ensures.covers all c.origin_of-origin.ensures c.loop-k.invariant in
-    rw c.in-None.is at c.difference.ensures ∙ least
+    rw c.in-None.is at c.turned.ensures ∙ least

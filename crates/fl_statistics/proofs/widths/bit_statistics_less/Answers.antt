@@ -1,0 +1,10 @@
+use Rattle.std.proofs.Common.{map, ap, sym, ◌∙◌}
+use Rattle.fl_types.specs.Validities.{items_of}
+use Rattle.fl_statistics.specs.BitStatistics.{bit_statistics}
+use Rattle.fl_statistics.specs.Differences.{less_references}
+use Rattle.fl_statistics.proofs.widths.bit_statistics_less.Goals as goal
+
+pub returns : goal.returns
+returns g c =
+    let p = c.args.array.now in
+    c.statistics_of.ensures ∙ ap (λ u. bit_statistics u (less_references u (g.T.Number.value c.args.one) (map g.T.Number.value c.args.references.now) (items_of p.validity p.slots))) (sym c.requires)
