@@ -25,8 +25,8 @@ use Rattle.fl_codec.specs.declared.for_.ItemOrder.TheVariants.{Natural, Signed}
 use Rattle.fl_codec.specs.FoRColumns.{chunk_leasts, common_reference, least_by, reading, reference_of_chunk, valid_items}
 use Rattle.fl_codec.specs.Parts.{FoRParts, Nulls, encode_chunked_by, encode_global_by, items_of_primitive, less_common, null_constant, reference_scalar, subtract_min}
 use Rattle.fl_codec.proofs.DeltaRoundTrips.{items_fit}
-use Rattle.fl_encode.specs.Shapes.{Shape}
-use Rattle.fl_compress.specs.Candidates.{over_chunk_references, over_one_reference, with_reference, with_references}
+use Rattle.fl_encode.specs.Shapes.{FoR, FoRChunked, Shape}
+use Rattle.fl_compress.specs.Candidates.{over_chunk_references, over_one_reference}
 use Rattle.fl_compress.specs.Cheapest.{cheaper, cheapest, priced}
 use Rattle.fl_compress.specs.Choices.{or_frames}
 use Rattle.fl_compress.specs.EncodedBytes.{encoded_bytes, over_reference, over_references}
@@ -249,11 +249,11 @@ as_cheap (Some a) (Some b) (Some c) e = let same : b.1 ≡ c.1 = some_cost b.1 c
     some_cost m n e = cc
 
 -- over the same frames a wrapped order finds nothing cheaper
-one_costs : (p : PrimitiveParts) (child : Shape) → AreAlike p → encoded_bytes p (with_reference Signed child) ≡ encoded_bytes p (with_reference Natural child)
+one_costs : (p : PrimitiveParts) (child : Shape) → AreAlike p → encoded_bytes p (FoR Signed child) ≡ encoded_bytes p (FoR Natural child)
 unfolding encoded_bytes
 one_costs p child same = ap (over_reference (λ q. encoded_bytes q child)) same.one
 
-many_costs : (p : PrimitiveParts) (child others : Shape) → AreAlike p → encoded_bytes p (with_references Signed child others) ≡ encoded_bytes p (with_references Natural child others)
+many_costs : (p : PrimitiveParts) (child others : Shape) → AreAlike p → encoded_bytes p (FoRChunked Signed child others) ≡ encoded_bytes p (FoRChunked Natural child others)
 unfolding encoded_bytes
 many_costs p child others same = ap (over_references (λ q. encoded_bytes q child) (λ q. encoded_bytes q others)) same.many
 
@@ -264,8 +264,8 @@ frames_alike p children best same =
     let many = cheapest cost (over_chunk_references Natural children) in
     let one_more = cheapest cost (over_one_reference Signed children) in
     let many_more = cheapest cost (over_chunk_references Signed children) in
-    let first : cost_in one ≡ cost_in one_more = cost_of_cheapest cost (over_one_reference Natural children) ∙ (ap least_cost (sym (map_each (with_reference Signed) (with_reference Natural) cost children (λ child. one_costs p child same))) ∙ sym (cost_of_cheapest cost (over_one_reference Signed children))) in
-    let other : cost_in many ≡ cost_in many_more = cost_of_cheapest cost (over_chunk_references Natural children) ∙ (ap least_cost (sym (map_pairs (with_references Signed) (with_references Natural) cost children children (λ child others. many_costs p child others same))) ∙ sym (cost_of_cheapest cost (over_chunk_references Signed children))) in
+    let first : cost_in one ≡ cost_in one_more = cost_of_cheapest cost (over_one_reference Natural children) ∙ (ap least_cost (sym (map_each (FoR Signed) (FoR Natural) cost children (λ child. one_costs p child same))) ∙ sym (cost_of_cheapest cost (over_one_reference Signed children))) in
+    let other : cost_in many ≡ cost_in many_more = cost_of_cheapest cost (over_chunk_references Natural children) ∙ (ap least_cost (sym (map_pairs (FoRChunked Signed) (FoRChunked Natural) cost children children (λ child others. many_costs p child others same))) ∙ sym (cost_of_cheapest cost (over_chunk_references Signed children))) in
     let all = cheaper (cheaper best one) many in
     ap (λ c. cheaper c many_more) (stays all one_more (with_more (cheaper best one) many one_more (as_cheap best one one_more first)))
     ∙ stays all many_more (as_cheap (cheaper best one) many many_more other)

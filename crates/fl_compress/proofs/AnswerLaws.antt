@@ -17,14 +17,13 @@ use Rattle.fl_array.specs.Trees.{Tree, column}
 use Rattle.fl_array.specs.Trees as tree
 use Rattle.fl_array.proofs.EncodedRLE.{ok_is}
 use Rattle.fl_encode.specs.declared.scheme.Packing.TheVariants.{BestWidth, BestWidths}
-use Rattle.fl_encode.specs.declared.scheme.Scheme.{Scheme}
 use Rattle.fl_encode.specs.Encodings.{EncodesAs}
 use Rattle.fl_encode.specs.Packings.{constant_of}
-use Rattle.fl_encode.specs.Shapes.{BitPacked, Constant, Delta, Primitive, Shape, shape}
+use Rattle.fl_encode.specs.Shapes.{BitPacked, Constant, Delta, FoR, FoRChunked, Primitive, Shape}
 use Rattle.fl_serde.specs.ByteCounts.{primitive_bytes, tree_bytes, validity_bytes}
 use Rattle.fl_compress.specs.declared.choice.Choice.{Choice}
 use Rattle.fl_compress.specs.declared.limits.Limits.{Limits}
-use Rattle.fl_compress.specs.Candidates.{candidates, delta_schemes, framed_schemes, has_level, over_chunk_references, over_deltas, over_one_reference, over_runs, packed_schemes, where_allowed, with_reference, with_references}
+use Rattle.fl_compress.specs.Candidates.{candidates, delta_schemes, framed_schemes, has_level, over_chunk_references, over_deltas, over_one_reference, over_runs, packed_schemes, where_allowed}
 use Rattle.fl_compress.specs.Cheapest.{beside, cheaper, cheapest, combined}
 use Rattle.fl_compress.specs.Choices.{chosen, or_frames, runs_of, two, with_bytes}
 use Rattle.fl_compress.specs.EncodedBytes.{encoded_bytes}
@@ -87,27 +86,27 @@ unpacked_choice limits depth p best none g =
 
 -- ---- frames of reference
 pub one_choice : (order : ItemOrder) (p q : PrimitiveParts) (parts : OneReference) (schemes : List Shape) (s : Shape) (n : ℕ) (choice : Option (Shape × ℕ)) → encode_global_by order p ≡ Ok parts → q ≡ parts.child
-    → Some (s, n) ≡ cheapest (encoded_bytes q) schemes → Gives (Some (with_reference order s, n)) choice → Gives (cheapest (encoded_bytes p) (over_one_reference order schemes)) choice
+    → Some (s, n) ≡ cheapest (encoded_bytes q) schemes → Gives (Some (FoR order s, n)) choice → Gives (cheapest (encoded_bytes p) (over_one_reference order schemes)) choice
 one_choice order p q parts schemes s n choice e f g h =
-    gives _ _ (one_list order p parts schemes e ∙ (ap (wrapped (with_reference order)) (ap (λ r. cheapest (encoded_bytes r) schemes) (sym f) ∙ sym g) ∙ ok_is _ _ h))
+    gives _ _ (one_list order p parts schemes e ∙ (ap (wrapped (FoR order)) (ap (λ r. cheapest (encoded_bytes r) schemes) (sym f) ∙ sym g) ∙ ok_is _ _ h))
 
 -- two choices that are the cheapest, beside each other
 pub over_two : (order : ItemOrder) (child others first other : Option (Shape × ℕ)) (r : Result Choice FastLanesError) → child ≡ first → others ≡ other
-    → Answers chosen r (Ok (combined (with_references order) child others)) → Answers chosen r (Ok (combined (with_references order) first other))
-over_two order child others first other r e f a = answers_same r _ _ (ap (λ c. combined (with_references order) c others) e ∙ ap (combined (with_references order) first) f) a
+    → Answers chosen r (Ok (combined (FoRChunked order) child others)) → Answers chosen r (Ok (combined (FoRChunked order) first other))
+over_two order child others first other r e f a = answers_same r _ _ (ap (λ c. combined (FoRChunked order) c others) e ∙ ap (combined (FoRChunked order) first) f) a
 
 pub common_choice : (order : ItemOrder) (p : PrimitiveParts) (parts : OneReference) (limits : Limits) (depth : ℕ) (r : Result Choice FastLanesError) → encode_chunked_by order p ≡ Whole parts
-    → Answers chosen r (Ok (combined (with_references order) (cheapest (encoded_bytes parts.child) (packed_schemes limits depth)) (Some (Primitive, 0)))) → Answers chosen r (Ok (cheapest (encoded_bytes p) (over_chunk_references order (packed_schemes limits depth))))
+    → Answers chosen r (Ok (combined (FoRChunked order) (cheapest (encoded_bytes parts.child) (packed_schemes limits depth)) (Some (Primitive, 0)))) → Answers chosen r (Ok (cheapest (encoded_bytes p) (over_chunk_references order (packed_schemes limits depth))))
 common_choice order p parts limits depth r e a = answers_same r _ _ (sym (whole_list order p parts limits depth e)) a
 
 pub chunks_choice : (order : ItemOrder) (p child others : PrimitiveParts) (schemes : List Shape) (r : Result Choice FastLanesError) → encode_chunked_by order p ≡ ByChunk child others
-    → Answers chosen r (Ok (combined (with_references order) (cheapest (encoded_bytes child) schemes) (cheapest (encoded_bytes others) schemes))) → Answers chosen r (Ok (cheapest (encoded_bytes p) (over_chunk_references order schemes)))
+    → Answers chosen r (Ok (combined (FoRChunked order) (cheapest (encoded_bytes child) schemes) (cheapest (encoded_bytes others) schemes))) → Answers chosen r (Ok (cheapest (encoded_bytes p) (over_chunk_references order schemes)))
 chunks_choice order p child others schemes r e a = answers_same r _ _ (sym (chunk_list order p child others schemes e)) a
 
 pub nulls_choice : (order : ItemOrder) (p : PrimitiveParts) (constant : ConstantParts) (reference : ScalarParts) (limits : Limits) (depth : ℕ) (child others : Option (Shape × ℕ)) (r : Result Choice FastLanesError) → encode_chunked_by order p ≡ Nulls constant reference → child ≡ Some (Primitive, 0) → others ≡ Some (Primitive, 0)
-    → Answers chosen r (Ok (combined (with_references order) child others)) → Answers chosen r (Ok (cheapest (encoded_bytes p) (over_chunk_references order (packed_schemes limits depth))))
+    → Answers chosen r (Ok (combined (FoRChunked order) child others)) → Answers chosen r (Ok (cheapest (encoded_bytes p) (over_chunk_references order (packed_schemes limits depth))))
 nulls_choice order p constant reference limits depth child others r e f g a =
-    answers_same r _ _ (sym (nulls_list order p constant reference limits depth e ∙ (ap (λ c. combined (with_references order) c (Some (Primitive, 0))) (sym f) ∙ ap (combined (with_references order) child) (sym g)))) a
+    answers_same r _ _ (sym (nulls_list order p constant reference limits depth e ∙ (ap (λ c. combined (FoRChunked order) c (Some (Primitive, 0))) (sym f) ∙ ap (combined (FoRChunked order) child) (sym g)))) a
 
 pub frames_choice : (order : ItemOrder) (p : PrimitiveParts) (children : List Shape) (first one many choice : Option (Shape × ℕ)) → Gives (cheaper first (cheapest (encoded_bytes p) (over_one_reference order children))) one → Gives (cheapest (encoded_bytes p) (over_chunk_references order children)) many
     → choice ≡ cheaper one many → Gives (or_frames order p children first) choice
@@ -237,26 +236,26 @@ pub search_without_runs : (limits : Limits) (p : PrimitiveParts) (best : Option 
 search_without_runs limits p best e f = gives _ _ (no_candidate_list limits p e ∙ ok_is _ _ f)
 
 -- ---- the array
-pub smallest_made : (limits : Limits) (p : PrimitiveParts) (scheme : Scheme) (n : ℕ) (r : Result Tree FastLanesError) → Gives (cheapest (encoded_bytes p) (candidates limits)) (Some (shape scheme, n)) → EncodesAs scheme p r → IfOk r (IsSmallest (candidates limits) p)
+pub smallest_made : (limits : Limits) (p : PrimitiveParts) (scheme : Shape) (n : ℕ) (r : Result Tree FastLanesError) → Gives (cheapest (encoded_bytes p) (candidates limits)) (Some (scheme, n)) → EncodesAs scheme p r → IfOk r (IsSmallest (candidates limits) p)
 smallest_made limits p scheme n (Ok t) e h = smallest_is (candidates limits) p scheme n t (ok_is _ _ e) h.form
 smallest_made limits p scheme n (Err f) e h = tt
 
-pub memory_alone : (limits : Limits) (p : PrimitiveParts) (scheme : Scheme) (n : ℕ) (r : Result Tree FastLanesError) → Gives (cheapest (encoded_bytes p) (candidates limits)) (Some (shape scheme, n)) → EncodesAs scheme p r → IfErr r (λ e. e ≡ OutOfMemory)
+pub memory_alone : (limits : Limits) (p : PrimitiveParts) (scheme : Shape) (n : ℕ) (r : Result Tree FastLanesError) → Gives (cheapest (encoded_bytes p) (candidates limits)) (Some (scheme, n)) → EncodesAs scheme p r → IfErr r (λ e. e ≡ OutOfMemory)
 memory_alone limits p scheme n (Ok t) e h = tt
 memory_alone limits p scheme n (Err f) e h =
-    let none = free_of_refusal scheme p n (first_cheapest (encoded_bytes p) (candidates limits) (shape scheme, n) (ok_is _ _ e)).own in
+    let none = free_of_refusal scheme p n (first_cheapest (encoded_bytes p) (candidates limits) (scheme, n) (ok_is _ _ e)).own in
     subst (λ (o : Option FastLanesError). AnswersUnless {X = Tree} o (Err f)) none h.refused
 
-pub no_larger_made : (limits : Limits) (p : PrimitiveParts) (scheme : Scheme) (n : ℕ) (r : Result Tree FastLanesError) → Gives (cheapest (encoded_bytes p) (candidates limits)) (Some (shape scheme, n)) → EncodesAs scheme p r → IfOk r (λ t. tree_bytes t ≤ primitive_bytes p)
+pub no_larger_made : (limits : Limits) (p : PrimitiveParts) (scheme : Shape) (n : ℕ) (r : Result Tree FastLanesError) → Gives (cheapest (encoded_bytes p) (candidates limits)) (Some (scheme, n)) → EncodesAs scheme p r → IfOk r (λ t. tree_bytes t ≤ primitive_bytes p)
 no_larger_made limits p scheme n (Ok t) e h = never_larger limits p t (smallest_is (candidates limits) p scheme n t (ok_is _ _ e) h.form)
 no_larger_made limits p scheme n (Err f) e h = tt
 
-pub plain_made : (limits : Limits) (p : PrimitiveParts) (scheme : Scheme) (n : ℕ) (r : Result Tree FastLanesError) → IsTrue (covers p.validity (length p.slots)) → Gives (cheapest (encoded_bytes p) (candidates limits)) (Some (shape scheme, n)) → EncodesAs scheme p r
+pub plain_made : (limits : Limits) (p : PrimitiveParts) (scheme : Shape) (n : ℕ) (r : Result Tree FastLanesError) → IsTrue (covers p.validity (length p.slots)) → Gives (cheapest (encoded_bytes p) (candidates limits)) (Some (scheme, n)) → EncodesAs scheme p r
     → length p.slots ≡ 0 → IfOk r (λ t. t ≡ tree.Primitive p)
 plain_made limits p scheme n (Ok t) c e h none = empty_is_plain limits p scheme n t c (ok_is _ _ e) h.form none
 plain_made limits p scheme n (Err f) c e h none = tt
 
-pub constant_made : (limits : Limits) (p : PrimitiveParts) (scheme : Scheme) (n : ℕ) (r : Result Tree FastLanesError) → Gives (cheapest (encoded_bytes p) (candidates limits)) (Some (shape scheme, n)) → EncodesAs scheme p r
+pub constant_made : (limits : Limits) (p : PrimitiveParts) (scheme : Shape) (n : ℕ) (r : Result Tree FastLanesError) → Gives (cheapest (encoded_bytes p) (candidates limits)) (Some (scheme, n)) → EncodesAs scheme p r
     → limits.constant ≡ true → 0 < length p.slots → are_constant (column_of_primitive p).items ≡ true → IfOk r (λ t. t ≡ tree.Constant (constant_of p))
 constant_made limits p scheme n (Ok t) e h allowed some same = constant_is_constant limits p scheme n t (ok_is _ _ e) h.form allowed some same
 constant_made limits p scheme n (Err f) e h allowed some same = tt

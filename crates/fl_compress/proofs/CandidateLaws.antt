@@ -5,9 +5,9 @@ use Rattle.std.specs.List.{All}
 use Rattle.std.proofs.lemmas.List.Elements.{All-append, All-cons, All-head, All-map, All-nil, All-tail, All-weaker}
 use Rattle.fl_codec.specs.declared.for_.ItemOrder.TheVariants.{Natural, Signed}
 use Rattle.fl_encode.specs.declared.scheme.Packing.TheVariants.{BestWidth, BestWidths}
-use Rattle.fl_encode.specs.Shapes.{BitPacked, Constant, Delta, FoR, FoRChunked, FoRChunkedWrapped, FoRWrapped, Plain, Primitive, RLE, Shape}
+use Rattle.fl_encode.specs.Shapes.{BitPacked, Constant, Delta, FoR, FoRChunked, Plain, Primitive, RLE, Shape}
 use Rattle.fl_compress.specs.declared.limits.Limits.{Limits}
-use Rattle.fl_compress.specs.Candidates.{candidates, delta_schemes, framed_schemes, has_level, over_deltas, over_frames, over_runs, packed_schemes, where_allowed, with_reference, with_references}
+use Rattle.fl_compress.specs.Candidates.{candidates, delta_schemes, framed_schemes, has_level, over_deltas, over_frames, over_runs, packed_schemes, where_allowed}
 use Rattle.fl_compress.specs.Statistics.{is_candidate, is_delta, is_framed, is_packed}
 
 -- ---- lists
@@ -58,18 +58,16 @@ packed_framed Plain e = refl
 packed_framed Primitive e = refl
 packed_framed Constant e = refl
 packed_framed (BitPacked packing) e = e
-packed_framed (FoR encoded) e = cc
-packed_framed (FoRChunked encoded references) e = cc
-packed_framed (FoRWrapped encoded) e = cc
-packed_framed (FoRChunkedWrapped encoded references) e = cc
+packed_framed (FoR order encoded) e = cc
+packed_framed (FoRChunked order encoded references) e = cc
 packed_framed (Delta bases deltas) e = cc
 packed_framed (RLE values indices offsets) e = cc
 
 all_frames : (children : List Shape) → All IsPacked children → All IsFramed (over_frames children)
 all_frames children all =
-    All-append IsFramed _ _ (All-map IsFramed (with_reference Natural) children all)
-    (All-append IsFramed _ _ (all_pairs IsPacked IsPacked IsFramed (with_references Natural) (λ x y e f. both_true (is_packed x) (is_packed y) e f) children children all all)
-    (All-append IsFramed _ _ (All-map IsFramed (with_reference Signed) children all) (all_pairs IsPacked IsPacked IsFramed (with_references Signed) (λ x y e f. both_true (is_packed x) (is_packed y) e f) children children all all)))
+    All-append IsFramed _ _ (All-map IsFramed (FoR Natural) children all)
+    (All-append IsFramed _ _ (all_pairs IsPacked IsPacked IsFramed (FoRChunked Natural) (λ x y e f. both_true (is_packed x) (is_packed y) e f) children children all all)
+    (All-append IsFramed _ _ (All-map IsFramed (FoR Signed) children all) (all_pairs IsPacked IsPacked IsFramed (FoRChunked Signed) (λ x y e f. both_true (is_packed x) (is_packed y) e f) children children all all)))
 
 all_framed : (limits : Limits) (depth : ℕ) → All IsFramed (framed_schemes limits depth)
 unfolding framed_schemes
@@ -82,10 +80,8 @@ framed_delta Plain e = refl
 framed_delta Primitive e = refl
 framed_delta Constant e = refl
 framed_delta (BitPacked packing) e = e
-framed_delta (FoR encoded) e = e
-framed_delta (FoRChunked encoded references) e = e
-framed_delta (FoRWrapped encoded) e = e
-framed_delta (FoRChunkedWrapped encoded references) e = e
+framed_delta (FoR order encoded) e = e
+framed_delta (FoRChunked order encoded references) e = e
 framed_delta (Delta bases deltas) e = cc
 framed_delta (RLE values indices offsets) e = cc
 
@@ -103,10 +99,8 @@ delta_candidate Plain e = refl
 delta_candidate Primitive e = refl
 delta_candidate Constant e = refl
 delta_candidate (BitPacked packing) e = e
-delta_candidate (FoR encoded) e = e
-delta_candidate (FoRChunked encoded references) e = e
-delta_candidate (FoRWrapped encoded) e = e
-delta_candidate (FoRChunkedWrapped encoded references) e = e
+delta_candidate (FoR order encoded) e = e
+delta_candidate (FoRChunked order encoded references) e = e
 delta_candidate (Delta bases deltas) e = e
 delta_candidate (RLE values indices offsets) e = cc
 

@@ -8,8 +8,7 @@ use Rattle.fl_types.specs.declared.validity.Validity.{Validity}
 use Rattle.fl_types.specs.declared.validity.Validity.TheVariants as valid
 use Rattle.fl_column.specs.Columns.{PrimitiveParts}
 use Rattle.fl_patches.specs.PatchMaps.{PatchesParts}
-use Rattle.fl_codec.specs.declared.for_.ItemOrder.TheVariants.{Signed}
-use Rattle.fl_codec.specs.Parts.{ByChunk, FoRParts, Nulls, OneReference, Whole, compress_deltas, encode_chunked, encode_chunked_by, encode_global, encode_global_by, encode_runs}
+use Rattle.fl_codec.specs.Parts.{ByChunk, FoRParts, Nulls, OneReference, Whole, compress_deltas, encode_chunked_by, encode_global_by, encode_runs}
 use Rattle.fl_bitpacking.specs.Blocks.{boundary_array}
 use Rattle.fl_bitpacking.specs.Columns.{BitPackedParts}
 use Rattle.fl_bitpacking.specs.Encoders.{best_width_of, best_widths_of}
@@ -19,10 +18,9 @@ use Rattle.fl_serialized.specs.Nodes.{Node, depth, depth_of, nodes_of}
 use Rattle.fl_serde.specs.Writing.{chunk_offset_nodes, packed_nodes, patch_nodes, validity_nodes, written}
 use Rattle.fl_encode.specs.declared.scheme.Packing.{Packing}
 use Rattle.fl_encode.specs.declared.scheme.Packing.TheVariants.{BestWidth, BestWidths, Width}
-use Rattle.fl_encode.specs.declared.scheme.Scheme.{Scheme, Primitive, Constant, BitPacked, FoR', FoRChunked', FoRWrapped', FoRChunkedWrapped', Delta', RLE', Held-Scheme-FoR-0 as ChildScheme, None' as NoScheme, Some' as HasScheme}
-use Rattle.fl_encode.specs.Encodings.{HasReference, HasReferences, IsChildAs, IsEncodedAs, whole_delta, whole_window}
+use Rattle.fl_encode.specs.Encodings.{HasReference, HasReferences, IsEncodedAs, whole_delta, whole_window}
 use Rattle.fl_encode.specs.Packings.{IsPackedAs}
-use Rattle.fl_encode.specs.Shapes.{child_shape, levels, shape}
+use Rattle.fl_encode.specs.Shapes.{BitPacked, Constant, Delta, FoR, FoRChunked, Plain, Primitive, RLE, Shape, levels}
 
 -- ---- nodes without children
 all_in : (first others : List Node) → depth_of (nodes_of (first ++ others)) ≡ max (depth_of (nodes_of first)) (depth_of (nodes_of others))
@@ -76,46 +74,39 @@ packing_low BestWidths p t (parts, is, e) = depth_as t _ 3 e (blocked_low parts 
 
 -- ---- nestings
 -- what a child makes is at most two nodes deeper than its scheme
-abbrev IsLow : ChildScheme → Type 0
-IsLow child = (p : PrimitiveParts) (t : Tree) → IsChildAs child p t → depth (written t) ≤ levels (child_shape child) + 2
+abbrev IsLow : Shape → Type 0
+IsLow child = (p : PrimitiveParts) (t : Tree) → IsEncodedAs child p t → depth (written t) ≤ levels child + 2
 
-reference_low : (child : ChildScheme) (o : Result OneReference FastLanesError) (t : Tree) → IsLow child → HasReference (IsChildAs child) o t → depth (written t) ≤ levels (child_shape child) + 1 + 2
+reference_low : (child : Shape) (o : Result OneReference FastLanesError) (t : Tree) → IsLow child → HasReference (IsEncodedAs child) o t → depth (written t) ≤ levels child + 1 + 2
 reference_low child (Ok parts) t low (encoded, is, e) = depth_as t (tree.FoRGlobal encoded parts.reference) _ e (let inner = low parts.child encoded is in omega arith)
 reference_low child (Err refusal) t low is = absurd is
 
-references_low : (child others : ChildScheme) (o : FoRParts) (t : Tree) → IsLow child → IsLow others → HasReferences (IsChildAs child) (IsChildAs others) o t → depth (written t) ≤ max (levels (child_shape child)) (levels (child_shape others)) + 1 + 2
+references_low : (child others : Shape) (o : FoRParts) (t : Tree) → IsLow child → IsLow others → HasReferences (IsEncodedAs child) (IsEncodedAs others) o t → depth (written t) ≤ max (levels child) (levels others) + 1 + 2
 references_low child others (Whole parts) t low other_low (encoded, is, e) = depth_as t (tree.FoRGlobal encoded parts.reference) _ e (let inner = low parts.child encoded is in omega arith)
 references_low child others (ByChunk p q) t low other_low (encoded, references, is, are, e) =
     depth_as t (tree.FoRChunked encoded references 0) _ e (let inner = low p encoded is in let other = other_low q references are in omega arith)
 references_low child others (Nulls constant reference) t low other_low e = depth_as t (tree.FoRGlobal (tree.Constant constant) reference) _ e (omega arith)
 
-mutual
-  pub encoded_low : (scheme : Scheme) (p : PrimitiveParts) (t : Tree) → IsEncodedAs scheme p t → depth (written t) ≤ levels (shape scheme) + 2
-  encoded_low Primitive p t is = depth_as t (tree.Primitive p) _ is (let low = plain_low p in omega arith)
-  encoded_low Constant p t is = depth_as t _ _ is (omega arith)
-  encoded_low (BitPacked packing) p t is = packing_low packing p t is
-  encoded_low (FoR' encoded) p t is = reference_low encoded (encode_global p) t (child_low encoded) is
-  encoded_low (FoRChunked' encoded references) p t is = references_low encoded references (encode_chunked p) t (child_low encoded) (child_low references) is
-  encoded_low (FoRWrapped' encoded) p t is = reference_low encoded (encode_global_by Signed p) t (child_low encoded) is
-  encoded_low (FoRChunkedWrapped' encoded references) p t is = references_low encoded references (encode_chunked_by Signed p) t (child_low encoded) (child_low references) is
-  encoded_low (Delta' bases deltas) p t (b, d, are, them, e) =
-      depth_as t (tree.Delta b d (whole_delta p)) _ e
-      (let first = child_low bases (compress_deltas p).0 b are in
-      let other = child_low deltas (compress_deltas p).1 d them in
-      let validity = validity_flat (length p.slots) p.validity in
-      omega arith)
-  encoded_low (RLE' values indices offsets) p t (v, i, o, are, them, those, e) =
-      depth_as t (tree.RLE v i o (whole_window p)) _ e
-      (let first = child_low values (encode_runs p).values v are in
-      let other = child_low indices (encode_runs p).indices i them in
-      let last = child_low offsets (encode_runs p).offsets o those in
-      omega arith)
-
-  -- the same of a child
-  child_low : (scheme : ChildScheme) (p : PrimitiveParts) (t : Tree) → IsChildAs scheme p t → depth (written t) ≤ levels (child_shape scheme) + 2
-  child_low NoScheme p t is = depth_as t (tree.Primitive p) _ is (plain_low p)
-  child_low (HasScheme at scheme) p t is = encoded_low scheme p t is
+pub encoded_low : (scheme : Shape) (p : PrimitiveParts) (t : Tree) → IsEncodedAs scheme p t → depth (written t) ≤ levels scheme + 2
+encoded_low Plain p t is = depth_as t (tree.Primitive p) _ is (plain_low p)
+encoded_low Primitive p t is = depth_as t (tree.Primitive p) _ is (let low = plain_low p in omega arith)
+encoded_low Constant p t is = depth_as t _ _ is (omega arith)
+encoded_low (BitPacked packing) p t is = packing_low packing p t is
+encoded_low (FoR order encoded) p t is = reference_low encoded (encode_global_by order p) t (encoded_low encoded) is
+encoded_low (FoRChunked order encoded references) p t is = references_low encoded references (encode_chunked_by order p) t (encoded_low encoded) (encoded_low references) is
+encoded_low (Delta bases deltas) p t (b, d, are, them, e) =
+    depth_as t (tree.Delta b d (whole_delta p)) _ e
+    (let first = encoded_low bases (compress_deltas p).0 b are in
+    let other = encoded_low deltas (compress_deltas p).1 d them in
+    let validity = validity_flat (length p.slots) p.validity in
+    omega arith)
+encoded_low (RLE values indices offsets) p t (v, i, o, are, them, those, e) =
+    depth_as t (tree.RLE v i o (whole_window p)) _ e
+    (let first = encoded_low values (encode_runs p).values v are in
+    let other = encoded_low indices (encode_runs p).indices i them in
+    let last = encoded_low offsets (encode_runs p).offsets o those in
+    omega arith)
 
 -- a scheme that has a text
-pub text_low : (scheme : Scheme) (p : PrimitiveParts) (t : Tree) → levels (shape scheme) ≤ 14 → IsEncodedAs scheme p t → depth (written t) ≤ 16
+pub text_low : (scheme : Shape) (p : PrimitiveParts) (t : Tree) → levels scheme ≤ 14 → IsEncodedAs scheme p t → depth (written t) ≤ 16
 text_low scheme p t few is = let low = encoded_low scheme p t is in omega arith

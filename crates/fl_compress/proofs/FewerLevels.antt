@@ -9,9 +9,9 @@ use Rattle.fl_codec.specs.declared.for_.ItemOrder.TheVariants.{Natural, Signed}
 use Rattle.fl_codec.specs.Parts.{encode_runs}
 use Rattle.fl_array.proofs.EncodedRLE.{ok_is}
 use Rattle.fl_encode.specs.declared.scheme.Packing.TheVariants.{BestWidth, BestWidths}
-use Rattle.fl_encode.specs.Shapes.{BitPacked, Constant, Delta, Primitive, Shape}
+use Rattle.fl_encode.specs.Shapes.{BitPacked, Constant, Delta, FoR, FoRChunked, Primitive, Shape}
 use Rattle.fl_compress.specs.declared.limits.Limits.{Limits}
-use Rattle.fl_compress.specs.Candidates.{candidates, delta_schemes, framed_schemes, has_level, over_deltas, over_frames, over_runs, packed_schemes, where_allowed, with_reference, with_references}
+use Rattle.fl_compress.specs.Candidates.{candidates, delta_schemes, framed_schemes, has_level, over_deltas, over_frames, over_runs, packed_schemes, where_allowed}
 use Rattle.fl_compress.specs.Cheapest.{cheaper, cheapest, combined}
 use Rattle.fl_compress.specs.Choices.{CostsNoMore, runs_of, two}
 use Rattle.fl_compress.specs.EncodedBytes.{encoded_bytes}
@@ -69,9 +69,9 @@ more_levels false depth other h e = cc
 -- ---- schemes
 within_frames : (a b : List Shape) → IsWithin a b → IsWithin (over_frames a) (over_frames b)
 within_frames a b within =
-    within_append _ _ _ _ (within_map (with_reference Natural) a b within)
-    (within_append _ _ _ _ (within_pairs (with_references Natural) a b within)
-    (within_append _ _ _ _ (within_map (with_reference Signed) a b within) (within_pairs (with_references Signed) a b within)))
+    within_append _ _ _ _ (within_map (FoR Natural) a b within)
+    (within_append _ _ _ _ (within_pairs (FoRChunked Natural) a b within)
+    (within_append _ _ _ _ (within_map (FoR Signed) a b within) (within_pairs (FoRChunked Signed) a b within)))
 
 same_list : (a : List Shape) → IsWithin a a
 same_list a = λ Q h. h

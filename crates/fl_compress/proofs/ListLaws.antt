@@ -11,10 +11,10 @@ use Rattle.fl_codec.specs.declared.for_.ItemOrder.{ItemOrder}
 use Rattle.fl_codec.specs.declared.for_.ItemOrder.TheVariants.{Natural, Signed}
 use Rattle.fl_codec.specs.Parts.{ByChunk, FoRParts, Nulls, OneReference, Whole, compress_deltas, encode_chunked_by, encode_global_by, encode_runs}
 use Rattle.fl_encode.specs.declared.scheme.Packing.TheVariants.{BestWidth, BestWidths}
-use Rattle.fl_encode.specs.Shapes.{BitPacked, Constant, Delta, Primitive, RLE, Shape}
+use Rattle.fl_encode.specs.Shapes.{BitPacked, Constant, Delta, FoR, FoRChunked, Primitive, RLE, Shape}
 use Rattle.fl_serde.specs.ByteCounts.{primitive_bytes, validity_bytes}
 use Rattle.fl_compress.specs.declared.limits.Limits.{Limits}
-use Rattle.fl_compress.specs.Candidates.{candidates, delta_schemes, framed_schemes, has_level, over_chunk_references, over_deltas, over_frames, over_one_reference, over_runs, packed_schemes, where_allowed, with_reference, with_references}
+use Rattle.fl_compress.specs.Candidates.{candidates, delta_schemes, framed_schemes, has_level, over_chunk_references, over_deltas, over_frames, over_one_reference, over_runs, packed_schemes, where_allowed}
 use Rattle.fl_compress.specs.Cheapest.{beside, both, cheaper, cheapest, combined}
 use Rattle.fl_compress.specs.Choices.{or_frames, runs_of, two, with_bytes}
 use Rattle.fl_compress.specs.EncodedBytes.{encoded_bytes, over_reference, over_references}
@@ -62,21 +62,19 @@ packings_there p allowed e =
     ∙ ap (cheaper (with_bytes (BitPacked BestWidth) (encoded_bytes p (BitPacked BestWidth)))) (cheaper_none (with_bytes (BitPacked BestWidths) (encoded_bytes p (BitPacked BestWidths))))
 
 -- ---- frames of reference
-one_bytes : (order : ItemOrder) (p : PrimitiveParts) (o : Result OneReference FastLanesError) (child : Shape) → encode_global_by order p ≡ o → encoded_bytes p (with_reference order child) ≡ over_reference (λ q. encoded_bytes q child) o
+one_bytes : (order : ItemOrder) (p : PrimitiveParts) (o : Result OneReference FastLanesError) (child : Shape) → encode_global_by order p ≡ o → encoded_bytes p (FoR order child) ≡ over_reference (λ q. encoded_bytes q child) o
 unfolding encoded_bytes
-one_bytes Natural p o child e = ap (over_reference (λ q. encoded_bytes q child)) e
-one_bytes Signed p o child e = ap (over_reference (λ q. encoded_bytes q child)) e
+one_bytes order p o child e = ap (over_reference (λ q. encoded_bytes q child)) e
 
-pub one_list : (order : ItemOrder) (p : PrimitiveParts) (parts : OneReference) (schemes : List Shape) → encode_global_by order p ≡ Ok parts → cheapest (encoded_bytes p) (over_one_reference order schemes) ≡ wrapped (with_reference order) (cheapest (encoded_bytes parts.child) schemes)
-one_list order p parts schemes e = cheapest_map (encoded_bytes p) (encoded_bytes parts.child) (with_reference order) (λ child. one_bytes order p (Ok parts) child e) schemes
+pub one_list : (order : ItemOrder) (p : PrimitiveParts) (parts : OneReference) (schemes : List Shape) → encode_global_by order p ≡ Ok parts → cheapest (encoded_bytes p) (over_one_reference order schemes) ≡ wrapped (FoR order) (cheapest (encoded_bytes parts.child) schemes)
+one_list order p parts schemes e = cheapest_map (encoded_bytes p) (encoded_bytes parts.child) (FoR order) (λ child. one_bytes order p (Ok parts) child e) schemes
 
 pub no_reference_list : (order : ItemOrder) (p : PrimitiveParts) (refusal : FastLanesError) (schemes : List Shape) → encode_global_by order p ≡ Err refusal → cheapest (encoded_bytes p) (over_one_reference order schemes) ≡ None
-no_reference_list order p refusal schemes e = cheapest_none (encoded_bytes p) (with_reference order) (λ child. one_bytes order p (Err refusal) child e) schemes
+no_reference_list order p refusal schemes e = cheapest_none (encoded_bytes p) (FoR order) (λ child. one_bytes order p (Err refusal) child e) schemes
 
-chunk_bytes : (order : ItemOrder) (p : PrimitiveParts) (o : FoRParts) (child others : Shape) → encode_chunked_by order p ≡ o → encoded_bytes p (with_references order child others) ≡ over_references (λ q. encoded_bytes q child) (λ q. encoded_bytes q others) o
+chunk_bytes : (order : ItemOrder) (p : PrimitiveParts) (o : FoRParts) (child others : Shape) → encode_chunked_by order p ≡ o → encoded_bytes p (FoRChunked order child others) ≡ over_references (λ q. encoded_bytes q child) (λ q. encoded_bytes q others) o
 unfolding encoded_bytes
-chunk_bytes Natural p o child others e = ap (over_references (λ q. encoded_bytes q child) (λ q. encoded_bytes q others)) e
-chunk_bytes Signed p o child others e = ap (over_references (λ q. encoded_bytes q child) (λ q. encoded_bytes q others)) e
+chunk_bytes order p o child others e = ap (over_references (λ q. encoded_bytes q child) (λ q. encoded_bytes q others)) e
 
 nothing_more : (o : Option ℕ) → o ≡ both o (Some 0)
 nothing_more None = refl
@@ -88,22 +86,22 @@ unfolding packed_schemes
 free_packed limits depth = cheapest_free (λ s. Some 0) (λ s. refl) Primitive (where_allowed limits.constant (Constant ∷ []) ++ where_allowed (has_level limits.bitpacked depth) (BitPacked BestWidth ∷ BitPacked BestWidths ∷ []))
 
 pub whole_list : (order : ItemOrder) (p : PrimitiveParts) (parts : OneReference) (limits : Limits) (depth : ℕ) → encode_chunked_by order p ≡ Whole parts
-    → cheapest (encoded_bytes p) (over_chunk_references order (packed_schemes limits depth)) ≡ combined (with_references order) (cheapest (encoded_bytes parts.child) (packed_schemes limits depth)) (Some (Primitive, 0))
+    → cheapest (encoded_bytes p) (over_chunk_references order (packed_schemes limits depth)) ≡ combined (FoRChunked order) (cheapest (encoded_bytes parts.child) (packed_schemes limits depth)) (Some (Primitive, 0))
 whole_list order p parts limits depth e =
     let schemes = packed_schemes limits depth in
-    cheapest_pairs (encoded_bytes p) (encoded_bytes parts.child) (λ s. Some 0) (with_references order) (λ child others. chunk_bytes order p (Whole parts) child others e ∙ nothing_more (encoded_bytes parts.child child)) schemes schemes
-    ∙ ap (combined (with_references order) (cheapest (encoded_bytes parts.child) schemes)) (free_packed limits depth)
+    cheapest_pairs (encoded_bytes p) (encoded_bytes parts.child) (λ s. Some 0) (FoRChunked order) (λ child others. chunk_bytes order p (Whole parts) child others e ∙ nothing_more (encoded_bytes parts.child child)) schemes schemes
+    ∙ ap (combined (FoRChunked order) (cheapest (encoded_bytes parts.child) schemes)) (free_packed limits depth)
 
 pub chunk_list : (order : ItemOrder) (p child others : PrimitiveParts) (schemes : List Shape) → encode_chunked_by order p ≡ ByChunk child others
-    → cheapest (encoded_bytes p) (over_chunk_references order schemes) ≡ combined (with_references order) (cheapest (encoded_bytes child) schemes) (cheapest (encoded_bytes others) schemes)
-chunk_list order p child others schemes e = cheapest_pairs (encoded_bytes p) (encoded_bytes child) (encoded_bytes others) (with_references order) (λ s r. chunk_bytes order p (ByChunk child others) s r e) schemes schemes
+    → cheapest (encoded_bytes p) (over_chunk_references order schemes) ≡ combined (FoRChunked order) (cheapest (encoded_bytes child) schemes) (cheapest (encoded_bytes others) schemes)
+chunk_list order p child others schemes e = cheapest_pairs (encoded_bytes p) (encoded_bytes child) (encoded_bytes others) (FoRChunked order) (λ s r. chunk_bytes order p (ByChunk child others) s r e) schemes schemes
 
 pub nulls_list : (order : ItemOrder) (p : PrimitiveParts) (constant : ConstantParts) (reference : ScalarParts) (limits : Limits) (depth : ℕ) → encode_chunked_by order p ≡ Nulls constant reference
-    → cheapest (encoded_bytes p) (over_chunk_references order (packed_schemes limits depth)) ≡ combined (with_references order) (Some (Primitive, 0)) (Some (Primitive, 0))
+    → cheapest (encoded_bytes p) (over_chunk_references order (packed_schemes limits depth)) ≡ combined (FoRChunked order) (Some (Primitive, 0)) (Some (Primitive, 0))
 nulls_list order p constant reference limits depth e =
     let schemes = packed_schemes limits depth in
-    cheapest_pairs (encoded_bytes p) (λ s. Some 0) (λ s. Some 0) (with_references order) (λ s r. chunk_bytes order p (Nulls constant reference) s r e) schemes schemes
-    ∙ (ap (λ first. combined (with_references order) first (cheapest (λ s. Some 0) schemes)) (free_packed limits depth) ∙ ap (combined (with_references order) (Some (Primitive, 0))) (free_packed limits depth))
+    cheapest_pairs (encoded_bytes p) (λ s. Some 0) (λ s. Some 0) (FoRChunked order) (λ s r. chunk_bytes order p (Nulls constant reference) s r e) schemes schemes
+    ∙ (ap (λ first. combined (FoRChunked order) first (cheapest (λ s. Some 0) schemes)) (free_packed limits depth) ∙ ap (combined (FoRChunked order) (Some (Primitive, 0))) (free_packed limits depth))
 
 pub framed_list : (limits : Limits) (depth : ℕ) (p : PrimitiveParts) → has_level limits.for_ depth ≡ true → cheapest (encoded_bytes p) (framed_schemes limits depth)
     ≡ or_frames Signed p (packed_schemes limits (depth - 1)) (or_frames Natural p (packed_schemes limits (depth - 1)) (cheapest (encoded_bytes p) (packed_schemes limits depth)))

@@ -12,10 +12,9 @@ use Rattle.fl_array.specs.Trees.{DeltaParts, OffsetLen, Tree}
 use Rattle.fl_array.specs.Trees as tree
 use Rattle.fl_encode.specs.declared.scheme.Packing.{Packing}
 use Rattle.fl_encode.specs.declared.scheme.Packing.TheVariants.{BestWidth, BestWidths, Width}
-use Rattle.fl_encode.specs.declared.scheme.Scheme.{Scheme, Primitive, Constant, BitPacked, FoR', FoRChunked', FoRWrapped', FoRChunkedWrapped', Delta', RLE', Held-Scheme-FoR-0 as ChildScheme, None' as NoScheme, Some' as HasScheme}
-use Rattle.fl_encode.specs.Encodings.{HasDeltas, HasReference, HasReferences, HasRuns, IsChildAs, IsEncodedAs, child_refusal, encode_refusal, one_reference_refusal, references_refusal, whole_delta, whole_window}
+use Rattle.fl_encode.specs.Encodings.{HasDeltas, HasReference, HasReferences, HasRuns, IsEncodedAs, encode_refusal, one_reference_refusal, references_refusal, whole_delta, whole_window}
 use Rattle.fl_encode.specs.Packings.{IsPackedAs, constant_refusal, packing_refusal}
-use Rattle.fl_encode.specs.Shapes.{child_shape, shape}
+use Rattle.fl_encode.specs.Shapes.{BitPacked, Constant, Delta, FoR, FoRChunked, Plain, Primitive, RLE, Shape}
 use Rattle.fl_serde.specs.ByteCounts.{primitive_bytes, tree_bytes, validity_bytes}
 use Rattle.fl_compress.specs.Cheapest.{both}
 use Rattle.fl_compress.specs.EncodedBytes.{bytes_packed, encoded_bytes, over_reference, over_references, unless}
@@ -67,107 +66,93 @@ packing_bytes BestWidths p t none (parts, is, e) =
 
 -- ---- nestings
 -- a child has the bytes that are foreseen
-abbrev HasItsBytes : ChildScheme → Type 0
-HasItsBytes child = (q : PrimitiveParts) (u : Tree) → child_refusal child q ≡ None → IsChildAs child q u → encoded_bytes q (child_shape child) ≡ Some (tree_bytes u)
+abbrev HasItsBytes : Shape → Type 0
+HasItsBytes child = (q : PrimitiveParts) (u : Tree) → encode_refusal child q ≡ None → IsEncodedAs child q u → encoded_bytes q child ≡ Some (tree_bytes u)
 
-reference_bytes : (child : ChildScheme) (o : Result OneReference FastLanesError) (t : Tree) → HasItsBytes child → one_reference_refusal (child_refusal child) o ≡ None → HasReference (IsChildAs child) o t
-    → over_reference (λ q. encoded_bytes q (child_shape child)) o ≡ Some (tree_bytes t)
+reference_bytes : (child : Shape) (o : Result OneReference FastLanesError) (t : Tree) → HasItsBytes child → one_reference_refusal (encode_refusal child) o ≡ None → HasReference (IsEncodedAs child) o t
+    → over_reference (λ q. encoded_bytes q child) o ≡ Some (tree_bytes t)
 reference_bytes child (Ok parts) t bytes none (encoded, is, e) = bytes parts.child encoded none is ∙ bytes_as t (tree.FoRGlobal encoded parts.reference) (tree_bytes encoded) e refl
 reference_bytes child (Err refusal) t bytes none is = absurd is
 
-references_bytes : (child others : ChildScheme) (o : FoRParts) (t : Tree) → HasItsBytes child → HasItsBytes others → references_refusal (child_refusal child) (child_refusal others) o ≡ None → HasReferences (IsChildAs child) (IsChildAs others) o t
-    → over_references (λ q. encoded_bytes q (child_shape child)) (λ q. encoded_bytes q (child_shape others)) o ≡ Some (tree_bytes t)
+references_bytes : (child others : Shape) (o : FoRParts) (t : Tree) → HasItsBytes child → HasItsBytes others → references_refusal (encode_refusal child) (encode_refusal others) o ≡ None → HasReferences (IsEncodedAs child) (IsEncodedAs others) o t
+    → over_references (λ q. encoded_bytes q child) (λ q. encoded_bytes q others) o ≡ Some (tree_bytes t)
 references_bytes child others (Whole parts) t bytes other_bytes none (encoded, is, e) = bytes parts.child encoded none is ∙ bytes_as t (tree.FoRGlobal encoded parts.reference) (tree_bytes encoded) e refl
 references_bytes child others (ByChunk p q) t bytes other_bytes none (encoded, references, is, are, e) =
-    both_are (encoded_bytes p (child_shape child)) (encoded_bytes q (child_shape others)) (tree_bytes encoded) (tree_bytes references)
-    (bytes p encoded (first_none (child_refusal child p) (child_refusal others q) none) is)
-    (other_bytes q references (other_none (child_refusal child p) (child_refusal others q) none) are)
+    both_are (encoded_bytes p child) (encoded_bytes q others) (tree_bytes encoded) (tree_bytes references)
+    (bytes p encoded (first_none (encode_refusal child p) (encode_refusal others q) none) is)
+    (other_bytes q references (other_none (encode_refusal child p) (encode_refusal others q) none) are)
     ∙ bytes_as t (tree.FoRChunked encoded references 0) (tree_bytes encoded + tree_bytes references) e refl
 references_bytes child others (Nulls constant reference) t bytes other_bytes none is = bytes_as t (tree.FoRGlobal (tree.Constant constant) reference) 0 is refl
 
-deltas_bytes : (bases deltas : ChildScheme) (p q : PrimitiveParts) (parts : DeltaParts) (t : Tree) → HasItsBytes bases → HasItsBytes deltas → otherwise (child_refusal bases p) (child_refusal deltas q) ≡ None → HasDeltas (IsChildAs bases) (IsChildAs deltas) (p, q) parts t
-    → both (encoded_bytes p (child_shape bases)) (both (encoded_bytes q (child_shape deltas)) (Some (validity_bytes parts.len parts.validity))) ≡ Some (tree_bytes t)
+deltas_bytes : (bases deltas : Shape) (p q : PrimitiveParts) (parts : DeltaParts) (t : Tree) → HasItsBytes bases → HasItsBytes deltas → otherwise (encode_refusal bases p) (encode_refusal deltas q) ≡ None → HasDeltas (IsEncodedAs bases) (IsEncodedAs deltas) (p, q) parts t
+    → both (encoded_bytes p bases) (both (encoded_bytes q deltas) (Some (validity_bytes parts.len parts.validity))) ≡ Some (tree_bytes t)
 deltas_bytes bases deltas p q parts t bytes other_bytes none (first, other, is, are, e) =
     let own = validity_bytes parts.len parts.validity in
-    both_are (encoded_bytes p (child_shape bases)) (both (encoded_bytes q (child_shape deltas)) (Some own)) (tree_bytes first) (tree_bytes other + own)
-    (bytes p first (first_none (child_refusal bases p) (child_refusal deltas q) none) is)
-    (both_are (encoded_bytes q (child_shape deltas)) (Some own) (tree_bytes other) own (other_bytes q other (other_none (child_refusal bases p) (child_refusal deltas q) none) are) refl)
+    both_are (encoded_bytes p bases) (both (encoded_bytes q deltas) (Some own)) (tree_bytes first) (tree_bytes other + own)
+    (bytes p first (first_none (encode_refusal bases p) (encode_refusal deltas q) none) is)
+    (both_are (encoded_bytes q deltas) (Some own) (tree_bytes other) own (other_bytes q other (other_none (encode_refusal bases p) (encode_refusal deltas q) none) are) refl)
     ∙ bytes_as t (tree.Delta first other parts) (tree_bytes first + (tree_bytes other + own)) e (omega arith)
 
-runs_bytes : (values indices offsets : ChildScheme) (runs : RunParts) (window : OffsetLen) (t : Tree) → HasItsBytes values → HasItsBytes indices → HasItsBytes offsets
-    → otherwise (child_refusal values runs.values) (otherwise (child_refusal indices runs.indices) (child_refusal offsets runs.offsets)) ≡ None → HasRuns (IsChildAs values) (IsChildAs indices) (IsChildAs offsets) runs window t
-    → both (encoded_bytes runs.values (child_shape values)) (both (encoded_bytes runs.indices (child_shape indices)) (encoded_bytes runs.offsets (child_shape offsets))) ≡ Some (tree_bytes t)
+runs_bytes : (values indices offsets : Shape) (runs : RunParts) (window : OffsetLen) (t : Tree) → HasItsBytes values → HasItsBytes indices → HasItsBytes offsets
+    → otherwise (encode_refusal values runs.values) (otherwise (encode_refusal indices runs.indices) (encode_refusal offsets runs.offsets)) ≡ None → HasRuns (IsEncodedAs values) (IsEncodedAs indices) (IsEncodedAs offsets) runs window t
+    → both (encoded_bytes runs.values values) (both (encoded_bytes runs.indices indices) (encoded_bytes runs.offsets offsets)) ≡ Some (tree_bytes t)
 runs_bytes values indices offsets runs window t bytes index_bytes offset_bytes none (v, i, o, is, are, last, e) =
-    let others = otherwise (child_refusal indices runs.indices) (child_refusal offsets runs.offsets) in
-    let rest = other_none (child_refusal values runs.values) others none in
-    both_are (encoded_bytes runs.values (child_shape values)) (both (encoded_bytes runs.indices (child_shape indices)) (encoded_bytes runs.offsets (child_shape offsets))) (tree_bytes v) (tree_bytes i + tree_bytes o)
-    (bytes runs.values v (first_none (child_refusal values runs.values) others none) is)
-    (both_are (encoded_bytes runs.indices (child_shape indices)) (encoded_bytes runs.offsets (child_shape offsets)) (tree_bytes i) (tree_bytes o)
-    (index_bytes runs.indices i (first_none (child_refusal indices runs.indices) (child_refusal offsets runs.offsets) rest) are)
-    (offset_bytes runs.offsets o (other_none (child_refusal indices runs.indices) (child_refusal offsets runs.offsets) rest) last))
+    let others = otherwise (encode_refusal indices runs.indices) (encode_refusal offsets runs.offsets) in
+    let rest = other_none (encode_refusal values runs.values) others none in
+    both_are (encoded_bytes runs.values values) (both (encoded_bytes runs.indices indices) (encoded_bytes runs.offsets offsets)) (tree_bytes v) (tree_bytes i + tree_bytes o)
+    (bytes runs.values v (first_none (encode_refusal values runs.values) others none) is)
+    (both_are (encoded_bytes runs.indices indices) (encoded_bytes runs.offsets offsets) (tree_bytes i) (tree_bytes o)
+    (index_bytes runs.indices i (first_none (encode_refusal indices runs.indices) (encode_refusal offsets runs.offsets) rest) are)
+    (offset_bytes runs.offsets o (other_none (encode_refusal indices runs.indices) (encode_refusal offsets runs.offsets) rest) last))
     ∙ bytes_as t (tree.RLE v i o window) (tree_bytes v + (tree_bytes i + tree_bytes o)) e (omega arith)
 
 -- ---- schemes
-mutual
-  unfolding encoded_bytes
-
-  pub made_bytes : (scheme : Scheme) (p : PrimitiveParts) (t : Tree) → encode_refusal scheme p ≡ None → IsEncodedAs scheme p t → encoded_bytes p (shape scheme) ≡ Some (tree_bytes t)
-  made_bytes Primitive p t none is = bytes_as t (tree.Primitive p) (primitive_bytes p) is refl
-  made_bytes Constant p t none is = ap (λ r. unless r 0) none ∙ bytes_as t _ 0 is refl
-  made_bytes (BitPacked packing) p t none is = packing_bytes packing p t none is
-  made_bytes (FoR' encoded) p t none is = reference_bytes encoded (encode_global_by Natural p) t (λ q u n m. child_bytes encoded q u n m) none is
-  made_bytes (FoRChunked' encoded references) p t none is = references_bytes encoded references (encode_chunked_by Natural p) t (λ q u n m. child_bytes encoded q u n m) (λ q u n m. child_bytes references q u n m) none is
-  made_bytes (FoRWrapped' encoded) p t none is = reference_bytes encoded (encode_global_by Signed p) t (λ q u n m. child_bytes encoded q u n m) none is
-  made_bytes (FoRChunkedWrapped' encoded references) p t none is = references_bytes encoded references (encode_chunked_by Signed p) t (λ q u n m. child_bytes encoded q u n m) (λ q u n m. child_bytes references q u n m) none is
-  made_bytes (Delta' bases deltas) p t none is = deltas_bytes bases deltas (compress_deltas p).0 (compress_deltas p).1 (whole_delta p) t (λ q u n m. child_bytes bases q u n m) (λ q u n m. child_bytes deltas q u n m) none is
-  made_bytes (RLE' values indices offsets) p t none is = runs_bytes values indices offsets (encode_runs p) (whole_window p) t (λ q u n m. child_bytes values q u n m) (λ q u n m. child_bytes indices q u n m) (λ q u n m. child_bytes offsets q u n m) none is
-
-  child_bytes : (child : ChildScheme) (p : PrimitiveParts) (t : Tree) → child_refusal child p ≡ None → IsChildAs child p t → encoded_bytes p (child_shape child) ≡ Some (tree_bytes t)
-  child_bytes NoScheme p t none is = bytes_as t (tree.Primitive p) (primitive_bytes p) is refl
-  child_bytes (HasScheme at scheme) p t none is = made_bytes scheme p t none is
+pub made_bytes : (scheme : Shape) (p : PrimitiveParts) (t : Tree) → encode_refusal scheme p ≡ None → IsEncodedAs scheme p t → encoded_bytes p scheme ≡ Some (tree_bytes t)
+unfolding encoded_bytes
+made_bytes Plain p t none is = bytes_as t (tree.Primitive p) (primitive_bytes p) is refl
+made_bytes Primitive p t none is = bytes_as t (tree.Primitive p) (primitive_bytes p) is refl
+made_bytes Constant p t none is = ap (λ r. unless r 0) none ∙ bytes_as t _ 0 is refl
+made_bytes (BitPacked packing) p t none is = packing_bytes packing p t none is
+made_bytes (FoR order encoded) p t none is = reference_bytes encoded (encode_global_by order p) t (λ q u n m. made_bytes encoded q u n m) none is
+made_bytes (FoRChunked order encoded references) p t none is = references_bytes encoded references (encode_chunked_by order p) t (λ q u n m. made_bytes encoded q u n m) (λ q u n m. made_bytes references q u n m) none is
+made_bytes (Delta bases deltas) p t none is = deltas_bytes bases deltas (compress_deltas p).0 (compress_deltas p).1 (whole_delta p) t (λ q u n m. made_bytes bases q u n m) (λ q u n m. made_bytes deltas q u n m) none is
+made_bytes (RLE values indices offsets) p t none is = runs_bytes values indices offsets (encode_runs p) (whole_window p) t (λ q u n m. made_bytes values q u n m) (λ q u n m. made_bytes indices q u n m) (λ q u n m. made_bytes offsets q u n m) none is
 
 -- a child that has bytes is not refused
-abbrev IsFree : ChildScheme → Type 0
-IsFree child = (q : PrimitiveParts) (n : ℕ) → encoded_bytes q (child_shape child) ≡ Some n → child_refusal child q ≡ None
+abbrev IsFree : Shape → Type 0
+IsFree child = (q : PrimitiveParts) (n : ℕ) → encoded_bytes q child ≡ Some n → encode_refusal child q ≡ None
 
-reference_free : (child : ChildScheme) (o : Result OneReference FastLanesError) (n : ℕ) → IsFree child → over_reference (λ q. encoded_bytes q (child_shape child)) o ≡ Some n → one_reference_refusal (child_refusal child) o ≡ None
+reference_free : (child : Shape) (o : Result OneReference FastLanesError) (n : ℕ) → IsFree child → over_reference (λ q. encoded_bytes q child) o ≡ Some n → one_reference_refusal (encode_refusal child) o ≡ None
 reference_free child (Ok parts) n free e = free parts.child n e
 reference_free child (Err refusal) n free e = cc
 
-references_free : (child others : ChildScheme) (o : FoRParts) (n : ℕ) → IsFree child → IsFree others → over_references (λ q. encoded_bytes q (child_shape child)) (λ q. encoded_bytes q (child_shape others)) o ≡ Some n
-    → references_refusal (child_refusal child) (child_refusal others) o ≡ None
+references_free : (child others : Shape) (o : FoRParts) (n : ℕ) → IsFree child → IsFree others → over_references (λ q. encoded_bytes q child) (λ q. encoded_bytes q others) o ≡ Some n
+    → references_refusal (encode_refusal child) (encode_refusal others) o ≡ None
 references_free child others (Whole parts) n free other_free e = free parts.child n e
 references_free child others (ByChunk p q) n free other_free e =
-    let costs = costs_of (encoded_bytes p (child_shape child)) (encoded_bytes q (child_shape others)) n e in
-    neither (child_refusal child p) (child_refusal others q) (free p costs.first costs.is_first) (other_free q costs.other costs.is_other)
+    let costs = costs_of (encoded_bytes p child) (encoded_bytes q others) n e in
+    neither (encode_refusal child p) (encode_refusal others q) (free p costs.first costs.is_first) (other_free q costs.other costs.is_other)
 references_free child others (Nulls constant reference) n free other_free e = refl
 
-mutual
-  unfolding encoded_bytes
-
-  pub free_of_refusal : (scheme : Scheme) (p : PrimitiveParts) (n : ℕ) → encoded_bytes p (shape scheme) ≡ Some n → encode_refusal scheme p ≡ None
-  free_of_refusal Primitive p n e = refl
-  free_of_refusal Constant p n e = not_refused (constant_refusal p) 0 n e
-  free_of_refusal (BitPacked packing) p n e = not_refused (packing_refusal packing p) (bytes_packed packing p) n e
-  free_of_refusal (FoR' encoded) p n e = reference_free encoded (encode_global_by Natural p) n (λ q m f. child_free encoded q m f) e
-  free_of_refusal (FoRChunked' encoded references) p n e = references_free encoded references (encode_chunked_by Natural p) n (λ q m f. child_free encoded q m f) (λ q m f. child_free references q m f) e
-  free_of_refusal (FoRWrapped' encoded) p n e = reference_free encoded (encode_global_by Signed p) n (λ q m f. child_free encoded q m f) e
-  free_of_refusal (FoRChunkedWrapped' encoded references) p n e = references_free encoded references (encode_chunked_by Signed p) n (λ q m f. child_free encoded q m f) (λ q m f. child_free references q m f) e
-  free_of_refusal (Delta' bases deltas) p n e =
-      let first = encoded_bytes (compress_deltas p).0 (child_shape bases) in
-      let other = encoded_bytes (compress_deltas p).1 (child_shape deltas) in
-      let own : Option ℕ = Some (validity_bytes (length p.slots) p.validity) in
-      let costs = costs_of first (both other own) n e in
-      let rest = costs_of other own costs.other costs.is_other in
-      neither (child_refusal bases (compress_deltas p).0) (child_refusal deltas (compress_deltas p).1) (child_free bases (compress_deltas p).0 costs.first costs.is_first) (child_free deltas (compress_deltas p).1 rest.first rest.is_first)
-  free_of_refusal (RLE' values indices offsets) p n e =
-      let runs = encode_runs p in
-      let others = both (encoded_bytes runs.indices (child_shape indices)) (encoded_bytes runs.offsets (child_shape offsets)) in
-      let costs = costs_of (encoded_bytes runs.values (child_shape values)) others n e in
-      let rest = costs_of (encoded_bytes runs.indices (child_shape indices)) (encoded_bytes runs.offsets (child_shape offsets)) costs.other costs.is_other in
-      neither (child_refusal values runs.values) (otherwise (child_refusal indices runs.indices) (child_refusal offsets runs.offsets)) (child_free values runs.values costs.first costs.is_first)
-      (neither (child_refusal indices runs.indices) (child_refusal offsets runs.offsets) (child_free indices runs.indices rest.first rest.is_first) (child_free offsets runs.offsets rest.other rest.is_other))
-
-  child_free : (child : ChildScheme) (p : PrimitiveParts) (n : ℕ) → encoded_bytes p (child_shape child) ≡ Some n → child_refusal child p ≡ None
-  child_free NoScheme p n e = refl
-  child_free (HasScheme at scheme) p n e = free_of_refusal scheme p n e
+pub free_of_refusal : (scheme : Shape) (p : PrimitiveParts) (n : ℕ) → encoded_bytes p scheme ≡ Some n → encode_refusal scheme p ≡ None
+unfolding encoded_bytes
+free_of_refusal Plain p n e = refl
+free_of_refusal Primitive p n e = refl
+free_of_refusal Constant p n e = not_refused (constant_refusal p) 0 n e
+free_of_refusal (BitPacked packing) p n e = not_refused (packing_refusal packing p) (bytes_packed packing p) n e
+free_of_refusal (FoR order encoded) p n e = reference_free encoded (encode_global_by order p) n (λ q m f. free_of_refusal encoded q m f) e
+free_of_refusal (FoRChunked order encoded references) p n e = references_free encoded references (encode_chunked_by order p) n (λ q m f. free_of_refusal encoded q m f) (λ q m f. free_of_refusal references q m f) e
+free_of_refusal (Delta bases deltas) p n e =
+    let first = encoded_bytes (compress_deltas p).0 bases in
+    let other = encoded_bytes (compress_deltas p).1 deltas in
+    let own : Option ℕ = Some (validity_bytes (length p.slots) p.validity) in
+    let costs = costs_of first (both other own) n e in
+    let rest = costs_of other own costs.other costs.is_other in
+    neither (encode_refusal bases (compress_deltas p).0) (encode_refusal deltas (compress_deltas p).1) (free_of_refusal bases (compress_deltas p).0 costs.first costs.is_first) (free_of_refusal deltas (compress_deltas p).1 rest.first rest.is_first)
+free_of_refusal (RLE values indices offsets) p n e =
+    let runs = encode_runs p in
+    let others = both (encoded_bytes runs.indices indices) (encoded_bytes runs.offsets offsets) in
+    let costs = costs_of (encoded_bytes runs.values values) others n e in
+    let rest = costs_of (encoded_bytes runs.indices indices) (encoded_bytes runs.offsets offsets) costs.other costs.is_other in
+    neither (encode_refusal values runs.values) (otherwise (encode_refusal indices runs.indices) (encode_refusal offsets runs.offsets)) (free_of_refusal values runs.values costs.first costs.is_first)
+    (neither (encode_refusal indices runs.indices) (encode_refusal offsets runs.offsets) (free_of_refusal indices runs.indices rest.first rest.is_first) (free_of_refusal offsets runs.offsets rest.other rest.is_other))

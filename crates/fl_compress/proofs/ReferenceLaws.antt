@@ -14,9 +14,9 @@ use Rattle.fl_codec.proofs.DeltaRoundTrips.{items_fit}
 use Rattle.fl_statistics.proofs.Differences.{less_none}
 use Rattle.fl_array.proofs.EncodedRLE.{ok_is}
 use Rattle.fl_encode.specs.declared.scheme.Packing.TheVariants.{BestWidth, BestWidths}
-use Rattle.fl_encode.specs.Shapes.{BitPacked, Constant, Primitive, Shape}
+use Rattle.fl_encode.specs.Shapes.{BitPacked, Constant, FoR, FoRChunked, Primitive, Shape}
 use Rattle.fl_compress.specs.declared.limits.Limits.{Limits}
-use Rattle.fl_compress.specs.Candidates.{has_level, over_chunk_references, over_one_reference, packed_schemes, where_allowed, with_reference, with_references}
+use Rattle.fl_compress.specs.Candidates.{has_level, over_chunk_references, over_one_reference, packed_schemes, where_allowed}
 use Rattle.fl_compress.specs.Cheapest.{cheaper, cheapest, combined, priced}
 use Rattle.fl_compress.specs.Choices.{CostsNoMore, HasZeroLeasts, or_frames, with_slots}
 use Rattle.fl_compress.specs.EncodedBytes.{encoded_bytes}
@@ -82,7 +82,7 @@ zero_choice order p limits depth s n reference covered fit zero least most =
     let same : items_of p.validity slots ≡ items_of p.validity p.slots = held.1 ∙ less_none p.ptype (items_of_primitive p) (items_fit p.ptype p.validity p.slots covered fit) in
     let encoded : encode_global_by order p ≡ Ok parts = ap (subtract_min p) (sym least ∙ ap (λ z. let o : Option ℤ = Some z in o) zero) in
     let child : cheapest (encoded_bytes parts.child) schemes ≡ cheapest (encoded_bytes p) schemes = packed_alike p slots limits depth held.0 same in
-    gives _ _ (ap (cheaper (Some (s, n))) (one_list order p parts schemes encoded ∙ ap (wrapped (with_reference order)) child) ∙ no_cheaper s n (with_reference order) (cheapest (encoded_bytes p) schemes) most)
+    gives _ _ (ap (cheaper (Some (s, n))) (one_list order p parts schemes encoded ∙ ap (wrapped (FoR order)) child) ∙ no_cheaper s n (FoR order) (cheapest (encoded_bytes p) schemes) most)
 
 -- without a least item there is no reference
 pub absent_choice : (a b : Option (Shape × ℕ)) → b ≡ None → Gives (cheaper a b) a
@@ -122,8 +122,8 @@ common_frames order p limits depth first one references z least are common given
     let of_one = one_list order p parts schemes (ap (subtract_min p) least) in
     let of_many = whole_list order p parts limits depth (common_encoded order p references z some are (sym common)) in
     gives _ _ (ap (λ c. cheaper (cheaper first c) (cheapest (encoded_bytes p) (over_chunk_references order schemes))) of_one
-    ∙ (ap (cheaper (cheaper first (wrapped (with_reference order) child))) of_many
-    ∙ (as_dear first (with_reference order) (with_references order) child
+    ∙ (ap (cheaper (cheaper first (wrapped (FoR order) child))) of_many
+    ∙ (as_dear first (FoR order) (FoRChunked order) child
     ∙ (ap (cheaper first) (sym of_one) ∙ ok_is _ _ given))))
 
 -- where 0 is the least item and all references, no frame of reference is cheaper

@@ -15,10 +15,9 @@ use Rattle.fl_column.specs.Queries.{are_constant}
 use Rattle.fl_array.specs.Trees.{Tree}
 use Rattle.fl_array.specs.Trees as tree
 use Rattle.fl_encode.specs.declared.scheme.Packing.TheVariants.{BestWidth, BestWidths}
-use Rattle.fl_encode.specs.declared.scheme.Scheme.{Scheme, Primitive, Constant, BitPacked, FoR', FoRChunked', FoRWrapped', FoRChunkedWrapped', Delta', RLE'}
 use Rattle.fl_encode.specs.Encodings.{IsEncodedAs}
 use Rattle.fl_encode.specs.Packings.{constant_of}
-use Rattle.fl_encode.specs.Shapes.{Shape, shape}
+use Rattle.fl_encode.specs.Shapes.{Shape}
 use Rattle.fl_encode.specs.Shapes as shapes
 use Rattle.fl_serde.specs.ByteCounts.{primitive_bytes, tree_bytes, validity_bytes}
 use Rattle.fl_serde.specs.Leaves.{slots_size}
@@ -32,28 +31,28 @@ use Rattle.fl_compress.proofs.MadeBytes.{free_of_refusal, made_bytes}
 
 -- ---- the smallest
 made_size : (s : Shape) (p : PrimitiveParts) (u : Tree) → IsMadeAs s p u → encoded_bytes p s ≡ Some (tree_bytes u)
-made_size s p u (scheme, same, none, is) = ap (encoded_bytes p) (sym same) ∙ made_bytes scheme p u none is
+made_size s p u (none, is) = made_bytes s p u none is
 
 the_bytes : (o : Option ℕ) (m n : ℕ) → o ≡ Some m → o ≡ Some n → m ≡ n
 the_bytes o m n e f = cc
 
-pub smallest_is : (schemes : List Shape) (p : PrimitiveParts) (scheme : Scheme) (n : ℕ) (t : Tree) → cheapest (encoded_bytes p) schemes ≡ Some (shape scheme, n) → IsEncodedAs scheme p t → IsSmallest schemes p t
+pub smallest_is : (schemes : List Shape) (p : PrimitiveParts) (scheme : Shape) (n : ℕ) (t : Tree) → cheapest (encoded_bytes p) schemes ≡ Some (scheme, n) → IsEncodedAs scheme p t → IsSmallest schemes p t
 smallest_is schemes p scheme n t e is =
-    let first : IsFirstCheapest (encoded_bytes p) schemes (shape scheme) n = first_cheapest (encoded_bytes p) schemes (shape scheme, n) e in
+    let first : IsFirstCheapest (encoded_bytes p) schemes scheme n = first_cheapest (encoded_bytes p) schemes (scheme, n) e in
     let none = free_of_refusal scheme p n first.own in
-    let bytes : n ≡ tree_bytes t = the_bytes (encoded_bytes p (shape scheme)) n (tree_bytes t) first.own (made_bytes scheme p t none is) in
+    let bytes : n ≡ tree_bytes t = the_bytes (encoded_bytes p scheme) n (tree_bytes t) first.own (made_bytes scheme p t none is) in
     let larger : All (TakesMore p t) first.before = All-weaker (λ y. (m : ℕ) → encoded_bytes p y ≡ Some m → n < m) (TakesMore p t) (λ y more u made. let lt : n < tree_bytes u = more (tree_bytes u) (made_size y p u made) in omega arith) first.before first.dearer in
     let no_larger : All (TakesNoFewer p t) first.before = All-weaker (TakesMore p t) (TakesNoFewer p t) (λ y more u made. let lt : tree_bytes t < tree_bytes u = more u made in omega arith) first.before larger in
-    let own : TakesNoFewer p t (shape scheme) = λ u made. (let same : n ≡ tree_bytes u = the_bytes (encoded_bytes p (shape scheme)) n (tree_bytes u) first.own (made_size (shape scheme) p u made) in omega arith) in
+    let own : TakesNoFewer p t scheme = λ u made. (let same : n ≡ tree_bytes u = the_bytes (encoded_bytes p scheme) n (tree_bytes u) first.own (made_size scheme p u made) in omega arith) in
     let rest : All (TakesNoFewer p t) first.behind = All-weaker (λ y. (m : ℕ) → encoded_bytes p y ≡ Some m → n ≤ m) (TakesNoFewer p t) (λ y fewer u made. let le : n ≤ tree_bytes u = fewer (tree_bytes u) (made_size y p u made) in omega arith) first.behind first.no_cheaper in
     record {
       before = first.before;
-      chosen = shape scheme;
+      chosen = scheme;
       behind = first.behind;
       place = first.place;
-      made = (scheme, refl, none, is);
+      made = (none, is);
       larger = larger;
-      no_smaller = All-same (TakesNoFewer p t) schemes (first.before ++ shape scheme ∷ first.behind) first.place (All-append (TakesNoFewer p t) first.before (shape scheme ∷ first.behind) no_larger (All-cons (TakesNoFewer p t) (shape scheme) first.behind own rest));
+      no_smaller = All-same (TakesNoFewer p t) schemes (first.before ++ scheme ∷ first.behind) first.place (All-append (TakesNoFewer p t) first.before (scheme ∷ first.behind) no_larger (All-cons (TakesNoFewer p t) scheme first.behind own rest));
     }
 
 -- ---- plain arrays
@@ -69,7 +68,7 @@ first_is_plain limits = record { rest = _; begins = refl }
 pub never_larger : (limits : Limits) (p : PrimitiveParts) (t : Tree) → IsSmallest (candidates limits) p t → tree_bytes t ≤ primitive_bytes p
 never_larger limits p t small =
     let plain = first_is_plain limits in
-    All-head (TakesNoFewer p t) shapes.Primitive plain.rest (All-same (TakesNoFewer p t) (shapes.Primitive ∷ plain.rest) (candidates limits) (sym plain.begins) small.no_smaller) (tree.Primitive p) (Primitive, refl, refl, refl)
+    All-head (TakesNoFewer p t) shapes.Primitive plain.rest (All-same (TakesNoFewer p t) (shapes.Primitive ∷ plain.rest) (candidates limits) (sym plain.begins) small.no_smaller) (tree.Primitive p) (refl, refl)
 
 -- ---- arrays without items
 no_bits : (v : Validity) → IsTrue (covers v 0) → validity_bytes 0 v ≡ 0
@@ -84,16 +83,8 @@ no_bytes p e h =
     let slots : slots_size p.ptype (length p.slots) ≡ slots_size p.ptype 0 = ap (slots_size p.ptype) e in
     omega arith
 
-plain_made : (scheme : Scheme) (p : PrimitiveParts) (t : Tree) → shape scheme ≡ shapes.Primitive → IsEncodedAs scheme p t → t ≡ tree.Primitive p
-plain_made Primitive p t e is = is
-plain_made Constant p t e is = cc
-plain_made (BitPacked packing) p t e is = cc
-plain_made (FoR' encoded) p t e is = cc
-plain_made (FoRChunked' encoded references) p t e is = cc
-plain_made (FoRWrapped' encoded) p t e is = cc
-plain_made (FoRChunkedWrapped' encoded references) p t e is = cc
-plain_made (Delta' bases deltas) p t e is = cc
-plain_made (RLE' values indices offsets) p t e is = cc
+made_as : (scheme other : Shape) (p : PrimitiveParts) (t : Tree) → scheme ≡ other → IsEncodedAs scheme p t → IsEncodedAs other p t
+made_as scheme other p t e is = subst (λ (s : Shape). IsEncodedAs s p t) e is
 
 same_choice : (s u : Shape) (m n : ℕ) (o : Option (Shape × ℕ)) → o ≡ Some (s, m) → o ≡ Some (u, n) → s ≡ u
 same_choice s u m n o e f =
@@ -111,23 +102,12 @@ plain_free limits p none =
     ∙ (ap (λ n. cheaper (Some (shapes.Primitive, n)) (cheapest (encoded_bytes p) plain.rest)) none
     ∙ free_first shapes.Primitive (cheapest (encoded_bytes p) plain.rest))
 
-pub empty_is_plain : (limits : Limits) (p : PrimitiveParts) (scheme : Scheme) (n : ℕ) (t : Tree) → IsTrue (covers p.validity (length p.slots)) → cheapest (encoded_bytes p) (candidates limits) ≡ Some (shape scheme, n) → IsEncodedAs scheme p t
+pub empty_is_plain : (limits : Limits) (p : PrimitiveParts) (scheme : Shape) (n : ℕ) (t : Tree) → IsTrue (covers p.validity (length p.slots)) → cheapest (encoded_bytes p) (candidates limits) ≡ Some (scheme, n) → IsEncodedAs scheme p t
     → length p.slots ≡ 0 → t ≡ tree.Primitive p
 empty_is_plain limits p scheme n t h e is none =
-    plain_made scheme p t (same_choice (shape scheme) shapes.Primitive n 0 (cheapest (encoded_bytes p) (candidates limits)) e (plain_free limits p (no_bytes p none h))) is
+    made_as scheme shapes.Primitive p t (same_choice scheme shapes.Primitive n 0 (cheapest (encoded_bytes p) (candidates limits)) e (plain_free limits p (no_bytes p none h))) is
 
 -- ---- constant arrays
-constant_made : (scheme : Scheme) (p : PrimitiveParts) (t : Tree) → shape scheme ≡ shapes.Constant → IsEncodedAs scheme p t → t ≡ tree.Constant (constant_of p)
-constant_made Primitive p t e is = cc
-constant_made Constant p t e is = is
-constant_made (BitPacked packing) p t e is = cc
-constant_made (FoR' encoded) p t e is = cc
-constant_made (FoRChunked' encoded references) p t e is = cc
-constant_made (FoRWrapped' encoded) p t e is = cc
-constant_made (FoRChunkedWrapped' encoded references) p t e is = cc
-constant_made (Delta' bases deltas) p t e is = cc
-constant_made (RLE' values indices offsets) p t e is = cc
-
 some_slots : (ptype : PType) (n : ℕ) → 0 < n → 0 < slots_size ptype n
 some_slots U8 n h = omega arith
 some_slots U16 n h = omega arith
@@ -170,7 +150,7 @@ constant_free limits p e h same =
     ∙ (ap (λ o. cheaper (Some (shapes.Primitive, primitive_bytes p)) (cheaper (option_map (λ n. (shapes.Constant, n)) o) (cheapest (encoded_bytes p) constant.rest))) none
     ∙ free_second (primitive_bytes p) (cheapest (encoded_bytes p) constant.rest) (omega arith))
 
-pub constant_is_constant : (limits : Limits) (p : PrimitiveParts) (scheme : Scheme) (n : ℕ) (t : Tree) → cheapest (encoded_bytes p) (candidates limits) ≡ Some (shape scheme, n) → IsEncodedAs scheme p t
+pub constant_is_constant : (limits : Limits) (p : PrimitiveParts) (scheme : Shape) (n : ℕ) (t : Tree) → cheapest (encoded_bytes p) (candidates limits) ≡ Some (scheme, n) → IsEncodedAs scheme p t
     → limits.constant ≡ true → 0 < length p.slots → are_constant (column_of_primitive p).items ≡ true → t ≡ tree.Constant (constant_of p)
 constant_is_constant limits p scheme n t e is allowed h same =
-    constant_made scheme p t (same_choice (shape scheme) shapes.Constant n 0 (cheapest (encoded_bytes p) (candidates limits)) e (constant_free limits p allowed h same)) is
+    made_as scheme shapes.Constant p t (same_choice scheme shapes.Constant n 0 (cheapest (encoded_bytes p) (candidates limits)) e (constant_free limits p allowed h same)) is

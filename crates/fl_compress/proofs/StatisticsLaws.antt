@@ -10,9 +10,8 @@ use Rattle.fl_array.specs.Trees.{Tree}
 use Rattle.fl_codec.specs.declared.for_.ItemOrder.TheVariants.{Natural, Signed}
 use Rattle.fl_codec.specs.Parts.{ByChunk, FoRParts, Nulls, OneReference, Whole, compress_deltas, encode_chunked_by, encode_global_by, encode_runs}
 use Rattle.fl_encode.specs.declared.scheme.Packing.TheVariants.{BestWidth, BestWidths, Width}
-use Rattle.fl_encode.specs.declared.scheme.Scheme.{Scheme}
 use Rattle.fl_encode.specs.Encodings.{IsEncodedAs, encode_refusal}
-use Rattle.fl_encode.specs.Shapes.{BitPacked, Constant, Delta, FoR, FoRChunked, FoRChunkedWrapped, FoRWrapped, Plain, Primitive, RLE, Shape, shape}
+use Rattle.fl_encode.specs.Shapes.{BitPacked, Constant, Delta, FoR, FoRChunked, Plain, Primitive, RLE, Shape}
 use Rattle.fl_serde.specs.ByteCounts.{primitive_bytes, tree_bytes, validity_bytes}
 use Rattle.fl_compress.specs.declared.statistics.DeltaSizes.{DeltaSizes}
 use Rattle.fl_compress.specs.declared.statistics.FramedSizes.{FramedSizes}
@@ -69,10 +68,8 @@ packed_exact p Constant e = constant_size (are_constant (column_of_primitive p).
 packed_exact p (BitPacked BestWidth) e = refl
 packed_exact p (BitPacked (Width width)) e = cc
 packed_exact p (BitPacked BestWidths) e = refl
-packed_exact p (FoR encoded) e = cc
-packed_exact p (FoRChunked encoded references) e = cc
-packed_exact p (FoRWrapped encoded) e = cc
-packed_exact p (FoRChunkedWrapped encoded references) e = cc
+packed_exact p (FoR order encoded) e = cc
+packed_exact p (FoRChunked order encoded references) e = cc
 packed_exact p (Delta bases deltas) e = cc
 packed_exact p (RLE values indices offsets) e = cc
 
@@ -94,10 +91,10 @@ framed_exact p Plain e = packed_exact p Plain e
 framed_exact p Primitive e = packed_exact p Primitive e
 framed_exact p Constant e = packed_exact p Constant e
 framed_exact p (BitPacked packing) e = packed_exact p (BitPacked packing) e
-framed_exact p (FoR encoded) e = reference_exact (encode_global_by Natural p) encoded e
-framed_exact p (FoRChunked encoded references) e = chunks_exact (encode_chunked_by Natural p) encoded references e
-framed_exact p (FoRWrapped encoded) e = reference_exact (encode_global_by Signed p) encoded e
-framed_exact p (FoRChunkedWrapped encoded references) e = chunks_exact (encode_chunked_by Signed p) encoded references e
+framed_exact p (FoR Natural encoded) e = reference_exact (encode_global_by Natural p) encoded e
+framed_exact p (FoRChunked Natural encoded references) e = chunks_exact (encode_chunked_by Natural p) encoded references e
+framed_exact p (FoR Signed encoded) e = reference_exact (encode_global_by Signed p) encoded e
+framed_exact p (FoRChunked Signed encoded references) e = chunks_exact (encode_chunked_by Signed p) encoded references e
 framed_exact p (Delta bases deltas) e = cc
 framed_exact p (RLE values indices offsets) e = cc
 
@@ -107,10 +104,8 @@ delta_exact p Plain e = framed_exact p Plain e
 delta_exact p Primitive e = framed_exact p Primitive e
 delta_exact p Constant e = framed_exact p Constant e
 delta_exact p (BitPacked packing) e = framed_exact p (BitPacked packing) e
-delta_exact p (FoR encoded) e = framed_exact p (FoR encoded) e
-delta_exact p (FoRChunked encoded references) e = framed_exact p (FoRChunked encoded references) e
-delta_exact p (FoRWrapped encoded) e = framed_exact p (FoRWrapped encoded) e
-delta_exact p (FoRChunkedWrapped encoded references) e = framed_exact p (FoRChunkedWrapped encoded references) e
+delta_exact p (FoR order encoded) e = framed_exact p (FoR order encoded) e
+delta_exact p (FoRChunked order encoded references) e = framed_exact p (FoRChunked order encoded references) e
 delta_exact p (Delta bases deltas) e =
     both_same _ _ _ _ (framed_exact (compress_deltas p).0 bases (first_of (is_framed bases) (is_framed deltas) e))
     (both_same _ _ (Some (validity_bytes (length p.slots) p.validity)) _ (framed_exact (compress_deltas p).1 deltas (other_of (is_framed bases) (is_framed deltas) e)) refl)
@@ -122,10 +117,8 @@ candidate_exact p Plain e = delta_exact p Plain e
 candidate_exact p Primitive e = delta_exact p Primitive e
 candidate_exact p Constant e = delta_exact p Constant e
 candidate_exact p (BitPacked packing) e = delta_exact p (BitPacked packing) e
-candidate_exact p (FoR encoded) e = delta_exact p (FoR encoded) e
-candidate_exact p (FoRChunked encoded references) e = delta_exact p (FoRChunked encoded references) e
-candidate_exact p (FoRWrapped encoded) e = delta_exact p (FoRWrapped encoded) e
-candidate_exact p (FoRChunkedWrapped encoded references) e = delta_exact p (FoRChunkedWrapped encoded references) e
+candidate_exact p (FoR order encoded) e = delta_exact p (FoR order encoded) e
+candidate_exact p (FoRChunked order encoded references) e = delta_exact p (FoRChunked order encoded references) e
 candidate_exact p (Delta bases deltas) e = delta_exact p (Delta bases deltas) e
 candidate_exact p (RLE values indices offsets) e =
     let rest = other_of (is_delta values) (is_framed indices && is_framed offsets) e in
@@ -141,10 +134,8 @@ packed_some p Constant n e = sym (constant_size (are_constant (column_of_primiti
 packed_some p (BitPacked BestWidth) n e = e
 packed_some p (BitPacked (Width width)) n e = cc
 packed_some p (BitPacked BestWidths) n e = e
-packed_some p (FoR encoded) n e = cc
-packed_some p (FoRChunked encoded references) n e = cc
-packed_some p (FoRWrapped encoded) n e = cc
-packed_some p (FoRChunkedWrapped encoded references) n e = cc
+packed_some p (FoR order encoded) n e = cc
+packed_some p (FoRChunked order encoded references) n e = cc
 packed_some p (Delta bases deltas) n e = cc
 packed_some p (RLE values indices offsets) n e = cc
 
@@ -168,10 +159,10 @@ framed_some p Plain n e = packed_some p Plain n e
 framed_some p Primitive n e = packed_some p Primitive n e
 framed_some p Constant n e = packed_some p Constant n e
 framed_some p (BitPacked packing) n e = packed_some p (BitPacked packing) n e
-framed_some p (FoR encoded) n e = reference_some (encode_global_by Natural p) encoded n e
-framed_some p (FoRChunked encoded references) n e = chunks_some (encode_chunked_by Natural p) encoded references n e
-framed_some p (FoRWrapped encoded) n e = reference_some (encode_global_by Signed p) encoded n e
-framed_some p (FoRChunkedWrapped encoded references) n e = chunks_some (encode_chunked_by Signed p) encoded references n e
+framed_some p (FoR Natural encoded) n e = reference_some (encode_global_by Natural p) encoded n e
+framed_some p (FoRChunked Natural encoded references) n e = chunks_some (encode_chunked_by Natural p) encoded references n e
+framed_some p (FoR Signed encoded) n e = reference_some (encode_global_by Signed p) encoded n e
+framed_some p (FoRChunked Signed encoded references) n e = chunks_some (encode_chunked_by Signed p) encoded references n e
 framed_some p (Delta bases deltas) n e = cc
 framed_some p (RLE values indices offsets) n e = cc
 
@@ -181,10 +172,8 @@ delta_some p Plain n e = framed_some p Plain n e
 delta_some p Primitive n e = framed_some p Primitive n e
 delta_some p Constant n e = framed_some p Constant n e
 delta_some p (BitPacked packing) n e = framed_some p (BitPacked packing) n e
-delta_some p (FoR encoded) n e = framed_some p (FoR encoded) n e
-delta_some p (FoRChunked encoded references) n e = framed_some p (FoRChunked encoded references) n e
-delta_some p (FoRWrapped encoded) n e = framed_some p (FoRWrapped encoded) n e
-delta_some p (FoRChunkedWrapped encoded references) n e = framed_some p (FoRChunkedWrapped encoded references) n e
+delta_some p (FoR order encoded) n e = framed_some p (FoR order encoded) n e
+delta_some p (FoRChunked order encoded references) n e = framed_some p (FoRChunked order encoded references) n e
 delta_some p (Delta bases deltas) n e =
     both_some _ _ _ _ n (λ m f. framed_some (compress_deltas p).0 bases m f)
     (λ m f. both_some _ (Some (validity_bytes (length p.slots) p.validity)) _ _ m (λ k g. framed_some (compress_deltas p).1 deltas k g) (λ k g. g) f) e
@@ -196,10 +185,8 @@ size_some p Plain n e = delta_some p Plain n e
 size_some p Primitive n e = delta_some p Primitive n e
 size_some p Constant n e = delta_some p Constant n e
 size_some p (BitPacked packing) n e = delta_some p (BitPacked packing) n e
-size_some p (FoR encoded) n e = delta_some p (FoR encoded) n e
-size_some p (FoRChunked encoded references) n e = delta_some p (FoRChunked encoded references) n e
-size_some p (FoRWrapped encoded) n e = delta_some p (FoRWrapped encoded) n e
-size_some p (FoRChunkedWrapped encoded references) n e = delta_some p (FoRChunkedWrapped encoded references) n e
+size_some p (FoR order encoded) n e = delta_some p (FoR order encoded) n e
+size_some p (FoRChunked order encoded references) n e = delta_some p (FoRChunked order encoded references) n e
 size_some p (Delta bases deltas) n e = delta_some p (Delta bases deltas) n e
 size_some p (RLE values indices offsets) n e =
     both_some _ _ _ _ n (λ m f. delta_some (encode_runs p).values values m f)
@@ -210,14 +197,14 @@ none_capped None never = refl
 none_capped (Some n) never = absurd (never n refl)
 
 -- a scheme that is refused has no size
-pub size_is_refused : (p : PrimitiveParts) (statistics : Statistics) (scheme : Scheme) (o : Option ℕ) → o ≡ capped (size_in statistics (shape scheme)) → statistics ≡ statistics_of p → (encode_refusal scheme p ≡ None → ⊥) → o ≡ None
+pub size_is_refused : (p : PrimitiveParts) (statistics : Statistics) (scheme : Shape) (o : Option ℕ) → o ≡ capped (size_in statistics scheme) → statistics ≡ statistics_of p → (encode_refusal scheme p ≡ None → ⊥) → o ≡ None
 size_is_refused p statistics scheme o size is refused =
-    size ∙ (ap (λ x. capped (size_in x (shape scheme))) is ∙ none_capped (size_in (statistics_of p) (shape scheme)) (λ n e. refused (free_of_refusal scheme p n (size_some p (shape scheme) n e))))
+    size ∙ (ap (λ x. capped (size_in x scheme)) is ∙ none_capped (size_in (statistics_of p) scheme) (λ n e. refused (free_of_refusal scheme p n (size_some p scheme n e))))
 
 -- ---- the answer
 pub size_is_exact : (p : PrimitiveParts) (statistics : Statistics) (s : Shape) (o : Option ℕ) → o ≡ capped (size_in statistics s) → statistics ≡ statistics_of p → IsTrue (is_candidate s) → o ≡ capped (encoded_bytes p s)
 size_is_exact p statistics s o size is in_set = size ∙ (ap (λ x. capped (size_in x s)) is ∙ ap capped (candidate_exact p s in_set))
 
-pub size_is_encoded : (p : PrimitiveParts) (statistics : Statistics) (scheme : Scheme) (t : Tree) (o : Option ℕ) → o ≡ capped (size_in statistics (shape scheme)) → statistics ≡ statistics_of p → IsTrue (is_candidate (shape scheme)) → encode_refusal scheme p ≡ None → IsEncodedAs scheme p t
+pub size_is_encoded : (p : PrimitiveParts) (statistics : Statistics) (scheme : Shape) (t : Tree) (o : Option ℕ) → o ≡ capped (size_in statistics scheme) → statistics ≡ statistics_of p → IsTrue (is_candidate scheme) → encode_refusal scheme p ≡ None → IsEncodedAs scheme p t
     → o ≡ Some (min (tree_bytes t) (2 ^ 64 - 1))
-size_is_encoded p statistics scheme t o size is in_set none made = size_is_exact p statistics (shape scheme) o size is in_set ∙ ap capped (made_bytes scheme p t none made)
+size_is_encoded p statistics scheme t o size is in_set none made = size_is_exact p statistics scheme o size is in_set ∙ ap capped (made_bytes scheme p t none made)

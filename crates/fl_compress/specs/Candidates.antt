@@ -3,7 +3,7 @@ use Rattle.std.specs.Prelude.{◌-◌, ◌&&◌, ℕ, Bool, true, List, [], ◌�
 use Rattle.fl_codec.specs.declared.for_.ItemOrder.{ItemOrder}
 use Rattle.fl_codec.specs.declared.for_.ItemOrder.TheVariants.{Natural, Signed}
 use Rattle.fl_encode.specs.declared.scheme.Packing.TheVariants.{BestWidth, BestWidths}
-use Rattle.fl_encode.specs.Shapes.{BitPacked, Constant, Delta, FoR, FoRChunked, FoRChunkedWrapped, FoRWrapped, Primitive, RLE, Shape}
+use Rattle.fl_encode.specs.Shapes.{BitPacked, Constant, Delta, FoR, FoRChunked, Primitive, RLE, Shape}
 use Rattle.fl_compress.specs.declared.limits.Limits.{Limits}
 
 -- these schemes, where they are allowed
@@ -19,23 +19,13 @@ unfoldable pub packed_schemes : Limits → ℕ → List Shape
 packed_schemes limits depth =
     Primitive ∷ (where_allowed limits.constant (Constant ∷ []) ++ where_allowed (has_level limits.bitpacked depth) (BitPacked BestWidth ∷ BitPacked BestWidths ∷ []))
 
--- one reference, which is the least item by an order
-abbrev pub with_reference : ItemOrder → Shape → Shape
-with_reference Natural encoded = FoR encoded
-with_reference Signed encoded = FoRWrapped encoded
-
--- a reference for each chunk
-abbrev pub with_references : ItemOrder → Shape → Shape → Shape
-with_references Natural encoded references = FoRChunked encoded references
-with_references Signed encoded references = FoRChunkedWrapped encoded references
-
--- one reference over each of these
+-- one reference, which is the least item by an order, over each of these
 abbrev pub over_one_reference : ItemOrder → List Shape → List Shape
-over_one_reference order children = map (with_reference order) children
+over_one_reference order children = map (FoR order) children
 
--- a reference for each chunk over each two of these
+-- a reference for each chunk, by an order, over each two of these
 abbrev pub over_chunk_references : ItemOrder → List Shape → List Shape
-over_chunk_references order children = flat_map (λ encoded. map (with_references order encoded) children) children
+over_chunk_references order children = flat_map (λ encoded. map (FoRChunked order encoded) children) children
 
 -- frames of reference over these, by either order
 abbrev pub over_frames : List Shape → List Shape

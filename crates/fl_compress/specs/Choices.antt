@@ -8,7 +8,8 @@ use Rattle.fl_statistics.specs.Differences.{less_references}
 use Rattle.fl_codec.specs.declared.for_.ItemOrder.{ItemOrder}
 use Rattle.fl_codec.specs.FoRColumns.{chunk_references, common_reference, least_by, reading}
 use Rattle.fl_codec.specs.Parts.{compress_deltas, encode_runs, items_of_primitive}
-use Rattle.fl_encode.specs.Shapes.{RLE, Shape, shape}
+use Rattle.fl_encode.specs.SchemeShapes.{shape}
+use Rattle.fl_encode.specs.Shapes.{RLE, Shape}
 use Rattle.fl_compress.specs.declared.choice.Choice.{Choice}
 use Rattle.fl_compress.specs.declared.parts.Part.{Part}
 use Rattle.fl_compress.specs.declared.parts.Part.TheVariants.{Deltas, Indices, Items}

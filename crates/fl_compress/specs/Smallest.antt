@@ -3,14 +3,13 @@ use Rattle.std.specs.Prelude.{◌≡◌, ◌<◌, ◌≤◌, List, ◌∷◌, �
 use Rattle.std.specs.List.{All}
 use Rattle.fl_column.specs.Columns.{PrimitiveParts}
 use Rattle.fl_array.specs.Trees.{Tree}
-use Rattle.fl_encode.specs.declared.scheme.Scheme.{Scheme}
 use Rattle.fl_encode.specs.Encodings.{IsEncodedAs, encode_refusal}
-use Rattle.fl_encode.specs.Shapes.{Shape, shape}
+use Rattle.fl_encode.specs.Shapes.{Shape}
 use Rattle.fl_serde.specs.ByteCounts.{tree_bytes}
 
 -- the array is a primitive one that is encoded by a scheme of this shape, which is not refused
 abbrev pub IsMadeAs : Shape → PrimitiveParts → Tree → Type 0
-IsMadeAs s p t = (scheme : Scheme) × (shape scheme ≡ s) × (encode_refusal scheme p ≡ None) × IsEncodedAs scheme p t
+IsMadeAs s p t = (encode_refusal s p ≡ None) × IsEncodedAs s p t
 
 -- no array that a scheme of this shape makes takes fewer bytes
 abbrev pub TakesNoFewer : PrimitiveParts → Tree → Shape → Type 0

@@ -7,7 +7,7 @@ use Rattle.fl_codec.specs.declared.for_.ItemOrder.{ItemOrder}
 use Rattle.fl_codec.specs.declared.for_.ItemOrder.TheVariants.{Natural, Signed}
 use Rattle.fl_codec.specs.Parts.{ByChunk, FoRParts, Nulls, OneReference, Whole, compress_deltas, encode_chunked_by, encode_global_by, encode_runs}
 use Rattle.fl_encode.specs.declared.scheme.Packing.TheVariants.{BestWidth, BestWidths}
-use Rattle.fl_encode.specs.Shapes.{BitPacked, Constant, Delta, FoR, FoRChunked, FoRChunkedWrapped, FoRWrapped, Plain, Primitive, RLE, Shape}
+use Rattle.fl_encode.specs.Shapes.{BitPacked, Constant, Delta, FoR, FoRChunked, Plain, Primitive, RLE, Shape}
 use Rattle.fl_serde.specs.ByteCounts.{primitive_bytes, validity_bytes}
 use Rattle.fl_compress.specs.declared.statistics.ChunkSizes.{ChunkSizes}
 use Rattle.fl_compress.specs.declared.statistics.ChunkSizes.TheVariants as chunks
@@ -87,12 +87,15 @@ chunk_size (chunks.Whole sizes) encoded references = packed_size sizes encoded
 chunk_size (chunks.ByChunk sizes others) encoded references = both (packed_size sizes encoded) (packed_size others references)
 chunk_size chunks.Nulls encoded references = Some 0
 
+-- those of the frames of reference by an order
+abbrev pub by_order : ItemOrder → FramedSizes → FrameSizes
+by_order Natural sizes = sizes.natural
+by_order Signed sizes = sizes.signed
+
 -- by a packed scheme, or a frame of reference over packed ones
 abbrev pub framed_size : FramedSizes → Shape → Option ℕ
-framed_size sizes (FoR encoded) = reference_size sizes.natural.one encoded
-framed_size sizes (FoRChunked encoded references) = chunk_size sizes.natural.chunks encoded references
-framed_size sizes (FoRWrapped encoded) = reference_size sizes.signed.one encoded
-framed_size sizes (FoRChunkedWrapped encoded references) = chunk_size sizes.signed.chunks encoded references
+framed_size sizes (FoR order encoded) = reference_size (by_order order sizes).one encoded
+framed_size sizes (FoRChunked order encoded references) = chunk_size (by_order order sizes).chunks encoded references
 framed_size sizes other = packed_size sizes.packed other
 
 -- by one of those, or by deltas over two of them
@@ -121,10 +124,8 @@ is_packed other = false
 
 -- those, and frames of reference over them
 abbrev pub is_framed : Shape → Bool
-is_framed (FoR encoded) = is_packed encoded
-is_framed (FoRChunked encoded references) = is_packed encoded && is_packed references
-is_framed (FoRWrapped encoded) = is_packed encoded
-is_framed (FoRChunkedWrapped encoded references) = is_packed encoded && is_packed references
+is_framed (FoR order encoded) = is_packed encoded
+is_framed (FoRChunked order encoded references) = is_packed encoded && is_packed references
 is_framed other = is_packed other
 
 -- those, and deltas over two of them

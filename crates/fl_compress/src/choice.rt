@@ -2,16 +2,14 @@
 
 ghost use Rattle.std.specs.Prelude.{◌≡◌, ◌+◌, ◌<◌, ◌≤◌, ◌^◌, Ok, Some};
 ghost use Rattle.fl_types.specs.Refusals.{Answers};
-ghost use Rattle.fl_encode.specs.declared.scheme.Scheme.{back-Scheme-FoR-0 as child_scheme};
 ghost use Rattle.fl_encode.specs.Shapes as shapes;
-ghost use Rattle.fl_encode.specs.Shapes.{child_shape, shape};
-ghost use Rattle.fl_compress.specs.Candidates.{with_reference, with_references};
+ghost use Rattle.fl_encode.specs.SchemeShapes.{shape};
 ghost use Rattle.fl_compress.specs.Cheapest.{cheaper, combined};
 ghost use Rattle.fl_compress.specs.Choices.{chosen, chosen_in};
 
 use fl_codec::for_::ItemOrder;
 use fl_column::FastLanesError;
-use fl_encode::Scheme;
+use fl_encode::{Child, Scheme};
 use std::alloc::Global;
 
 /// A scheme, and how many bytes an array takes by it.
@@ -48,28 +46,17 @@ pub(crate) fn cheaper(first: Choice, other: Option<Choice>) -> Choice
     }
 }
 
-/// A scheme as that of a child.
-fn boxed(alloc: Global, scheme: Scheme) -> Result<Option<Box<Scheme>>, FastLanesError>
-    ensures { Answers (λ child. child_shape (child_scheme child)) result (Ok (shape scheme)) }
-{
-    let scheme = Box::new(alloc, scheme)?;
-    Ok(Some(scheme))
-}
-
 /// One reference by an order over a child.
 pub(crate) fn over_one_reference(
     alloc: Global,
     order: ItemOrder,
     child: Choice,
 ) -> Result<Choice, FastLanesError>
-    ensures { Answers chosen result (Ok (Some (with_reference order (shape child.scheme), child.bytes))) }
+    ensures { Answers chosen result (Ok (Some (shapes.FoR order (shape child.scheme), child.bytes))) }
 {
     let Choice { scheme, bytes } = child;
-    let encoded = boxed(alloc, scheme)?;
-    let scheme = match order {
-        ItemOrder::Natural => Scheme::FoR { encoded },
-        ItemOrder::Signed => Scheme::FoRWrapped { encoded },
-    };
+    let encoded = Child::new(alloc, scheme)?;
+    let scheme = Scheme::FoR { order, encoded };
     Ok(Choice { scheme, bytes })
 }
 
@@ -82,20 +69,15 @@ pub(crate) fn over_chunk_references(
 ) -> Result<Choice, FastLanesError>
     requires child { child.bytes < 2 ^ 68 }
     requires others { others.bytes < 2 ^ 68 }
-    ensures { Answers chosen result (Ok (combined (with_references order) (chosen child) (chosen others))) }
+    ensures { Answers chosen result (Ok (combined (shapes.FoRChunked order) (chosen child) (chosen others))) }
 {
     let bytes = child.bytes + others.bytes;
-    let encoded = boxed(alloc, child.scheme)?;
-    let references = boxed(alloc, others.scheme)?;
-    let scheme = match order {
-        ItemOrder::Natural => Scheme::FoRChunked {
-            encoded,
-            references,
-        },
-        ItemOrder::Signed => Scheme::FoRChunkedWrapped {
-            encoded,
-            references,
-        },
+    let encoded = Child::new(alloc, child.scheme)?;
+    let references = Child::new(alloc, others.scheme)?;
+    let scheme = Scheme::FoRChunked {
+        order,
+        encoded,
+        references,
     };
     Ok(Choice { scheme, bytes })
 }
@@ -113,8 +95,8 @@ pub(crate) fn over_deltas(
     ensures { Answers chosen result (Ok (Some (shapes.Delta (shape bases.scheme) (shape deltas.scheme), bases.bytes + (deltas.bytes + own)))) }
 {
     let bytes = bases.bytes + (deltas.bytes + own);
-    let bases = boxed(alloc, bases.scheme)?;
-    let deltas = boxed(alloc, deltas.scheme)?;
+    let bases = Child::new(alloc, bases.scheme)?;
+    let deltas = Child::new(alloc, deltas.scheme)?;
     let scheme = Scheme::Delta { bases, deltas };
     Ok(Choice { scheme, bytes })
 }
@@ -132,9 +114,9 @@ pub(crate) fn over_runs(
     ensures { Answers chosen result (Ok (Some (shapes.RLE (shape values.scheme) (shape indices.scheme) (shape offsets.scheme), values.bytes + (indices.bytes + offsets.bytes)))) }
 {
     let bytes = values.bytes + (indices.bytes + offsets.bytes);
-    let values = boxed(alloc, values.scheme)?;
-    let indices = boxed(alloc, indices.scheme)?;
-    let offsets = boxed(alloc, offsets.scheme)?;
+    let values = Child::new(alloc, values.scheme)?;
+    let indices = Child::new(alloc, indices.scheme)?;
+    let offsets = Child::new(alloc, offsets.scheme)?;
     let scheme = Scheme::RLE {
         values,
         indices,

@@ -7,8 +7,7 @@ ghost use Rattle.fl_column.specs.Columns.{PrimitiveParts};
 ghost use Rattle.fl_serialized.specs.Nodes.{depth};
 ghost use Rattle.fl_serde.specs.Writing.{written};
 ghost use Rattle.fl_encode.specs.Encodings.{IsEncodedAs};
-ghost use Rattle.fl_encode.specs.Shapes.{levels, max_levels, shape};
-ghost use Rattle.fl_encode.specs.declared.scheme.Scheme.{Scheme};
+ghost use Rattle.fl_encode.specs.Shapes.{Shape, levels, max_levels};
 ghost use Rattle.fl_compress.specs.Candidates.{candidates};
 ghost use Rattle.fl_compress.specs.Statistics.{is_candidate};
 
@@ -22,5 +21,5 @@ pub fn candidates_have_sizes(_limits: &Limits)
 /// What is made by a scheme that has a text is written with at most 16 nodes in one another, as many as a container holds.
 #[tactic(auto, using(crate::proofs::DepthLaws::text_low))]
 pub fn encoded_is_shallow()
-    ensures { (scheme : Scheme) → (p : PrimitiveParts) → (t : Tree) → levels (shape scheme) ≤ max_levels → IsEncodedAs scheme p t → depth (written t) ≤ 16 }
+    ensures { (scheme : Shape) → (p : PrimitiveParts) → (t : Tree) → levels scheme ≤ max_levels → IsEncodedAs scheme p t → depth (written t) ≤ 16 }
 {}

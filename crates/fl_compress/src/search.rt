@@ -3,7 +3,7 @@
 ghost use Rattle.std.specs.Prelude.{◌≡◌, ◌<◌, ◌≤◌, ◌^◌, ℤ, List, [], ◌∷◌, IfOk, Ok, Some, map, option_map, true};
 ghost use Rattle.fl_types.specs.Refusals.{Answers};
 ghost use Rattle.fl_encode.specs.Shapes as shapes;
-ghost use Rattle.fl_compress.specs.Candidates.{candidates, delta_schemes, framed_schemes, over_chunk_references, over_deltas, over_one_reference, over_runs, packed_schemes, where_allowed, with_references};
+ghost use Rattle.fl_compress.specs.Candidates.{candidates, delta_schemes, framed_schemes, over_chunk_references, over_deltas, over_one_reference, over_runs, packed_schemes, where_allowed};
 ghost use Rattle.fl_codec.specs.FoRColumns.{chunk_references, chunked_slots, least_by, reading};
 ghost use Rattle.fl_codec.specs.Parts.{items_of_primitive, non_nullable, subtract_reference};
 ghost use Rattle.fl_serde.specs.ByteCounts.{primitive_bytes};
@@ -237,7 +237,7 @@ fn choose_common<T: PhysicalPType + WrappingSub>(
     depth: u8,
 ) -> Result<Choice, FastLanesError>
     requires { (part_of part array.now).ptype ≡ T.PTYPE }
-    ensures { Answers chosen result (Ok (combined (with_references order) (cheapest (encoded_bytes (subtract_reference (part_of part array.now) (T.value reference)).child) (packed_schemes limits.now depth)) (Some (shapes.Primitive, 0)))) }
+    ensures { Answers chosen result (Ok (combined (shapes.FoRChunked order) (cheapest (encoded_bytes (subtract_reference (part_of part array.now) (T.value reference)).child) (packed_schemes limits.now depth)) (Some (shapes.Primitive, 0)))) }
 {
     let child = choose_less_one(alloc, array, part, reference, limits, depth)?;
     choice::over_chunk_references(alloc, order, child, plain(0))
@@ -254,7 +254,7 @@ fn choose_by_chunk<T: PhysicalPType + WrappingSub>(
     depth: u8,
 ) -> Result<Choice, FastLanesError>
     requires { (part_of part array.now).ptype ≡ T.PTYPE }
-    ensures { Answers chosen result (Ok (combined (with_references order) (cheapest (encoded_bytes (with_slots (part_of part array.now) (chunked_slots (part_of part array.now).ptype (map T.value references.items) (items_of_primitive (part_of part array.now))))) (packed_schemes limits.now depth)) (cheapest (encoded_bytes (non_nullable (part_of part array.now).ptype (map T.value references.items))) (packed_schemes limits.now depth)))) }
+    ensures { Answers chosen result (Ok (combined (shapes.FoRChunked order) (cheapest (encoded_bytes (with_slots (part_of part array.now) (chunked_slots (part_of part array.now).ptype (map T.value references.items) (items_of_primitive (part_of part array.now))))) (packed_schemes limits.now depth)) (cheapest (encoded_bytes (non_nullable (part_of part array.now).ptype (map T.value references.items))) (packed_schemes limits.now depth)))) }
 {
     let child = choose_less_references(alloc, array, part, &references, limits, depth)?;
     let others = PrimitiveArray::non_nullable(references);

@@ -3,16 +3,16 @@
 ghost use Rattle.std.specs.Prelude.{◌≡◌, ◌≢◌, ◌-◌, ◌^◌, ℕ, IsTrue, None, Option, Some, min};
 ghost use Rattle.fl_array.specs.Trees.{Tree};
 ghost use Rattle.fl_column.specs.Columns.{PrimitiveParts};
-ghost use Rattle.fl_encode.specs.declared.scheme.Scheme.{back-Scheme-FoR-0 as child_scheme};
 ghost use Rattle.fl_encode.specs.Encodings.{IsEncodedAs, encode_refusal};
-ghost use Rattle.fl_encode.specs.Shapes.{child_shape, shape};
+ghost use Rattle.fl_encode.specs.SchemeShapes.{shape};
 ghost use Rattle.fl_serde.specs.ByteCounts.{tree_bytes};
 ghost use Rattle.fl_compress.specs.Cheapest.{both};
 ghost use Rattle.fl_compress.specs.EncodedBytes.{encoded_bytes};
-ghost use Rattle.fl_compress.specs.Statistics.{capped, chunk_size, delta_size, framed_size, is_candidate, packed_size, reference_size, size_in, statistics_of};
+ghost use Rattle.fl_compress.specs.Statistics.{by_order, capped, chunk_size, delta_size, framed_size, is_candidate, packed_size, reference_size, size_in, statistics_of};
 
-use crate::statistics::{ChunkSizes, DeltaSizes, FramedSizes, PackedSizes, Statistics};
-use fl_encode::{Packing, Scheme};
+use crate::statistics::{ChunkSizes, DeltaSizes, FrameSizes, FramedSizes, PackedSizes, Statistics};
+use fl_codec::for_::ItemOrder;
+use fl_encode::{Child, Packing, Scheme};
 
 /// A number, `u64::MAX` for one above it.
 fn capped(bytes: u128) -> u64
@@ -43,17 +43,17 @@ fn packed_size(sizes: &PackedSizes, scheme: &Scheme) -> Option<u64>
     }
 }
 
-fn packed_child(sizes: &PackedSizes, child: &Option<Box<Scheme>>) -> Option<u64>
-    ensures { result ≡ capped (packed_size sizes.now (child_shape (child_scheme child.now))) }
+fn packed_child(sizes: &PackedSizes, child: &Child) -> Option<u64>
+    ensures { result ≡ capped (packed_size sizes.now child.now) }
 {
-    match child {
+    match child.scheme() {
         None => Some(capped(sizes.plain)),
         Some(scheme) => packed_size(sizes, scheme),
     }
 }
 
-fn reference_size(sizes: &Option<PackedSizes>, encoded: &Option<Box<Scheme>>) -> Option<u64>
-    ensures { result ≡ capped (reference_size sizes.now (child_shape (child_scheme encoded.now))) }
+fn reference_size(sizes: &Option<PackedSizes>, encoded: &Child) -> Option<u64>
+    ensures { result ≡ capped (reference_size sizes.now encoded.now) }
 {
     match sizes {
         None => None,
@@ -61,12 +61,8 @@ fn reference_size(sizes: &Option<PackedSizes>, encoded: &Option<Box<Scheme>>) ->
     }
 }
 
-fn chunk_size(
-    sizes: &ChunkSizes,
-    encoded: &Option<Box<Scheme>>,
-    references: &Option<Box<Scheme>>,
-) -> Option<u64>
-    ensures { result ≡ capped (chunk_size sizes.now (child_shape (child_scheme encoded.now)) (child_shape (child_scheme references.now))) }
+fn chunk_size(sizes: &ChunkSizes, encoded: &Child, references: &Child) -> Option<u64>
+    ensures { result ≡ capped (chunk_size sizes.now encoded.now references.now) }
 {
     match sizes {
         ChunkSizes::Whole(sizes) => packed_child(sizes, encoded),
@@ -78,28 +74,33 @@ fn chunk_size(
     }
 }
 
+fn by_order(sizes: &FramedSizes, order: ItemOrder) -> &FrameSizes
+    ensures { result.now ≡ by_order order sizes.now }
+{
+    match order {
+        ItemOrder::Natural => &sizes.natural,
+        ItemOrder::Signed => &sizes.signed,
+    }
+}
+
 fn framed_size(sizes: &FramedSizes, scheme: &Scheme) -> Option<u64>
     ensures { result ≡ capped (framed_size sizes.now (shape scheme.now)) }
 {
     match scheme {
-        Scheme::FoR { encoded } => reference_size(&sizes.natural.one, encoded),
+        Scheme::FoR { order, encoded } => reference_size(&by_order(sizes, *order).one, encoded),
         Scheme::FoRChunked {
+            order,
             encoded,
             references,
-        } => chunk_size(&sizes.natural.chunks, encoded, references),
-        Scheme::FoRWrapped { encoded } => reference_size(&sizes.signed.one, encoded),
-        Scheme::FoRChunkedWrapped {
-            encoded,
-            references,
-        } => chunk_size(&sizes.signed.chunks, encoded, references),
+        } => chunk_size(&by_order(sizes, *order).chunks, encoded, references),
         _ => packed_size(&sizes.packed, scheme),
     }
 }
 
-fn framed_child(sizes: &FramedSizes, child: &Option<Box<Scheme>>) -> Option<u64>
-    ensures { result ≡ capped (framed_size sizes.now (child_shape (child_scheme child.now))) }
+fn framed_child(sizes: &FramedSizes, child: &Child) -> Option<u64>
+    ensures { result ≡ capped (framed_size sizes.now child.now) }
 {
-    match child {
+    match child.scheme() {
         None => Some(capped(sizes.packed.plain)),
         Some(scheme) => framed_size(sizes, scheme),
     }
@@ -120,10 +121,10 @@ fn delta_size(sizes: &DeltaSizes, scheme: &Scheme) -> Option<u64>
     }
 }
 
-fn delta_child(sizes: &DeltaSizes, child: &Option<Box<Scheme>>) -> Option<u64>
-    ensures { result ≡ capped (delta_size sizes.now (child_shape (child_scheme child.now))) }
+fn delta_child(sizes: &DeltaSizes, child: &Child) -> Option<u64>
+    ensures { result ≡ capped (delta_size sizes.now child.now) }
 {
-    match child {
+    match child.scheme() {
         None => Some(capped(sizes.framed.packed.plain)),
         Some(scheme) => delta_size(sizes, scheme),
     }
@@ -154,8 +155,8 @@ fn candidate_size(scheme: &Scheme, statistics: &Statistics) -> Option<u64>
 pub fn size_of(scheme: &Scheme, statistics: &Statistics) -> Option<u64>
     ensures size { result ≡ capped (size_in statistics.now (shape scheme.now)) }
     ensures exact { (p : PrimitiveParts) → statistics.now ≡ statistics_of p → IsTrue (is_candidate (shape scheme.now)) → result ≡ capped (encoded_bytes p (shape scheme.now)) }
-    ensures refused { (p : PrimitiveParts) → statistics.now ≡ statistics_of p → encode_refusal scheme.now p ≢ None → result ≡ None }
-    ensures encoded { (p : PrimitiveParts) → (t : Tree) → statistics.now ≡ statistics_of p → IsTrue (is_candidate (shape scheme.now)) → encode_refusal scheme.now p ≡ None → IsEncodedAs scheme.now p t → result ≡ Some (min (tree_bytes t) (2 ^ 64 - 1)) }
+    ensures refused { (p : PrimitiveParts) → statistics.now ≡ statistics_of p → encode_refusal (shape scheme.now) p ≢ None → result ≡ None }
+    ensures encoded { (p : PrimitiveParts) → (t : Tree) → statistics.now ≡ statistics_of p → IsTrue (is_candidate (shape scheme.now)) → encode_refusal (shape scheme.now) p ≡ None → IsEncodedAs (shape scheme.now) p t → result ≡ Some (min (tree_bytes t) (2 ^ 64 - 1)) }
 {
     candidate_size(scheme, statistics)
 }

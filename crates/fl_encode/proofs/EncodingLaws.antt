@@ -21,8 +21,8 @@ use Rattle.fl_array.specs.Trees.{DeltaParts, OffsetLen, Tree, column, column_of_
 use Rattle.fl_array.specs.Trees as tree
 use Rattle.fl_array.proofs.EncodedRLE.{ok_is}
 use Rattle.fl_array.proofs.FoRSound.{no_constant}
-use Rattle.fl_encode.specs.declared.scheme.Scheme.{Scheme, Delta', RLE', Held-Scheme-FoR-0 as ChildScheme}
-use Rattle.fl_encode.specs.Encodings.{EncodesAs, EncodesChildAs, EncodesChunkedForAs, EncodesForAs, HasChunkReferences, HasDeltas, HasOneReference, HasReference, HasReferences, HasRuns, IsChildAs, Makes, child_refusal, one_reference_refusal, references_refusal}
+use Rattle.fl_encode.specs.Encodings.{EncodesAs, HasChunkReferences, HasDeltas, HasOneReference, HasReference, HasReferences, HasRuns, IsEncodedAs, Makes, encode_refusal, one_reference_refusal, references_refusal}
+use Rattle.fl_encode.specs.Shapes.{Delta, FoR, FoRChunked, RLE, Shape}
 
 -- ---- refusals
 -- memory ran out
@@ -60,7 +60,7 @@ pub refused : (refusal : Option FastLanesError) (Is : Tree → Type 0) (c : Colu
 refused refusal Is c e h = record { refused = h; form = tt; stands_for = tt }
 
 -- the same of a call that passes a refusal on
-pub passed_on : (scheme : Scheme) (p : PrimitiveParts) (r : Result Tree FastLanesError) (e : FastLanesError) → IsErrAnd r (λ f. f ≡ e) → EncodesAs scheme p (Err e) → EncodesAs scheme p r
+pub passed_on : (scheme : Shape) (p : PrimitiveParts) (r : Result Tree FastLanesError) (e : FastLanesError) → IsErrAnd r (λ f. f ≡ e) → EncodesAs scheme p (Err e) → EncodesAs scheme p r
 passed_on scheme p (Ok t) e h made = absurd h
 passed_on scheme p (Err f) e h made = subst (λ (g : FastLanesError). EncodesAs scheme p (Err g)) (sym h) made
 
@@ -79,23 +79,23 @@ made refusal Is c t (Err e) none is same h = record { refused = by_memory refusa
 pub reference_accepted : (p : PrimitiveParts) (reference : ScalarParts) (t : Tree) → column t ≡ column_of_primitive p → reference_refusal (column_of_primitive p).dtype reference ≡ None → reference_refusal (column t).dtype reference ≡ None
 reference_accepted p reference t same h = subst (λ (c : Column). reference_refusal c.dtype reference ≡ None) (sym same) h
 
-pub over_reference_made : (scheme : ChildScheme) (p : PrimitiveParts) (reference : ScalarParts) (t : Tree) (r : Result Tree FastLanesError) → EncodesChildAs scheme p (Ok t) → Answers (λ (s : Tree). s) r (Ok (tree.FoRGlobal t reference))
-    → Makes (child_refusal scheme p) (HasOneReference (IsChildAs scheme) (record { child = p; reference = reference })) (column (tree.FoRGlobal (tree.Primitive p) reference)) r
+pub over_reference_made : (scheme : Shape) (p : PrimitiveParts) (reference : ScalarParts) (t : Tree) (r : Result Tree FastLanesError) → EncodesAs scheme p (Ok t) → Answers (λ (s : Tree). s) r (Ok (tree.FoRGlobal t reference))
+    → Makes (encode_refusal scheme p) (HasOneReference (IsEncodedAs scheme) (record { child = p; reference = reference })) (column (tree.FoRGlobal (tree.Primitive p) reference)) r
 over_reference_made scheme p reference t r h a =
-    made (child_refusal scheme p) (HasOneReference (IsChildAs scheme) (record { child = p; reference = reference })) (column (tree.FoRGlobal (tree.Primitive p) reference)) (tree.FoRGlobal t reference) r
-    (none_of (child_refusal scheme p) t h.refused) (t, h.form, refl) (ap (global_for (unwrap_or reference.value (pos 0))) h.stands_for) a
+    made (encode_refusal scheme p) (HasOneReference (IsEncodedAs scheme) (record { child = p; reference = reference })) (column (tree.FoRGlobal (tree.Primitive p) reference)) (tree.FoRGlobal t reference) r
+    (none_of (encode_refusal scheme p) t h.refused) (t, h.form, refl) (ap (global_for (unwrap_or reference.value (pos 0))) h.stands_for) a
 
-pub one_reference_made : (order : ItemOrder) (scheme : ChildScheme) (p : PrimitiveParts) (parts : OneReference) (r : Result Tree FastLanesError) → encode_global_by order p ≡ Ok parts
+pub one_reference_made : (order : ItemOrder) (scheme : Shape) (p : PrimitiveParts) (parts : OneReference) (r : Result Tree FastLanesError) → encode_global_by order p ≡ Ok parts
     → column (tree.FoRGlobal (tree.Primitive parts.child) parts.reference) ≡ column_of_primitive p
-    → Makes (child_refusal scheme parts.child) (HasOneReference (IsChildAs scheme) parts) (column (tree.FoRGlobal (tree.Primitive parts.child) parts.reference)) r
-    → EncodesForAs order scheme p r
+    → Makes (encode_refusal scheme parts.child) (HasOneReference (IsEncodedAs scheme) parts) (column (tree.FoRGlobal (tree.Primitive parts.child) parts.reference)) r
+    → EncodesAs (FoR order scheme) p r
 one_reference_made order scheme p parts r e back h =
-    let there = subst (λ (c : Column). Makes (child_refusal scheme parts.child) (HasOneReference (IsChildAs scheme) parts) c r) back h in
-    subst (λ (o : Result OneReference FastLanesError). Makes (one_reference_refusal (child_refusal scheme) o) (HasReference (IsChildAs scheme) o) (column_of_primitive p) r) (sym e) there
+    let there = subst (λ (c : Column). Makes (encode_refusal scheme parts.child) (HasOneReference (IsEncodedAs scheme) parts) c r) back h in
+    subst (λ (o : Result OneReference FastLanesError). Makes (one_reference_refusal (encode_refusal scheme) o) (HasReference (IsEncodedAs scheme) o) (column_of_primitive p) r) (sym e) there
 
-pub no_reference : (order : ItemOrder) (scheme : ChildScheme) (p : PrimitiveParts) (e : FastLanesError) → Refuses e (encode_global_by order p) → EncodesForAs order scheme p (Err e)
-no_reference order scheme p e h = refused (one_reference_refusal (child_refusal scheme) (encode_global_by order p)) (HasReference (IsChildAs scheme) (encode_global_by order p)) (column_of_primitive p) e (elim (Refuses_cases e (encode_global_by order p) h) [
-  | inl is ↦ by_memory (one_reference_refusal (child_refusal scheme) (encode_global_by order p)) e is
+pub no_reference : (order : ItemOrder) (scheme : Shape) (p : PrimitiveParts) (e : FastLanesError) → Refuses e (encode_global_by order p) → EncodesAs (FoR order scheme) p (Err e)
+no_reference order scheme p e h = refused (one_reference_refusal (encode_refusal scheme) (encode_global_by order p)) (HasReference (IsEncodedAs scheme) (encode_global_by order p)) (column_of_primitive p) e (elim (Refuses_cases e (encode_global_by order p) h) [
+  | inl is ↦ by_memory (one_reference_refusal (encode_refusal scheme) (encode_global_by order p)) e is
   | inr is ↦ rw is (λ n. refl)
 ])
 
@@ -125,113 +125,113 @@ references_accepted p others t u same also h =
     let both : judged (column t) (column u) ≡ judged (column_of_primitive p) (column_of_primitive others) = ap (λ c. judged c (column u)) same ∙ ap (judged (column_of_primitive p)) also in
     both ∙ h
 
-pub over_references_made : (first other : ChildScheme) (p others : PrimitiveParts) (t u : Tree) (r : Result Tree FastLanesError) → EncodesChildAs first p (Ok t) → EncodesChildAs other others (Ok u) → Answers (λ (s : Tree). s) r (Ok (tree.FoRChunked t u 0))
-    → Makes (otherwise (child_refusal first p) (child_refusal other others)) (HasChunkReferences (IsChildAs first) (IsChildAs other) p others) (column (tree.FoRChunked (tree.Primitive p) (tree.Primitive others) 0)) r
+pub over_references_made : (first other : Shape) (p others : PrimitiveParts) (t u : Tree) (r : Result Tree FastLanesError) → EncodesAs first p (Ok t) → EncodesAs other others (Ok u) → Answers (λ (s : Tree). s) r (Ok (tree.FoRChunked t u 0))
+    → Makes (otherwise (encode_refusal first p) (encode_refusal other others)) (HasChunkReferences (IsEncodedAs first) (IsEncodedAs other) p others) (column (tree.FoRChunked (tree.Primitive p) (tree.Primitive others) 0)) r
 over_references_made first other p others t u r h k a =
     let both : column (tree.FoRChunked t u 0) ≡ column (tree.FoRChunked (tree.Primitive p) (tree.Primitive others) 0) =
     ap (λ (c : Column). chunked_for (integers_in c) 0 (column t)) k.stands_for ∙ ap (chunked_for (integers_in (column_of_primitive others)) 0) h.stands_for in
-    made (otherwise (child_refusal first p) (child_refusal other others)) (HasChunkReferences (IsChildAs first) (IsChildAs other) p others) (column (tree.FoRChunked (tree.Primitive p) (tree.Primitive others) 0)) (tree.FoRChunked t u 0) r
-    (neither_of (child_refusal first p) (child_refusal other others) (none_of (child_refusal first p) t h.refused) (none_of (child_refusal other others) u k.refused)) (t, u, h.form, k.form, refl) both a
+    made (otherwise (encode_refusal first p) (encode_refusal other others)) (HasChunkReferences (IsEncodedAs first) (IsEncodedAs other) p others) (column (tree.FoRChunked (tree.Primitive p) (tree.Primitive others) 0)) (tree.FoRChunked t u 0) r
+    (neither_of (encode_refusal first p) (encode_refusal other others) (none_of (encode_refusal first p) t h.refused) (none_of (encode_refusal other others) u k.refused)) (t, u, h.form, k.form, refl) both a
 
-pub whole_made : (order : ItemOrder) (first other : ChildScheme) (p : PrimitiveParts) (parts : OneReference) (r : Result Tree FastLanesError) → encode_chunked_by order p ≡ Whole parts
+pub whole_made : (order : ItemOrder) (first other : Shape) (p : PrimitiveParts) (parts : OneReference) (r : Result Tree FastLanesError) → encode_chunked_by order p ≡ Whole parts
     → column (tree.FoRGlobal (tree.Primitive parts.child) parts.reference) ≡ column_of_primitive p
-    → Makes (child_refusal first parts.child) (HasOneReference (IsChildAs first) parts) (column (tree.FoRGlobal (tree.Primitive parts.child) parts.reference)) r
-    → EncodesChunkedForAs order first other p r
+    → Makes (encode_refusal first parts.child) (HasOneReference (IsEncodedAs first) parts) (column (tree.FoRGlobal (tree.Primitive parts.child) parts.reference)) r
+    → EncodesAs (FoRChunked order first other) p r
 whole_made order first other p parts r e back h =
-    let there = subst (λ (c : Column). Makes (child_refusal first parts.child) (HasOneReference (IsChildAs first) parts) c r) back h in
-    subst (λ (o : FoRParts). Makes (references_refusal (child_refusal first) (child_refusal other) o) (HasReferences (IsChildAs first) (IsChildAs other) o) (column_of_primitive p) r) (sym e) there
+    let there = subst (λ (c : Column). Makes (encode_refusal first parts.child) (HasOneReference (IsEncodedAs first) parts) c r) back h in
+    subst (λ (o : FoRParts). Makes (references_refusal (encode_refusal first) (encode_refusal other) o) (HasReferences (IsEncodedAs first) (IsEncodedAs other) o) (column_of_primitive p) r) (sym e) there
 
-pub references_made : (order : ItemOrder) (first other : ChildScheme) (p child others : PrimitiveParts) (r : Result Tree FastLanesError) → encode_chunked_by order p ≡ ByChunk child others
+pub references_made : (order : ItemOrder) (first other : Shape) (p child others : PrimitiveParts) (r : Result Tree FastLanesError) → encode_chunked_by order p ≡ ByChunk child others
     → column (tree.FoRChunked (tree.Primitive child) (tree.Primitive others) 0) ≡ column_of_primitive p
-    → Makes (otherwise (child_refusal first child) (child_refusal other others)) (HasChunkReferences (IsChildAs first) (IsChildAs other) child others) (column (tree.FoRChunked (tree.Primitive child) (tree.Primitive others) 0)) r
-    → EncodesChunkedForAs order first other p r
+    → Makes (otherwise (encode_refusal first child) (encode_refusal other others)) (HasChunkReferences (IsEncodedAs first) (IsEncodedAs other) child others) (column (tree.FoRChunked (tree.Primitive child) (tree.Primitive others) 0)) r
+    → EncodesAs (FoRChunked order first other) p r
 references_made order first other p child others r e back h =
-    let there = subst (λ (c : Column). Makes (otherwise (child_refusal first child) (child_refusal other others)) (HasChunkReferences (IsChildAs first) (IsChildAs other) child others) c r) back h in
-    subst (λ (o : FoRParts). Makes (references_refusal (child_refusal first) (child_refusal other) o) (HasReferences (IsChildAs first) (IsChildAs other) o) (column_of_primitive p) r) (sym e) there
+    let there = subst (λ (c : Column). Makes (otherwise (encode_refusal first child) (encode_refusal other others)) (HasChunkReferences (IsEncodedAs first) (IsEncodedAs other) child others) c r) back h in
+    subst (λ (o : FoRParts). Makes (references_refusal (encode_refusal first) (encode_refusal other) o) (HasReferences (IsEncodedAs first) (IsEncodedAs other) o) (column_of_primitive p) r) (sym e) there
 
-pub nulls_made : (order : ItemOrder) (first other : ChildScheme) (p : PrimitiveParts) (child : ConstantParts) (reference : ScalarParts) (r : Result Tree FastLanesError) → encode_chunked_by order p ≡ Nulls child reference
+pub nulls_made : (order : ItemOrder) (first other : Shape) (p : PrimitiveParts) (child : ConstantParts) (reference : ScalarParts) (r : Result Tree FastLanesError) → encode_chunked_by order p ≡ Nulls child reference
     → column (tree.FoRGlobal (tree.Constant child) reference) ≡ column_of_primitive p → Answers (λ (s : Tree). s) r (Ok (tree.FoRGlobal (tree.Constant child) reference))
-    → EncodesChunkedForAs order first other p r
+    → EncodesAs (FoRChunked order first other) p r
 nulls_made order first other p child reference r e back a =
-    subst (λ (o : FoRParts). Makes (references_refusal (child_refusal first) (child_refusal other) o) (HasReferences (IsChildAs first) (IsChildAs other) o) (column_of_primitive p) r) (sym e)
+    subst (λ (o : FoRParts). Makes (references_refusal (encode_refusal first) (encode_refusal other) o) (HasReferences (IsEncodedAs first) (IsEncodedAs other) o) (column_of_primitive p) r) (sym e)
     (made None (λ t. t ≡ tree.FoRGlobal (tree.Constant child) reference) (column_of_primitive p) (tree.FoRGlobal (tree.Constant child) reference) r refl refl back a)
 
 -- ---- deltas
 -- what a primitive array's deltas make, by those that were made
-deltas_of : (first other : ChildScheme) (p b d : PrimitiveParts) (v : Validity) (n : ℕ) (r : Result Tree FastLanesError) → compress_deltas p ≡ (b, d) → v ≡ p.validity → n ≡ length p.slots
-    → Makes (otherwise (child_refusal first b) (child_refusal other d)) (HasDeltas (IsChildAs first) (IsChildAs other) (b, d) (record { validity = v; offset = 0; len = n })) (column_of_primitive p) r
-    → EncodesAs (Delta' first other) p r
+deltas_of : (first other : Shape) (p b d : PrimitiveParts) (v : Validity) (n : ℕ) (r : Result Tree FastLanesError) → compress_deltas p ≡ (b, d) → v ≡ p.validity → n ≡ length p.slots
+    → Makes (otherwise (encode_refusal first b) (encode_refusal other d)) (HasDeltas (IsEncodedAs first) (IsEncodedAs other) (b, d) (record { validity = v; offset = 0; len = n })) (column_of_primitive p) r
+    → EncodesAs (Delta first other) p r
 deltas_of first other p b d v n r e f g h =
-    let valid = subst (λ (w : Validity). Makes (otherwise (child_refusal first b) (child_refusal other d)) (HasDeltas (IsChildAs first) (IsChildAs other) (b, d) (record { validity = w; offset = 0; len = n })) (column_of_primitive p) r) f h in
-    let whole = subst (λ (m : ℕ). Makes (otherwise (child_refusal first b) (child_refusal other d)) (HasDeltas (IsChildAs first) (IsChildAs other) (b, d) (record { validity = p.validity; offset = 0; len = m })) (column_of_primitive p) r) g valid in
-    subst (λ (x : PrimitiveParts × PrimitiveParts). Makes (otherwise (child_refusal first x.0) (child_refusal other x.1)) (HasDeltas (IsChildAs first) (IsChildAs other) x (record { validity = p.validity; offset = 0; len = length p.slots })) (column_of_primitive p) r) (sym e) whole
+    let valid = subst (λ (w : Validity). Makes (otherwise (encode_refusal first b) (encode_refusal other d)) (HasDeltas (IsEncodedAs first) (IsEncodedAs other) (b, d) (record { validity = w; offset = 0; len = n })) (column_of_primitive p) r) f h in
+    let whole = subst (λ (m : ℕ). Makes (otherwise (encode_refusal first b) (encode_refusal other d)) (HasDeltas (IsEncodedAs first) (IsEncodedAs other) (b, d) (record { validity = p.validity; offset = 0; len = m })) (column_of_primitive p) r) g valid in
+    subst (λ (x : PrimitiveParts × PrimitiveParts). Makes (otherwise (encode_refusal first x.0) (encode_refusal other x.1)) (HasDeltas (IsEncodedAs first) (IsEncodedAs other) x (record { validity = p.validity; offset = 0; len = length p.slots })) (column_of_primitive p) r) (sym e) whole
 
 pub deltas_accepted : (b d : PrimitiveParts) (v : Validity) (n : ℕ) (t u : Tree) → column t ≡ column_of_primitive b → column u ≡ column_of_primitive d → delta_refusal (column_of_primitive b) (column_of_primitive d) v 0 n ≡ None → delta_refusal (column t) (column u) v 0 n ≡ None
 deltas_accepted b d v n t u same also h = ap (λ (c : Column). delta_refusal c (column u) v 0 n) same ∙ (ap (λ (c : Column). delta_refusal (column_of_primitive b) c v 0 n) also ∙ h)
 
-pub deltas_made : (first other : ChildScheme) (p b d : PrimitiveParts) (v : Validity) (n : ℕ) (t u : Tree) (r : Result Tree FastLanesError) → compress_deltas p ≡ (b, d) → v ≡ p.validity → n ≡ length p.slots
+pub deltas_made : (first other : Shape) (p b d : PrimitiveParts) (v : Validity) (n : ℕ) (t u : Tree) (r : Result Tree FastLanesError) → compress_deltas p ≡ (b, d) → v ≡ p.validity → n ≡ length p.slots
     → column_of_delta (column_of_primitive b) (column_of_primitive d) (record { validity = v; offset = 0; len = n }) ≡ column_of_primitive p
-    → EncodesChildAs first b (Ok t) → EncodesChildAs other d (Ok u) → Answers (λ (s : Tree). s) r (Ok (tree.Delta t u (record { validity = v; offset = 0; len = n })))
-    → EncodesAs (Delta' first other) p r
+    → EncodesAs first b (Ok t) → EncodesAs other d (Ok u) → Answers (λ (s : Tree). s) r (Ok (tree.Delta t u (record { validity = v; offset = 0; len = n })))
+    → EncodesAs (Delta first other) p r
 deltas_made first other p b d v n t u r e f g back h k a =
     let parts : DeltaParts = record { validity = v; offset = 0; len = n } in
     let both : column (tree.Delta t u parts) ≡ column_of_primitive p =
     ap (λ (c : Column). column_of_delta c (column u) parts) h.stands_for ∙ (ap (λ (c : Column). column_of_delta (column_of_primitive b) c parts) k.stands_for ∙ back) in
     deltas_of first other p b d v n r e f g
-    (made (otherwise (child_refusal first b) (child_refusal other d)) (HasDeltas (IsChildAs first) (IsChildAs other) (b, d) parts) (column_of_primitive p) (tree.Delta t u parts) r
-    (neither_of (child_refusal first b) (child_refusal other d) (none_of (child_refusal first b) t h.refused) (none_of (child_refusal other d) u k.refused)) (t, u, h.form, k.form, refl) both a)
+    (made (otherwise (encode_refusal first b) (encode_refusal other d)) (HasDeltas (IsEncodedAs first) (IsEncodedAs other) (b, d) parts) (column_of_primitive p) (tree.Delta t u parts) r
+    (neither_of (encode_refusal first b) (encode_refusal other d) (none_of (encode_refusal first b) t h.refused) (none_of (encode_refusal other d) u k.refused)) (t, u, h.form, k.form, refl) both a)
 
-pub bases_refused : (first other : ChildScheme) (p b d : PrimitiveParts) (e : FastLanesError) → compress_deltas p ≡ (b, d) → EncodesChildAs first b (Err e) → EncodesAs (Delta' first other) p (Err e)
+pub bases_refused : (first other : Shape) (p b d : PrimitiveParts) (e : FastLanesError) → compress_deltas p ≡ (b, d) → EncodesAs first b (Err e) → EncodesAs (Delta first other) p (Err e)
 bases_refused first other p b d e is h =
     deltas_of first other p b d p.validity (length p.slots) (Err e) is refl refl
-    (refused (otherwise (child_refusal first b) (child_refusal other d)) (HasDeltas (IsChildAs first) (IsChildAs other) (b, d) (record { validity = p.validity; offset = 0; len = length p.slots })) (column_of_primitive p) e
-    (by_first (child_refusal first b) (child_refusal other d) e h.refused))
+    (refused (otherwise (encode_refusal first b) (encode_refusal other d)) (HasDeltas (IsEncodedAs first) (IsEncodedAs other) (b, d) (record { validity = p.validity; offset = 0; len = length p.slots })) (column_of_primitive p) e
+    (by_first (encode_refusal first b) (encode_refusal other d) e h.refused))
 
-pub deltas_refused : (first other : ChildScheme) (p b d : PrimitiveParts) (t : Tree) (e : FastLanesError) → compress_deltas p ≡ (b, d) → EncodesChildAs first b (Ok t) → EncodesChildAs other d (Err e) → EncodesAs (Delta' first other) p (Err e)
+pub deltas_refused : (first other : Shape) (p b d : PrimitiveParts) (t : Tree) (e : FastLanesError) → compress_deltas p ≡ (b, d) → EncodesAs first b (Ok t) → EncodesAs other d (Err e) → EncodesAs (Delta first other) p (Err e)
 deltas_refused first other p b d t e is h k =
     deltas_of first other p b d p.validity (length p.slots) (Err e) is refl refl
-    (refused (otherwise (child_refusal first b) (child_refusal other d)) (HasDeltas (IsChildAs first) (IsChildAs other) (b, d) (record { validity = p.validity; offset = 0; len = length p.slots })) (column_of_primitive p) e
-    (by_second (child_refusal first b) (child_refusal other d) e (none_of (child_refusal first b) t h.refused) k.refused))
+    (refused (otherwise (encode_refusal first b) (encode_refusal other d)) (HasDeltas (IsEncodedAs first) (IsEncodedAs other) (b, d) (record { validity = p.validity; offset = 0; len = length p.slots })) (column_of_primitive p) e
+    (by_second (encode_refusal first b) (encode_refusal other d) e (none_of (encode_refusal first b) t h.refused) k.refused))
 
 -- ---- runs
 -- what a primitive array's runs make, by those that were made
-runs_of : (first second third : ChildScheme) (p : PrimitiveParts) (runs : RunParts) (n : ℕ) (r : Result Tree FastLanesError) → runs ≡ encode_runs p → n ≡ length p.slots
-    → Makes (otherwise (child_refusal first runs.values) (otherwise (child_refusal second runs.indices) (child_refusal third runs.offsets))) (HasRuns (IsChildAs first) (IsChildAs second) (IsChildAs third) runs (record { offset = 0; len = n })) (column_of_primitive p) r
-    → EncodesAs (RLE' first second third) p r
+runs_of : (first second third : Shape) (p : PrimitiveParts) (runs : RunParts) (n : ℕ) (r : Result Tree FastLanesError) → runs ≡ encode_runs p → n ≡ length p.slots
+    → Makes (otherwise (encode_refusal first runs.values) (otherwise (encode_refusal second runs.indices) (encode_refusal third runs.offsets))) (HasRuns (IsEncodedAs first) (IsEncodedAs second) (IsEncodedAs third) runs (record { offset = 0; len = n })) (column_of_primitive p) r
+    → EncodesAs (RLE first second third) p r
 runs_of first second third p runs n r e g h =
-    let whole = subst (λ (m : ℕ). Makes (otherwise (child_refusal first runs.values) (otherwise (child_refusal second runs.indices) (child_refusal third runs.offsets))) (HasRuns (IsChildAs first) (IsChildAs second) (IsChildAs third) runs (record { offset = 0; len = m })) (column_of_primitive p) r) g h in
-    subst (λ (x : RunParts). Makes (otherwise (child_refusal first x.values) (otherwise (child_refusal second x.indices) (child_refusal third x.offsets))) (HasRuns (IsChildAs first) (IsChildAs second) (IsChildAs third) x (record { offset = 0; len = length p.slots })) (column_of_primitive p) r) e whole
+    let whole = subst (λ (m : ℕ). Makes (otherwise (encode_refusal first runs.values) (otherwise (encode_refusal second runs.indices) (encode_refusal third runs.offsets))) (HasRuns (IsEncodedAs first) (IsEncodedAs second) (IsEncodedAs third) runs (record { offset = 0; len = m })) (column_of_primitive p) r) g h in
+    subst (λ (x : RunParts). Makes (otherwise (encode_refusal first x.values) (otherwise (encode_refusal second x.indices) (encode_refusal third x.offsets))) (HasRuns (IsEncodedAs first) (IsEncodedAs second) (IsEncodedAs third) x (record { offset = 0; len = length p.slots })) (column_of_primitive p) r) e whole
 
 pub runs_accepted : (v i o : PrimitiveParts) (n : ℕ) (s t u : Tree) → column s ≡ column_of_primitive v → column t ≡ column_of_primitive i → column u ≡ column_of_primitive o → rle_refusal (column_of_primitive v) (column_of_primitive i) (column_of_primitive o) 0 n ≡ None → rle_refusal (column s) (column t) (column u) 0 n ≡ None
 runs_accepted v i o n s t u same also last h =
     ap (λ (c : Column). rle_refusal c (column t) (column u) 0 n) same ∙ (ap (λ (c : Column). rle_refusal (column_of_primitive v) c (column u) 0 n) also ∙ (ap (λ (c : Column). rle_refusal (column_of_primitive v) (column_of_primitive i) c 0 n) last ∙ h))
 
-pub runs_made : (first second third : ChildScheme) (p : PrimitiveParts) (runs : RunParts) (n : ℕ) (s t u : Tree) (r : Result Tree FastLanesError) → runs ≡ encode_runs p → n ≡ length p.slots
+pub runs_made : (first second third : Shape) (p : PrimitiveParts) (runs : RunParts) (n : ℕ) (s t u : Tree) (r : Result Tree FastLanesError) → runs ≡ encode_runs p → n ≡ length p.slots
     → column_of_rle (column_of_primitive runs.values) (column_of_primitive runs.indices) (column_of_primitive runs.offsets) (record { offset = 0; len = n }) ≡ column_of_primitive p
-    → EncodesChildAs first runs.values (Ok s) → EncodesChildAs second runs.indices (Ok t) → EncodesChildAs third runs.offsets (Ok u) → Answers (λ (x : Tree). x) r (Ok (tree.RLE s t u (record { offset = 0; len = n })))
-    → EncodesAs (RLE' first second third) p r
+    → EncodesAs first runs.values (Ok s) → EncodesAs second runs.indices (Ok t) → EncodesAs third runs.offsets (Ok u) → Answers (λ (x : Tree). x) r (Ok (tree.RLE s t u (record { offset = 0; len = n })))
+    → EncodesAs (RLE first second third) p r
 runs_made first second third p runs n s t u r e g back h k l a =
     let window : OffsetLen = record { offset = 0; len = n } in
-    let refusal = otherwise (child_refusal first runs.values) (otherwise (child_refusal second runs.indices) (child_refusal third runs.offsets)) in
+    let refusal = otherwise (encode_refusal first runs.values) (otherwise (encode_refusal second runs.indices) (encode_refusal third runs.offsets)) in
     let all : column (tree.RLE s t u window) ≡ column_of_primitive p =
     ap (λ (c : Column). column_of_rle c (column t) (column u) window) h.stands_for ∙ (ap (λ (c : Column). column_of_rle (column_of_primitive runs.values) c (column u) window) k.stands_for ∙ (ap (λ (c : Column). column_of_rle (column_of_primitive runs.values) (column_of_primitive runs.indices) c window) l.stands_for ∙ back)) in
-    let none = neither_of (child_refusal first runs.values) (otherwise (child_refusal second runs.indices) (child_refusal third runs.offsets)) (none_of (child_refusal first runs.values) s h.refused)
-    (neither_of (child_refusal second runs.indices) (child_refusal third runs.offsets) (none_of (child_refusal second runs.indices) t k.refused) (none_of (child_refusal third runs.offsets) u l.refused)) in
+    let none = neither_of (encode_refusal first runs.values) (otherwise (encode_refusal second runs.indices) (encode_refusal third runs.offsets)) (none_of (encode_refusal first runs.values) s h.refused)
+    (neither_of (encode_refusal second runs.indices) (encode_refusal third runs.offsets) (none_of (encode_refusal second runs.indices) t k.refused) (none_of (encode_refusal third runs.offsets) u l.refused)) in
     runs_of first second third p runs n r e g
-    (made refusal (HasRuns (IsChildAs first) (IsChildAs second) (IsChildAs third) runs window) (column_of_primitive p) (tree.RLE s t u window) r none (s, t, u, h.form, k.form, l.form, refl) all a)
+    (made refusal (HasRuns (IsEncodedAs first) (IsEncodedAs second) (IsEncodedAs third) runs window) (column_of_primitive p) (tree.RLE s t u window) r none (s, t, u, h.form, k.form, l.form, refl) all a)
 
 -- a refusal of the runs
-runs_refused : (first second third : ChildScheme) (p : PrimitiveParts) (runs : RunParts) (e : FastLanesError) → runs ≡ encode_runs p
-    → AnswersUnless {X = Tree} (otherwise (child_refusal first runs.values) (otherwise (child_refusal second runs.indices) (child_refusal third runs.offsets))) (Err e) → EncodesAs (RLE' first second third) p (Err e)
+runs_refused : (first second third : Shape) (p : PrimitiveParts) (runs : RunParts) (e : FastLanesError) → runs ≡ encode_runs p
+    → AnswersUnless {X = Tree} (otherwise (encode_refusal first runs.values) (otherwise (encode_refusal second runs.indices) (encode_refusal third runs.offsets))) (Err e) → EncodesAs (RLE first second third) p (Err e)
 runs_refused first second third p runs e is h =
     runs_of first second third p runs (length p.slots) (Err e) is refl
-    (refused (otherwise (child_refusal first runs.values) (otherwise (child_refusal second runs.indices) (child_refusal third runs.offsets))) (HasRuns (IsChildAs first) (IsChildAs second) (IsChildAs third) runs (record { offset = 0; len = length p.slots })) (column_of_primitive p) e h)
+    (refused (otherwise (encode_refusal first runs.values) (otherwise (encode_refusal second runs.indices) (encode_refusal third runs.offsets))) (HasRuns (IsEncodedAs first) (IsEncodedAs second) (IsEncodedAs third) runs (record { offset = 0; len = length p.slots })) (column_of_primitive p) e h)
 
-pub values_refused : (first second third : ChildScheme) (p : PrimitiveParts) (runs : RunParts) (e : FastLanesError) → runs ≡ encode_runs p → EncodesChildAs first runs.values (Err e) → EncodesAs (RLE' first second third) p (Err e)
-values_refused first second third p runs e is h = runs_refused first second third p runs e is (by_first (child_refusal first runs.values) (otherwise (child_refusal second runs.indices) (child_refusal third runs.offsets)) e h.refused)
+pub values_refused : (first second third : Shape) (p : PrimitiveParts) (runs : RunParts) (e : FastLanesError) → runs ≡ encode_runs p → EncodesAs first runs.values (Err e) → EncodesAs (RLE first second third) p (Err e)
+values_refused first second third p runs e is h = runs_refused first second third p runs e is (by_first (encode_refusal first runs.values) (otherwise (encode_refusal second runs.indices) (encode_refusal third runs.offsets)) e h.refused)
 
-pub indices_refused : (first second third : ChildScheme) (p : PrimitiveParts) (runs : RunParts) (s : Tree) (e : FastLanesError) → runs ≡ encode_runs p → EncodesChildAs first runs.values (Ok s) → EncodesChildAs second runs.indices (Err e) → EncodesAs (RLE' first second third) p (Err e)
-indices_refused first second third p runs s e is h k = runs_refused first second third p runs e is (by_second (child_refusal first runs.values) (otherwise (child_refusal second runs.indices) (child_refusal third runs.offsets)) e (none_of (child_refusal first runs.values) s h.refused) (by_first (child_refusal second runs.indices) (child_refusal third runs.offsets) e k.refused))
+pub indices_refused : (first second third : Shape) (p : PrimitiveParts) (runs : RunParts) (s : Tree) (e : FastLanesError) → runs ≡ encode_runs p → EncodesAs first runs.values (Ok s) → EncodesAs second runs.indices (Err e) → EncodesAs (RLE first second third) p (Err e)
+indices_refused first second third p runs s e is h k = runs_refused first second third p runs e is (by_second (encode_refusal first runs.values) (otherwise (encode_refusal second runs.indices) (encode_refusal third runs.offsets)) e (none_of (encode_refusal first runs.values) s h.refused) (by_first (encode_refusal second runs.indices) (encode_refusal third runs.offsets) e k.refused))
 
-pub offsets_refused : (first second third : ChildScheme) (p : PrimitiveParts) (runs : RunParts) (s t : Tree) (e : FastLanesError) → runs ≡ encode_runs p → EncodesChildAs first runs.values (Ok s) → EncodesChildAs second runs.indices (Ok t) → EncodesChildAs third runs.offsets (Err e) → EncodesAs (RLE' first second third) p (Err e)
-offsets_refused first second third p runs s t e is h k l = runs_refused first second third p runs e is (by_second (child_refusal first runs.values) (otherwise (child_refusal second runs.indices) (child_refusal third runs.offsets)) e (none_of (child_refusal first runs.values) s h.refused) (by_second (child_refusal second runs.indices) (child_refusal third runs.offsets) e (none_of (child_refusal second runs.indices) t k.refused) l.refused))
+pub offsets_refused : (first second third : Shape) (p : PrimitiveParts) (runs : RunParts) (s t : Tree) (e : FastLanesError) → runs ≡ encode_runs p → EncodesAs first runs.values (Ok s) → EncodesAs second runs.indices (Ok t) → EncodesAs third runs.offsets (Err e) → EncodesAs (RLE first second third) p (Err e)
+offsets_refused first second third p runs s t e is h k l = runs_refused first second third p runs e is (by_second (encode_refusal first runs.values) (otherwise (encode_refusal second runs.indices) (encode_refusal third runs.offsets)) e (none_of (encode_refusal first runs.values) s h.refused) (by_second (encode_refusal second runs.indices) (encode_refusal third runs.offsets) e (none_of (encode_refusal second runs.indices) t k.refused) l.refused))

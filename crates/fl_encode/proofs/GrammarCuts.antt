@@ -4,15 +4,14 @@ use Rattle.std.specs.Prelude.{Result, codes}
 use Rattle.std.specs.Option.{option_map_or}
 use Rattle.std.proofs.lemmas.Bool.{cases_Bool, cases_lt}
 use Rattle.std.proofs.lemmas.List.{take-append-le, take_all}
+use Rattle.fl_codec.specs.declared.for_.ItemOrder.TheVariants.{Signed}
 use Rattle.fl_encode.specs.declared.scheme.Packing.TheVariants.{BestWidth, BestWidths, Width}
-use Rattle.fl_encode.specs.declared.text.reading.Frame.{Frame}
-use Rattle.fl_encode.specs.declared.text.reading.Frame.TheVariants as frames
 use Rattle.fl_encode.specs.declared.text.reading.Head.{Head}
 use Rattle.fl_encode.specs.declared.text.reading.Head.TheVariants as heads
 use Rattle.fl_encode.specs.Grammar.{AreThreeChildren, AreTwoChildren, BeginsScheme, IsOneChild, IsTextOf, IsWidthText}
-use Rattle.fl_encode.specs.Shapes.{BitPacked, Constant, Delta, FoR, FoRChunked, FoRChunkedWrapped, FoRWrapped, Plain, Primitive, RLE, Shape, is_plain, levels, max_levels}
-use Rattle.fl_encode.specs.Texts.{after, child_by, common, expected, frame_by, frame_in, furthest, goes_on, head_in, one_by, packing_behind, positioned, rest_behind, scheme_by, scheme_in, scheme_of_text, tail_behind, three_by, two_by, whole, width_in}
-use Rattle.fl_encode.proofs.GrammarLaws.{IsHead, Reader, Sound, above, both_low, child_said, equal_bytes, expected_is, forget, head_said, letters, rest_is, scheme_said, tail_is}
+use Rattle.fl_encode.specs.Shapes.{BitPacked, Constant, Delta, FoR, FoRChunked, Plain, Primitive, RLE, Shape, is_plain, levels, max_levels, order_text}
+use Rattle.fl_encode.specs.Texts.{after, child_by, common, expected, frame_in, furthest, goes_on, head_in, one_by, packing_behind, positioned, rest_behind, scheme_by, scheme_in, scheme_of_text, tail_behind, three_by, two_by, whole, width_in}
+use Rattle.fl_encode.proofs.GrammarLaws.{IsHead, Reader, Sound, above, both_low, child_said, equal_bytes, expected_is, forget, head_said, rest_is, scheme_said, tail_is}
 
 -- ---- steps of a reader
 ok_err : {A C : Type 0} (x : A) (left : ℕ) → (let r : Result A ℕ = Ok x in r) ≡ Err left → C
@@ -108,7 +107,7 @@ furthest_cut n text =
     (larger (suc n) text _ _ (larger (suc n) text _ _ (word_cut (suc n) Primitive (codes "primitive") text refl refl (omega arith)) (word_cut (suc n) Constant (codes "constant") text refl refl (omega arith)))
     (larger (suc n) text _ _ (word_cut (suc n) (BitPacked BestWidth) (codes "bitpacked") text refl refl (omega arith)) (word_cut (suc n) (BitPacked BestWidths) (codes "blocked") text refl refl (omega arith))))
     (larger (suc n) text _ _
-    (larger (suc n) text _ _ (word_cut (suc n) (FoRChunkedWrapped Plain Plain) (codes "forcw") text ([], inl (refl, refl), refl) refl (omega arith)) (word_cut (suc n) (FoRWrapped Plain) (codes "forw") text ([], inl (refl, refl), refl) refl (omega arith)))
+    (larger (suc n) text _ _ (word_cut (suc n) (FoRChunked Signed Plain Plain) (codes "forcw") text ([], inl (refl, refl), refl) refl (omega arith)) (word_cut (suc n) (FoR Signed Plain) (codes "forw") text ([], inl (refl, refl), refl) refl (omega arith)))
     (larger (suc n) text _ _ (word_cut (suc n) (Delta Plain Plain) (codes "delta") text ([], inl (refl, refl), refl) refl (omega arith)) (word_cut (suc n) (RLE Plain Plain Plain) (codes "rle") text ([], inl (refl, refl), refl) refl (omega arith))))
 
 from_begun : (high : ℕ) (text : List ℕ) (n left : ℕ) → Begun high text n → length text - n ≡ left → Cut (SomeScheme high) text left
@@ -147,9 +146,9 @@ words_cut n text left head word d others e = elim (option_err (λ (rest : List �
   | inr missing ↦ others missing
 ]
 
-frames_cut : (n : ℕ) (text : List ℕ) (left : ℕ) (d : Result (Head × List ℕ) ℕ) → (d ≡ Err left → Cut (SomeScheme (suc n)) text left) → option_map_or (λ (rest : List ℕ). Ok (heads.FoR (frame_in rest).0, (frame_in rest).1)) (rest_behind (codes "for") text) d ≡ Err left → Cut (SomeScheme (suc n)) text left
-frames_cut n text left d others e = elim (option_err (λ (rest : List ℕ). Ok (heads.FoR (frame_in rest).0, (frame_in rest).1)) (rest_behind (codes "for") text) d left e) [
-  | inl (rest, is, fine) ↦ ok_err (heads.FoR (frame_in rest).0, (frame_in rest).1) left fine
+frames_cut : (n : ℕ) (text : List ℕ) (left : ℕ) (d : Result (Head × List ℕ) ℕ) → (d ≡ Err left → Cut (SomeScheme (suc n)) text left) → option_map_or (λ (rest : List ℕ). Ok (frame_in rest)) (rest_behind (codes "for") text) d ≡ Err left → Cut (SomeScheme (suc n)) text left
+frames_cut n text left d others e = elim (option_err (λ (rest : List ℕ). Ok (frame_in rest)) (rest_behind (codes "for") text) d left e) [
+  | inl (rest, is, fine) ↦ ok_err (frame_in rest) left fine
   | inr missing ↦ others missing
 ]
 
@@ -263,23 +262,16 @@ only_first : {A B : Type 0} (r : Result A ℕ) (f : A → B) (left : ℕ) → af
 only_first (Ok x) f left e = ok_err (f x) left e
 only_first (Err other) f left e = ap (λ (n : ℕ). Err n) (same_err other left e)
 
-frame_by_cut : (n : ℕ) (read : Reader) → Sound n read → Cuts n read → (frame : Frame) (text : List ℕ) (left : ℕ) → frame_by read frame text ≡ Err left → Cut (SomeScheme (suc n)) (codes "for" ++ (letters frame ++ text)) left
-frame_by_cut n read sound cuts frames.Whole text left e =
-    cut_word (suc n) (SomeOne n) (codes "for") text left (λ own some. (FoR some.0, (own, some.1, refl), refl, above some.2)) (one_cut n read sound cuts text left (only_first (one_by read text) (λ a. (FoR a.0, a.1)) left e))
-frame_by_cut n read sound cuts frames.WholeWrapped text left e =
-    cut_word (suc n) (SomeOne n) (codes "forw") text left (λ own some. (FoRWrapped some.0, (own, some.1, refl), refl, above some.2)) (one_cut n read sound cuts text left (only_first (one_by read text) (λ a. (FoRWrapped a.0, a.1)) left e))
-frame_by_cut n read sound cuts frames.Chunked text left e =
-    cut_word (suc n) (SomeTwo n) (codes "forc") text left (λ own some. (FoRChunked some.0 some.1, (own, some.2, refl), refl, above some.3)) (two_cut n read sound cuts text left (only_first (two_by read text) (λ a. (FoRChunked a.0 a.1, a.2)) left e))
-frame_by_cut n read sound cuts frames.ChunkedWrapped text left e =
-    cut_word (suc n) (SomeTwo n) (codes "forcw") text left (λ own some. (FoRChunkedWrapped some.0 some.1, (own, some.2, refl), refl, above some.3)) (two_cut n read sound cuts text left (only_first (two_by read text) (λ a. (FoRChunkedWrapped a.0 a.1, a.2)) left e))
-
 scheme_by_cut : (n : ℕ) (read : Reader) → Sound n read → Cuts n read → (head : Head) (word text : List ℕ) (left : ℕ) → IsHead head word → scheme_by read head text ≡ Err left → Cut (SomeScheme (suc n)) (word ++ text) left
 scheme_by_cut n read sound cuts heads.Primitive word text left is e = ok_err (Primitive, text) left e
 scheme_by_cut n read sound cuts heads.Constant word text left is e = ok_err (Constant, text) left e
 scheme_by_cut n read sound cuts (heads.BitPacked packing) word text left is e = ok_err (BitPacked packing, text) left e
-scheme_by_cut n read sound cuts (heads.FoR frame) word text left is e =
-    let same : codes "for" ++ (letters frame ++ text) ≡ word ++ text = sym (ap (λ (t : List ℕ). t ++ text) is ∙ append_assoc (codes "for") (letters frame) text) in
-    subst (λ (t : List ℕ). Cut (SomeScheme (suc n)) t left) same (frame_by_cut n read sound cuts frame text left e)
+scheme_by_cut n read sound cuts (heads.FoR order) word text left is e =
+    let cut = cut_word (suc n) (SomeOne n) (codes "for" ++ order_text order) text left (λ own some. (FoR order some.0, (own, some.1, append_assoc (codes "for") (order_text order) own), refl, above some.2)) (one_cut n read sound cuts text left (only_first (one_by read text) (λ a. (FoR order a.0, a.1)) left e)) in
+    subst (λ (t : List ℕ). Cut (SomeScheme (suc n)) (t ++ text) left) (sym is) cut
+scheme_by_cut n read sound cuts (heads.FoRChunked order) word text left is e =
+    let cut = cut_word (suc n) (SomeTwo n) (codes "forc" ++ order_text order) text left (λ own some. (FoRChunked order some.0 some.1, (own, some.2, append_assoc (codes "forc") (order_text order) own), refl, above some.3)) (two_cut n read sound cuts text left (only_first (two_by read text) (λ a. (FoRChunked order a.0 a.1, a.2)) left e)) in
+    subst (λ (t : List ℕ). Cut (SomeScheme (suc n)) (t ++ text) left) (sym is) cut
 scheme_by_cut n read sound cuts heads.Delta word text left is e =
     let cut = cut_word (suc n) (SomeTwo n) (codes "delta") text left (λ own some. (Delta some.0 some.1, (own, some.2, refl), refl, above some.3)) (two_cut n read sound cuts text left (only_first (two_by read text) (λ a. (Delta a.0 a.1, a.2)) left e)) in
     subst (λ (t : List ℕ). Cut (SomeScheme (suc n)) (t ++ text) left) (sym is) cut

@@ -6,15 +6,14 @@ use Rattle.std.specs.Option.{option_map_or}
 use Rattle.std.proofs.lemmas.Bool.{cases_Bool}
 use Rattle.std.proofs.lemmas.Bool.Decides.{nat_tests}
 use Rattle.fl_column.proofs.ListLaws.{and_first, and_second, and_true}
+use Rattle.fl_codec.specs.declared.for_.ItemOrder.{ItemOrder}
 use Rattle.fl_encode.specs.declared.scheme.Packing.{Packing}
 use Rattle.fl_encode.specs.declared.scheme.Packing.TheVariants.{BestWidth, BestWidths, Width}
-use Rattle.fl_encode.specs.declared.text.reading.Frame.{Frame}
-use Rattle.fl_encode.specs.declared.text.reading.Frame.TheVariants as frames
 use Rattle.fl_encode.specs.declared.text.reading.Head.{Head}
 use Rattle.fl_encode.specs.declared.text.reading.Head.TheVariants as heads
 use Rattle.fl_encode.specs.Grammar.{AreThreeChildren, AreTwoChildren, IsOneChild, IsPackingText, IsSchemeText, IsTextOf, IsWidthText, is_digit, number_of}
-use Rattle.fl_encode.specs.Shapes.{BitPacked, Constant, Delta, FoR, FoRChunked, FoRChunkedWrapped, FoRWrapped, Plain, Primitive, RLE, Shape, is_plain, levels, max_levels}
-use Rattle.fl_encode.specs.Texts.{after, child_by, digits_behind, expected, frame_by, frame_in, furthest, goes_on, head_in, one_by, packing_behind, positioned, rest_behind, scheme_by, scheme_in, scheme_of_text, tail_behind, three_by, two_by, whole, width_in}
+use Rattle.fl_encode.specs.Shapes.{BitPacked, Constant, Delta, FoR, FoRChunked, Plain, Primitive, RLE, Shape, is_plain, levels, max_levels, order_text}
+use Rattle.fl_encode.specs.Texts.{after, child_by, digits_behind, expected, frame_in, furthest, goes_on, head_in, one_by, order_in, packing_behind, positioned, rest_behind, scheme_by, scheme_in, scheme_of_text, tail_behind, three_by, two_by, whole, width_in}
 
 -- ---- steps of a reader
 pub after_ok : {A B : Type 0} (r : Result A ℕ) (next : A → Result B ℕ) (y : B) → after r next ≡ Ok y → (x : A) × (r ≡ Ok x) × (next x ≡ Ok y)
@@ -123,30 +122,31 @@ packing_said text x e = elim (option_cases (λ digits. after (width_in digits) (
       subst (Packs text) (same_ok (BestWidth, text) x none.1) here
 ]
 
-abbrev pub letters : Frame → List ℕ
-letters frames.Whole = []
-letters frames.WholeWrapped = codes "w"
-letters frames.Chunked = codes "c"
-letters frames.ChunkedWrapped = codes "cw"
-
-frame_chosen : (frame : Frame) (o : Option (List ℕ)) (text : List ℕ) (d : Frame × List ℕ) → ((rest : List ℕ) → o ≡ Some rest → text ≡ letters frame ++ rest) → text ≡ letters d.0 ++ d.1
-    → text ≡ letters (option_map_or (λ (rest : List ℕ). (frame, rest)) o d).0 ++ (option_map_or (λ (rest : List ℕ). (frame, rest)) o d).1
-frame_chosen frame None text d h k = k
-frame_chosen frame (Some rest) text d h k = h rest refl
-
-frame_said : (text : List ℕ) → text ≡ letters (frame_in text).0 ++ (frame_in text).1
-frame_said text =
-    frame_chosen frames.ChunkedWrapped (rest_behind (codes "cw") text) text _ (rest_is (codes "cw") text) (
-    frame_chosen frames.Chunked (rest_behind (codes "c") text) text _ (rest_is (codes "c") text) (
-    frame_chosen frames.WholeWrapped (rest_behind (codes "w") text) text (frames.Whole, text) (rest_is (codes "w") text) refl))
-
 abbrev pub IsHead : Head → List ℕ → Type 0
 IsHead heads.Primitive word = word ≡ codes "primitive"
 IsHead heads.Constant word = word ≡ codes "constant"
 IsHead (heads.BitPacked packing) word = IsPackingText packing word
-IsHead (heads.FoR frame) word = word ≡ codes "for" ++ letters frame
+IsHead (heads.FoR order) word = word ≡ codes "for" ++ order_text order
+IsHead (heads.FoRChunked order) word = word ≡ codes "forc" ++ order_text order
 IsHead heads.Delta word = word ≡ codes "delta"
 IsHead heads.RLE word = word ≡ codes "rle"
+
+order_said : (text : List ℕ) → text ≡ order_text (order_in text).0 ++ (order_in text).1
+order_said [] = refl
+order_said (x ∷ rest) = elim (cases_Bool (x == 119)) [
+  | inl same ↦ rw (same, equal_bytes x 119 same) refl
+  | inr other ↦ rw other refl
+]
+
+abbrev Frames : List ℕ → Head × List ℕ → Type 0
+Frames text x = (own : List ℕ) × IsHead x.0 (codes "for" ++ own) × (text ≡ own ++ x.1)
+
+frame_said : (text : List ℕ) → Frames text (frame_in text)
+frame_said [] = ([], refl, refl)
+frame_said (x ∷ rest) = elim (cases_Bool (x == 99)) [
+  | inl same ↦ rw same (99 ∷ order_text (order_in rest).0, refl, ap (λ (b : ℕ). b ∷ rest) (equal_bytes x 99 same) ∙ ap (λ (t : List ℕ). 99 ∷ t) (order_said rest))
+  | inr other ↦ rw other (order_text (order_in (x ∷ rest)).0, refl, order_said (x ∷ rest))
+]
 
 abbrev pub Heads : List ℕ → Head × List ℕ → Type 0
 Heads text x = (word : List ℕ) × IsHead x.0 word × (text ≡ word ++ x.1)
@@ -159,11 +159,12 @@ head_step head word text d x is others e = elim (option_cases (λ (rest : List �
   | inr none ↦ others none.1
 ]
 
-frame_step : (text : List ℕ) (d : Result (Head × List ℕ) ℕ) (x : Head × List ℕ) → (d ≡ Ok x → Heads text x) → option_map_or (λ (rest : List ℕ). Ok (heads.FoR (frame_in rest).0, (frame_in rest).1)) (rest_behind (codes "for") text) d ≡ Ok x → Heads text x
-frame_step text d x others e = elim (option_cases (λ (rest : List ℕ). Ok (heads.FoR (frame_in rest).0, (frame_in rest).1)) (rest_behind (codes "for") text) d x e) [
+frame_step : (text : List ℕ) (d : Result (Head × List ℕ) ℕ) (x : Head × List ℕ) → (d ≡ Ok x → Heads text x) → option_map_or (λ (rest : List ℕ). Ok (frame_in rest)) (rest_behind (codes "for") text) d ≡ Ok x → Heads text x
+frame_step text d x others e = elim (option_cases (λ (rest : List ℕ). Ok (frame_in rest)) (rest_behind (codes "for") text) d x e) [
   | inl found ↦
-      let here : Heads text (heads.FoR (frame_in found.0).0, (frame_in found.0).1) = (codes "for" ++ letters (frame_in found.0).0, refl, rest_is (codes "for") text found.0 found.1 ∙ ap (λ (t : List ℕ). codes "for" ++ t) (frame_said found.0)) in
-      subst (Heads text) (same_ok (heads.FoR (frame_in found.0).0, (frame_in found.0).1) x found.2) here
+      let said = frame_said found.0 in
+      let here : Heads text (frame_in found.0) = (codes "for" ++ said.0, said.1, rest_is (codes "for") text found.0 found.1 ∙ ap (λ (t : List ℕ). codes "for" ++ t) said.2) in
+      subst (Heads text) (same_ok (frame_in found.0) x found.2) here
   | inr none ↦ others none.1
 ]
 
@@ -285,27 +286,9 @@ SaysScheme n text x = (own : List ℕ) × IsTextOf x.0 own × (text ≡ own ++ x
 pub above : {m n : ℕ} → m ≤ n → m + 1 ≤ suc n
 above {m = m} {n = n} h = omega arith
 
-frame_by_said : (n : ℕ) (read : Reader) → Sound n read → (frame : Frame) (text : List ℕ) (x : Shape × List ℕ) → frame_by read frame text ≡ Ok x → SaysScheme (suc n) (codes "for" ++ (letters frame ++ text)) x
-frame_by_said n read sound frames.Whole text x e =
-    let r = after_ok (one_by read text) (λ a. Ok (FoR a.0, a.1)) x e in
-    let said = one_said n read sound text r.0 r.1 in
-    let here : SaysScheme (suc n) (codes "for" ++ text) (FoR r.0.0, r.0.1) = (codes "for" ++ said.0, (said.0, said.1, refl), ap (λ (t : List ℕ). codes "for" ++ t) said.2, refl, above said.3) in
-    subst (SaysScheme (suc n) (codes "for" ++ text)) (same_ok (FoR r.0.0, r.0.1) x r.2) here
-frame_by_said n read sound frames.WholeWrapped text x e =
-    let r = after_ok (one_by read text) (λ a. Ok (FoRWrapped a.0, a.1)) x e in
-    let said = one_said n read sound text r.0 r.1 in
-    let here : SaysScheme (suc n) (codes "forw" ++ text) (FoRWrapped r.0.0, r.0.1) = (codes "forw" ++ said.0, (said.0, said.1, refl), ap (λ (t : List ℕ). codes "forw" ++ t) said.2, refl, above said.3) in
-    subst (SaysScheme (suc n) (codes "forw" ++ text)) (same_ok (FoRWrapped r.0.0, r.0.1) x r.2) here
-frame_by_said n read sound frames.Chunked text x e =
-    let r = after_ok (two_by read text) (λ a. Ok (FoRChunked a.0 a.1, a.2)) x e in
-    let said = two_said n read sound text r.0 r.1 in
-    let here : SaysScheme (suc n) (codes "forc" ++ text) (FoRChunked r.0.0 r.0.1, r.0.2) = (codes "forc" ++ said.0, (said.0, said.1, refl), ap (λ (t : List ℕ). codes "forc" ++ t) said.2, refl, above said.3) in
-    subst (SaysScheme (suc n) (codes "forc" ++ text)) (same_ok (FoRChunked r.0.0 r.0.1, r.0.2) x r.2) here
-frame_by_said n read sound frames.ChunkedWrapped text x e =
-    let r = after_ok (two_by read text) (λ a. Ok (FoRChunkedWrapped a.0 a.1, a.2)) x e in
-    let said = two_said n read sound text r.0 r.1 in
-    let here : SaysScheme (suc n) (codes "forcw" ++ text) (FoRChunkedWrapped r.0.0 r.0.1, r.0.2) = (codes "forcw" ++ said.0, (said.0, said.1, refl), ap (λ (t : List ℕ). codes "forcw" ++ t) said.2, refl, above said.3) in
-    subst (SaysScheme (suc n) (codes "forcw" ++ text)) (same_ok (FoRChunkedWrapped r.0.0 r.0.1, r.0.2) x r.2) here
+-- a word for a frame of reference, which an order ends, with what comes after it
+ordered : (word : List ℕ) (order : ItemOrder) (own rest : List ℕ) → (word ++ order_text order) ++ (own ++ rest) ≡ (word ++ (order_text order ++ own)) ++ rest
+ordered word order own rest = sym (append_assoc (word ++ order_text order) own rest) ∙ ap (λ (t : List ℕ). t ++ rest) (append_assoc word (order_text order) own)
 
 scheme_by_said : (n : ℕ) (read : Reader) → Sound n read → (head : Head) (word text : List ℕ) (x : Shape × List ℕ) → IsHead head word → scheme_by read head text ≡ Ok x → SaysScheme (suc n) (word ++ text) x
 scheme_by_said n read sound heads.Primitive word text x is e =
@@ -317,9 +300,18 @@ scheme_by_said n read sound heads.Constant word text x is e =
 scheme_by_said n read sound (heads.BitPacked packing) word text x is e =
     let here : SaysScheme (suc n) (word ++ text) (BitPacked packing, text) = (word, is, refl, refl, omega arith) in
     subst (SaysScheme (suc n) (word ++ text)) (same_ok (BitPacked packing, text) x e) here
-scheme_by_said n read sound (heads.FoR frame) word text x is e =
-    let same : codes "for" ++ (letters frame ++ text) ≡ word ++ text = sym (ap (λ (t : List ℕ). t ++ text) is ∙ append_assoc (codes "for") (letters frame) text) in
-    subst (λ (t : List ℕ). SaysScheme (suc n) t x) same (frame_by_said n read sound frame text x e)
+scheme_by_said n read sound (heads.FoR order) word text x is e =
+    let r = after_ok (one_by read text) (λ a. Ok (FoR order a.0, a.1)) x e in
+    let said = one_said n read sound text r.0 r.1 in
+    let word_is = codes "for" ++ order_text order in
+    let here : SaysScheme (suc n) (word_is ++ text) (FoR order r.0.0, r.0.1) = (codes "for" ++ (order_text order ++ said.0), (said.0, said.1, refl), ap (λ (t : List ℕ). word_is ++ t) said.2 ∙ ordered (codes "for") order said.0 r.0.1, refl, above said.3) in
+    subst (λ (t : List ℕ). SaysScheme (suc n) (t ++ text) x) (sym is) (subst (SaysScheme (suc n) (word_is ++ text)) (same_ok (FoR order r.0.0, r.0.1) x r.2) here)
+scheme_by_said n read sound (heads.FoRChunked order) word text x is e =
+    let r = after_ok (two_by read text) (λ a. Ok (FoRChunked order a.0 a.1, a.2)) x e in
+    let said = two_said n read sound text r.0 r.1 in
+    let word_is = codes "forc" ++ order_text order in
+    let here : SaysScheme (suc n) (word_is ++ text) (FoRChunked order r.0.0 r.0.1, r.0.2) = (codes "forc" ++ (order_text order ++ said.0), (said.0, said.1, refl), ap (λ (t : List ℕ). word_is ++ t) said.2 ∙ ordered (codes "forc") order said.0 r.0.2, refl, above said.3) in
+    subst (λ (t : List ℕ). SaysScheme (suc n) (t ++ text) x) (sym is) (subst (SaysScheme (suc n) (word_is ++ text)) (same_ok (FoRChunked order r.0.0 r.0.1, r.0.2) x r.2) here)
 scheme_by_said n read sound heads.Delta word text x is e =
     let r = after_ok (two_by read text) (λ a. Ok (Delta a.0 a.1, a.2)) x e in
     let said = two_said n read sound text r.0 r.1 in

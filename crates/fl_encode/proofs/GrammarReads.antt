@@ -1,18 +1,18 @@
 -- What the grammar says is read.
 use Rattle.std.proofs.Common.{◌≡◌, ◌+◌, ◌-◌, ◌*◌, ◌==◌, ◌<◌, ◌≤◌, ◌&&◌, ◌++◌, ◌⊎◌, ℕ, zero, suc, Bool, true, false, List, [], ◌∷◌, length, Ok, Err, refl, ap, sym, ◌∙◌, inl, inr, arith, append_assoc, append-nil}
-use Rattle.std.specs.Prelude.{Result}
+use Rattle.std.specs.Prelude.{Result, codes}
 use Rattle.std.specs.List.{list_all}
 use Rattle.std.proofs.lemmas.Bool.Decides.{nat_tests}
 use Rattle.fl_column.proofs.ListLaws.{and_first, and_second}
 use Rattle.fl_encode.specs.declared.scheme.Packing.TheVariants.{BestWidth, BestWidths, Width}
-use Rattle.fl_encode.specs.declared.text.reading.Frame.TheVariants as frames
 use Rattle.fl_encode.specs.declared.text.reading.Head.TheVariants as heads
 use Rattle.fl_encode.specs.Grammar.{AreThreeChildren, AreTwoChildren, IsOneChild, IsSchemeText, IsTextOf, IsWidthText, is_digit, number_of}
-use Rattle.fl_encode.specs.Shapes.{BitPacked, Constant, Delta, FoR, FoRChunked, FoRChunkedWrapped, FoRWrapped, Plain, Primitive, RLE, Shape, is_plain, levels, max_levels, scheme_text, shape}
-use Rattle.fl_encode.specs.Texts.{after, child_by, digits_behind, expected, frame_in, has_widths, one_by, positioned, scheme_in, scheme_of_text, three_by, two_by, whole, width_in}
+use Rattle.fl_encode.specs.Shapes.{BitPacked, Constant, Delta, FoR, FoRChunked, Plain, Primitive, RLE, Shape, is_plain, levels, max_levels, order_text, scheme_text}
+use Rattle.fl_encode.specs.SchemeShapes.{shape}
+use Rattle.fl_encode.specs.Texts.{after, child_by, digits_behind, expected, has_widths, one_by, positioned, scheme_in, scheme_of_text, three_by, two_by, whole, width_in}
 use Rattle.fl_encode.specs.declared.scheme.Scheme.{Scheme}
 use Rattle.fl_encode.proofs.GrammarLaws.{read_by_grammar, same_ok}
-use Rattle.fl_encode.proofs.TextLaws.{Reader, follows, for_head, goes, headed, no_children, no_letters, no_wrap, plain_is, reads, shape_some, stops, widened}
+use Rattle.fl_encode.proofs.TextLaws.{NoLetter, Reader, follows, for_read, forc_read, goes, headed, no_children, no_letters, plain_is, reads, shape_some, stops, widened}
 
 -- ---- widths
 pub grows : (n : ℕ) (digits : List ℕ) → n ≤ number_of n digits
@@ -60,10 +60,8 @@ child_read Constant read text rest is h = no_underscore read 99 _ text rest refl
 child_read (BitPacked BestWidth) read text rest is h = no_underscore read 98 _ text rest refl is ∙ h refl
 child_read (BitPacked (Width w)) read text rest is h = no_underscore read 98 _ text rest refl is.2 ∙ h refl
 child_read (BitPacked BestWidths) read text rest is h = no_underscore read 98 _ text rest refl is ∙ h refl
-child_read (FoR a) read text rest is h = no_underscore read 102 _ text rest refl is.2 ∙ h refl
-child_read (FoRChunked a b) read text rest is h = no_underscore read 102 _ text rest refl is.2 ∙ h refl
-child_read (FoRWrapped a) read text rest is h = no_underscore read 102 _ text rest refl is.2 ∙ h refl
-child_read (FoRChunkedWrapped a b) read text rest is h = no_underscore read 102 _ text rest refl is.2 ∙ h refl
+child_read (FoR order a) read text rest is h = no_underscore read 102 _ text rest refl is.2 ∙ h refl
+child_read (FoRChunked order a b) read text rest is h = no_underscore read 102 _ text rest refl is.2 ∙ h refl
 child_read (Delta a b) read text rest is h = no_underscore read 100 _ text rest refl is.2 ∙ h refl
 child_read (RLE a b c) read text rest is h = no_underscore read 114 _ text rest refl is.2 ∙ h refl
 
@@ -115,13 +113,9 @@ pub two_opens : (plain : Bool) (Is Are : List ℕ → Type 0) (own : List ℕ) �
 two_opens plain Is Are own (inl (all, e)) = inl e
 two_opens plain Is Are own (inr (first, second, is, are, e)) = inr (first ++ 44 ∷ (second ++ 41 ∷ []), e)
 
-whole_frame : (own rest : List ℕ) → follows rest ≡ true → Opens own → frame_in (own ++ rest) ≡ (frames.Whole, own ++ rest)
-whole_frame own rest f (inl e) = ap (λ (t : List ℕ). frame_in (t ++ rest)) e ∙ (no_letters rest f ∙ ap (λ (t : List ℕ). (frames.Whole, t ++ rest)) (sym e))
-whole_frame own rest f (inr (more, e)) = ap (λ (t : List ℕ). frame_in (t ++ rest)) e ∙ ap (λ (t : List ℕ). (frames.Whole, t ++ rest)) (sym e)
-
-chunked_frame : (own rest : List ℕ) → follows rest ≡ true → Opens own → frame_in (99 ∷ (own ++ rest)) ≡ (frames.Chunked, own ++ rest)
-chunked_frame own rest f (inl e) = ap (λ (t : List ℕ). frame_in (99 ∷ (t ++ rest))) e ∙ (no_wrap rest f ∙ ap (λ (t : List ℕ). (frames.Chunked, t ++ rest)) (sym e))
-chunked_frame own rest f (inr (more, e)) = ap (λ (t : List ℕ). frame_in (99 ∷ (t ++ rest))) e ∙ ap (λ (t : List ℕ). (frames.Chunked, t ++ rest)) (sym e)
+no_letter_opens : (own rest : List ℕ) → follows rest ≡ true → Opens own → NoLetter (own ++ rest)
+no_letter_opens own rest f (inl e) = rw e (no_letters rest f)
+no_letter_opens own rest f (inr (more, e)) = rw e (refl, refl)
 
 -- ---- schemes
 abbrev At : Shape → ℕ → List ℕ → Type 0
@@ -136,25 +130,18 @@ read_any (BitPacked (Width width)) zero rest text is p h f = absurd (omega arith
 read_any (BitPacked (Width width)) (suc n) rest text is p h f =
     ap (λ (t : List ℕ). scheme_in (suc n) (t ++ rest)) is.2 ∙ ap (λ (o : Result (ℕ × List ℕ) ℕ). headed n (after (widened o) (λ q. Ok (heads.BitPacked q.0, q.1)))) (width_read width is.0 rest is.1 f)
 read_any (BitPacked BestWidths) n rest text is p h f = ap (λ (t : List ℕ). scheme_in n (t ++ rest)) is ∙ reads (BitPacked BestWidths) n rest refl refl h f
-read_any (FoR a) zero rest text is p h f = absurd (omega arith)
-read_any (FoR a) (suc n) rest text is p h f =
+read_any (FoR order a) zero rest text is p h f = absurd (omega arith)
+read_any (FoR order a) (suc n) rest text is p h f =
     let back = one_read a (scheme_in n) is.0 rest f is.1 (λ child more c g. child_read a (scheme_in n) child more c (λ q. read_any a n more child c q (omega arith) g)) in
-    let behind = is.0 ++ rest in
-    ap (λ (t : List ℕ). scheme_in (suc n) (t ++ rest)) is.2 ∙ (ap (headed n) (for_head behind frames.Whole behind (whole_frame is.0 rest f (one_opens (is_plain a) (IsTextOf a) is.0 is.1))) ∙ ap (λ (o : Result (Shape × List ℕ) ℕ). after o (λ x. Ok (FoR x.0, x.1))) back)
-read_any (FoRWrapped a) zero rest text is p h f = absurd (omega arith)
-read_any (FoRWrapped a) (suc n) rest text is p h f =
-    let back = one_read a (scheme_in n) is.0 rest f is.1 (λ child more c g. child_read a (scheme_in n) child more c (λ q. read_any a n more child c q (omega arith) g)) in
-    ap (λ (t : List ℕ). scheme_in (suc n) (t ++ rest)) is.2 ∙ ap (λ (o : Result (Shape × List ℕ) ℕ). after o (λ x. Ok (FoRWrapped x.0, x.1))) back
-read_any (FoRChunked a b) zero rest text is p h f = absurd (omega arith)
-read_any (FoRChunked a b) (suc n) rest text is p h f =
+    let none = no_letter_opens is.0 rest f (one_opens (is_plain a) (IsTextOf a) is.0 is.1) in
+    ap (λ (t : List ℕ). scheme_in (suc n) (t ++ rest)) is.2 ∙ (ap (λ (t : List ℕ). scheme_in (suc n) (codes "for" ++ t)) (append_assoc (order_text order) is.0 rest)
+    ∙ (ap (headed n) (for_read order (is.0 ++ rest) none) ∙ ap (λ (o : Result (Shape × List ℕ) ℕ). after o (λ x. Ok (FoR order x.0, x.1))) back))
+read_any (FoRChunked order a b) zero rest text is p h f = absurd (omega arith)
+read_any (FoRChunked order a b) (suc n) rest text is p h f =
     let back = two_read a b (scheme_in n) is.0 rest f is.1 (λ child more c g. child_read a (scheme_in n) child more c (λ q. read_any a n more child c q (omega arith) g)) (λ child more c g. child_read b (scheme_in n) child more c (λ q. read_any b n more child c q (omega arith) g)) in
-    let behind = is.0 ++ rest in
-    ap (λ (t : List ℕ). scheme_in (suc n) (t ++ rest)) is.2
-    ∙ (ap (headed n) (for_head (99 ∷ behind) frames.Chunked behind (chunked_frame is.0 rest f (two_opens (is_plain a && is_plain b) (IsTextOf a) (IsTextOf b) is.0 is.1))) ∙ ap (λ (o : Result (Shape × Shape × List ℕ) ℕ). after o (λ x. Ok (FoRChunked x.0 x.1, x.2))) back)
-read_any (FoRChunkedWrapped a b) zero rest text is p h f = absurd (omega arith)
-read_any (FoRChunkedWrapped a b) (suc n) rest text is p h f =
-    let back = two_read a b (scheme_in n) is.0 rest f is.1 (λ child more c g. child_read a (scheme_in n) child more c (λ q. read_any a n more child c q (omega arith) g)) (λ child more c g. child_read b (scheme_in n) child more c (λ q. read_any b n more child c q (omega arith) g)) in
-    ap (λ (t : List ℕ). scheme_in (suc n) (t ++ rest)) is.2 ∙ ap (λ (o : Result (Shape × Shape × List ℕ) ℕ). after o (λ x. Ok (FoRChunkedWrapped x.0 x.1, x.2))) back
+    let none = no_letter_opens is.0 rest f (two_opens (is_plain a && is_plain b) (IsTextOf a) (IsTextOf b) is.0 is.1) in
+    ap (λ (t : List ℕ). scheme_in (suc n) (t ++ rest)) is.2 ∙ (ap (λ (t : List ℕ). scheme_in (suc n) (codes "forc" ++ t)) (append_assoc (order_text order) is.0 rest)
+    ∙ (ap (headed n) (forc_read order (is.0 ++ rest) none) ∙ ap (λ (o : Result (Shape × Shape × List ℕ) ℕ). after o (λ x. Ok (FoRChunked order x.0 x.1, x.2))) back))
 read_any (Delta a b) zero rest text is p h f = absurd (omega arith)
 read_any (Delta a b) (suc n) rest text is p h f =
     let back = two_read a b (scheme_in n) is.0 rest f is.1 (λ child more c g. child_read a (scheme_in n) child more c (λ q. read_any a n more child c q (omega arith) g)) (λ child more c g. child_read b (scheme_in n) child more c (λ q. read_any b n more child c q (omega arith) g)) in

@@ -5,20 +5,22 @@ use Rattle.std.specs.List.{list_all}
 use Rattle.std.proofs.lemmas.Bool.{cases_Bool}
 use Rattle.std.proofs.lemmas.List.{length-take-le, take-append-drop}
 use Rattle.fl_column.proofs.ListLaws.{and_first, and_second}
+use Rattle.fl_codec.specs.declared.for_.ItemOrder.{ItemOrder}
+use Rattle.fl_codec.specs.declared.for_.ItemOrder.TheVariants.{Natural, Signed}
 use Rattle.fl_encode.specs.declared.scheme.Packing.{Packing}
 use Rattle.fl_encode.specs.declared.scheme.Packing.TheVariants.{BestWidth, BestWidths, Width}
 use Rattle.fl_encode.specs.declared.scheme.Scheme.{Scheme}
 use Rattle.fl_encode.specs.declared.text.SchemeError.{SchemeError}
 use Rattle.fl_encode.specs.declared.text.SchemeError.TheVariants as errors
-use Rattle.fl_encode.specs.declared.text.reading.Frame.TheVariants as frames
 use Rattle.fl_encode.specs.declared.text.reading.Head.TheVariants as heads
 use Rattle.fl_encode.specs.Grammar.{AreThreeChildren, AreTwoChildren, BeginsScheme, FollowsGrammar, IsFirstWrong, IsOneChild, IsTextOf, IsWidthText, is_digit, number_of}
-use Rattle.fl_encode.specs.Shapes.{BitPacked, Constant, Delta, FoR, FoRChunked, FoRChunkedWrapped, FoRWrapped, Plain, Primitive, RLE, Shape, is_plain, levels, max_levels, shape}
+use Rattle.fl_encode.specs.Shapes.{BitPacked, Constant, Delta, FoR, FoRChunked, Plain, Primitive, RLE, Shape, is_plain, levels, max_levels, order_text}
+use Rattle.fl_encode.specs.SchemeShapes.{shape}
 use Rattle.fl_encode.specs.Texts.{IsParsed, after, child_by, common, digits_behind, expected, frame_in, furthest, head_in, nested_head_in, one_by, packing_behind, positioned, rest_behind, scheme_by, scheme_in, scheme_of_text, three_by, two_by, whole, width_in}
 use Rattle.fl_encode.proofs.GrammarCuts.{begins_before}
 use Rattle.fl_encode.proofs.GrammarLaws.{Reader, read_by_grammar}
 use Rattle.fl_encode.proofs.GrammarReads.{Opens, child_read, from_low, grammar_is_read, grows, no_underscore, one_opens, read_any, to_high, two_opens}
-use Rattle.fl_encode.proofs.TextBounds.{Inside, Within, after_within, child_within, chosen_inside, digits_inside, expected_within, frame_inside, nothing, one_within, option_within, packing_within, rest_inside, rest_of_head, rest_of_one, rest_of_three, rest_of_two, scheme_by_within, scheme_within, three_within, two_within, whole_within, width_within}
+use Rattle.fl_encode.proofs.TextBounds.{Inside, Within, after_within, child_within, digits_inside, expected_within, frame_inside, nothing, one_within, option_within, order_inside, packing_within, rest_inside, rest_of_head, rest_of_one, rest_of_three, rest_of_two, scheme_by_within, scheme_within, three_within, two_within, whole_within, width_within}
 use Rattle.fl_encode.proofs.TextLaws.{follows, goes}
 
 -- ---- two ways to cut a text
@@ -93,7 +95,7 @@ word_cut w farthest a c d y apart e f most =
     option_within rest_of_head n (rest_behind (codes "bitpacked") text) (λ rest. after (packing_behind rest) (λ p. Ok (heads.BitPacked p.0, p.1))) _ (inside (codes "bitpacked") w a c y apart.bitpacked e)
     (λ rest k. after_within (λ (p : Packing × List ℕ). p.1) rest_of_head n (packing_behind rest) (λ p. Ok (heads.BitPacked p.0, p.1)) (packing_within n rest k) (λ p l. l)) (
     option_within rest_of_head n (rest_behind (codes "blocked") text) (λ rest. Ok (heads.BitPacked BestWidths, rest)) (nested_head_in text) (inside (codes "blocked") w a c y apart.blocked e) (λ rest k. k) (
-    option_within rest_of_head n (rest_behind (codes "for") text) (λ rest. Ok (heads.FoR (frame_in rest).0, (frame_in rest).1)) _ (inside (codes "for") w a c y apart.frame e) (λ rest k. frame_inside n rest k) (
+    option_within rest_of_head n (rest_behind (codes "for") text) (λ rest. Ok (frame_in rest)) _ (inside (codes "for") w a c y apart.frame e) (λ rest k. frame_inside n rest k) (
     option_within rest_of_head n (rest_behind (codes "delta") text) (λ rest. Ok (heads.Delta, rest)) _ (inside (codes "delta") w a c y apart.delta e) (λ rest k. k) (
     option_within rest_of_head n (rest_behind (codes "rle") text) (λ rest. Ok (heads.RLE, rest)) (Err (length text - furthest text)) (inside (codes "rle") w a c y apart.rle e) (λ rest k. k) last))))))
 
@@ -165,7 +167,7 @@ colon_cut y t h =
 
 -- a word for a frame of reference
 chunked_inside : (y : List ℕ) → length (frame_in (99 ∷ y)).1 ≤ length y
-chunked_inside y = chosen_inside (length y) frames.ChunkedWrapped (rest_behind (codes "w") y) (frames.Chunked, y) (rest_inside (length y) (codes "w") y (itself (length y))) (itself (length y))
+chunked_inside y = order_inside (length y) y (itself (length y))
 
 -- what comes after a head
 headed : (n : ℕ) (y text : List ℕ) → Within rest_of_head (length y) (head_in text) → Within rest_of_one (length y) (scheme_in (suc n) text)
@@ -270,10 +272,8 @@ letter Constant own is p = (99, _, is, refl)
 letter (BitPacked BestWidth) own is p = (98, _, is, refl)
 letter (BitPacked (Width w)) own is p = (98, _, is.2, refl)
 letter (BitPacked BestWidths) own is p = (98, _, is, refl)
-letter (FoR a) own is p = (102, _, is.2, refl)
-letter (FoRChunked a b) own is p = (102, _, is.2, refl)
-letter (FoRWrapped a) own is p = (102, _, is.2, refl)
-letter (FoRChunkedWrapped a b) own is p = (102, _, is.2, refl)
+letter (FoR order a) own is p = (102, _, is.2, refl)
+letter (FoRChunked order a b) own is p = (102, _, is.2, refl)
 letter (Delta a b) own is p = (100, _, is.2, refl)
 letter (RLE a b c) own is p = (114, _, is.2, refl)
 
@@ -296,10 +296,8 @@ child_cuts Plain n y own a c is e h = plain_cut (scheme_in n) a c y (sym is ∙ 
 child_cuts Primitive n y own a c is e h = scheme_child Primitive n own a c y is refl e (h refl)
 child_cuts Constant n y own a c is e h = scheme_child Constant n own a c y is refl e (h refl)
 child_cuts (BitPacked packing) n y own a c is e h = scheme_child (BitPacked packing) n own a c y is refl e (h refl)
-child_cuts (FoR f) n y own a c is e h = scheme_child (FoR f) n own a c y is refl e (h refl)
-child_cuts (FoRChunked f g) n y own a c is e h = scheme_child (FoRChunked f g) n own a c y is refl e (h refl)
-child_cuts (FoRWrapped f) n y own a c is e h = scheme_child (FoRWrapped f) n own a c y is refl e (h refl)
-child_cuts (FoRChunkedWrapped f g) n y own a c is e h = scheme_child (FoRChunkedWrapped f g) n own a c y is refl e (h refl)
+child_cuts (FoR order f) n y own a c is e h = scheme_child (FoR order f) n own a c y is refl e (h refl)
+child_cuts (FoRChunked order f g) n y own a c is e h = scheme_child (FoRChunked order f g) n own a c y is refl e (h refl)
 child_cuts (Delta f g) n y own a c is e h = scheme_child (Delta f g) n own a c y is refl e (h refl)
 child_cuts (RLE f g k) n y own a c is e h = scheme_child (RLE f g k) n own a c y is refl e (h refl)
 
@@ -328,47 +326,37 @@ parenthesis : (x : ℕ) (b c own : List ℕ) → Opens own → own ≡ x ∷ (b 
 parenthesis x b c own (inl none) e = no_bytes x (b ++ c) (sym e ∙ none)
 parenthesis x b c own (inr (more, is)) e = same_byte x 40 (b ++ c) more (sym e ∙ is)
 
-for_cut : (s : Shape) (n : ℕ) (own b c y : List ℕ) → IsOneChild (is_plain s) (IsTextOf s) own → own ≡ b ++ c → levels s ≤ n → 0 < length b → Cuts s n y → Within rest_of_one (length y) (scheme_in (suc n) (codes "for" ++ (b ++ y)))
-for_cut s n own [] c y is e low some cuts = absurd (omega arith)
-for_cut s n own (x ∷ b) c y is e low some cuts =
+for_cut : (order : ItemOrder) (s : Shape) (n : ℕ) (own b c y : List ℕ) → IsOneChild (is_plain s) (IsTextOf s) own → order_text order ++ own ≡ b ++ c → levels s ≤ n → 0 < length b → Cuts s n y → Within rest_of_one (length y) (scheme_in (suc n) (codes "for" ++ (b ++ y)))
+for_cut order s n own [] c y is e low some cuts = absurd (omega arith)
+for_cut Natural s n own (x ∷ b) c y is e low some cuts =
     let first = parenthesis x b c own (one_opens (is_plain s) (IsTextOf s) own is) e in
     let children = one_within_cut s n own (x ∷ b) c y is e low cuts in
     subst (λ (k : ℕ). Within rest_of_one (length y) (scheme_in (suc n) (codes "for" ++ (k ∷ (b ++ y))))) (sym first)
-    (one_scheme n y (40 ∷ (b ++ y)) FoR (subst (λ (k : ℕ). Within rest_of_one (length y) (one_by (scheme_in n) (k ∷ (b ++ y)))) first children))
-
-forw_cut : (s : Shape) (n : ℕ) (own b c y : List ℕ) → IsOneChild (is_plain s) (IsTextOf s) own → 119 ∷ own ≡ b ++ c → levels s ≤ n → 0 < length b → Cuts s n y → Within rest_of_one (length y) (scheme_in (suc n) (codes "for" ++ (b ++ y)))
-forw_cut s n own [] c y is e low some cuts = absurd (omega arith)
-forw_cut s n own (x ∷ b) c y is e low some cuts =
+    (one_scheme n y (40 ∷ (b ++ y)) (FoR Natural) (subst (λ (k : ℕ). Within rest_of_one (length y) (one_by (scheme_in n) (k ∷ (b ++ y)))) first children))
+for_cut Signed s n own (x ∷ b) c y is e low some cuts =
     let first : x ≡ 119 = sym (same_byte 119 x own (b ++ c) e) in
     subst (λ (k : ℕ). Within rest_of_one (length y) (scheme_in (suc n) (codes "for" ++ (k ∷ (b ++ y))))) (sym first)
-    (one_scheme n y (b ++ y) FoRWrapped (one_within_cut s n own b c y is (same_tail 119 x own (b ++ c) e) low cuts))
+    (one_scheme n y (b ++ y) (FoR Signed) (one_within_cut s n own b c y is (same_tail 119 x own (b ++ c) e) low cuts))
 
-forc_cut : (s t : Shape) (n : ℕ) (own b c y : List ℕ) → AreTwoChildren (is_plain s && is_plain t) (IsTextOf s) (IsTextOf t) own → 99 ∷ own ≡ b ++ c → max (levels s) (levels t) ≤ n → 0 < length b → Cuts s n y → Cuts t n y → Within rest_of_one (length y) (scheme_in (suc n) (codes "for" ++ (b ++ y)))
-forc_cut s t n own [] c y is e low some cuts cutt = absurd (omega arith)
-forc_cut s t n own (x ∷ []) c y is e low some cuts cutt =
-    let first : x ≡ 99 = sym (same_byte 99 x own c e) in
-    subst (λ (k : ℕ). Within rest_of_one (length y) (scheme_in (suc n) (codes "for" ++ (k ∷ y)))) (sym first) (headed n y (codes "forc" ++ y) (chunked_inside y))
-forc_cut s t n own (x ∷ z ∷ b) c y is e low some cuts cutt =
-    let first : x ≡ 99 = sym (same_byte 99 x own (z ∷ (b ++ c)) e) in
-    let rest : own ≡ z ∷ (b ++ c) = same_tail 99 x own (z ∷ (b ++ c)) e in
-    let second = parenthesis z b c own (two_opens (is_plain s && is_plain t) (IsTextOf s) (IsTextOf t) own is) rest in
-    let children = two_within_cut s t n own (z ∷ b) c y is rest low cuts cutt in
-    subst (λ (k : ℕ). Within rest_of_one (length y) (scheme_in (suc n) (codes "for" ++ (k ∷ (z ∷ (b ++ y)))))) (sym first)
-    (subst (λ (k : ℕ). Within rest_of_one (length y) (scheme_in (suc n) (codes "forc" ++ (k ∷ (b ++ y))))) (sym second)
-    (two_scheme n y (40 ∷ (b ++ y)) FoRChunked (subst (λ (k : ℕ). Within rest_of_two (length y) (two_by (scheme_in n) (k ∷ (b ++ y)))) second children)))
+forc_cut : (order : ItemOrder) (s t : Shape) (n : ℕ) (own b c y : List ℕ) → AreTwoChildren (is_plain s && is_plain t) (IsTextOf s) (IsTextOf t) own → order_text order ++ own ≡ b ++ c → max (levels s) (levels t) ≤ n → Cuts s n y → Cuts t n y → Within rest_of_one (length y) (scheme_in (suc n) (codes "forc" ++ (b ++ y)))
+forc_cut order s t n own [] c y is e low cuts cutt = headed n y (codes "forc" ++ y) (chunked_inside y)
+forc_cut Natural s t n own (x ∷ b) c y is e low cuts cutt =
+    let first = parenthesis x b c own (two_opens (is_plain s && is_plain t) (IsTextOf s) (IsTextOf t) own is) e in
+    let children = two_within_cut s t n own (x ∷ b) c y is e low cuts cutt in
+    subst (λ (k : ℕ). Within rest_of_one (length y) (scheme_in (suc n) (codes "forc" ++ (k ∷ (b ++ y))))) (sym first)
+    (two_scheme n y (40 ∷ (b ++ y)) (FoRChunked Natural) (subst (λ (k : ℕ). Within rest_of_two (length y) (two_by (scheme_in n) (k ∷ (b ++ y)))) first children))
+forc_cut Signed s t n own (x ∷ b) c y is e low cuts cutt =
+    let first : x ≡ 119 = sym (same_byte 119 x own (b ++ c) e) in
+    subst (λ (k : ℕ). Within rest_of_one (length y) (scheme_in (suc n) (codes "forc" ++ (k ∷ (b ++ y))))) (sym first)
+    (two_scheme n y (b ++ y) (FoRChunked Signed) (two_within_cut s t n own b c y is (same_tail 119 x own (b ++ c) e) low cuts cutt))
 
-forcw_cut : (s t : Shape) (n : ℕ) (own b c y : List ℕ) → AreTwoChildren (is_plain s && is_plain t) (IsTextOf s) (IsTextOf t) own → 99 ∷ 119 ∷ own ≡ b ++ c → max (levels s) (levels t) ≤ n → 0 < length b → Cuts s n y → Cuts t n y → Within rest_of_one (length y) (scheme_in (suc n) (codes "for" ++ (b ++ y)))
-forcw_cut s t n own [] c y is e low some cuts cutt = absurd (omega arith)
-forcw_cut s t n own (x ∷ []) c y is e low some cuts cutt =
-    let first : x ≡ 99 = sym (same_byte 99 x (119 ∷ own) c e) in
-    subst (λ (k : ℕ). Within rest_of_one (length y) (scheme_in (suc n) (codes "for" ++ (k ∷ y)))) (sym first) (headed n y (codes "forc" ++ y) (chunked_inside y))
-forcw_cut s t n own (x ∷ z ∷ b) c y is e low some cuts cutt =
-    let first : x ≡ 99 = sym (same_byte 99 x (119 ∷ own) (z ∷ (b ++ c)) e) in
-    let rest : 119 ∷ own ≡ z ∷ (b ++ c) = same_tail 99 x (119 ∷ own) (z ∷ (b ++ c)) e in
-    let second : z ≡ 119 = sym (same_byte 119 z own (b ++ c) rest) in
-    let children = two_within_cut s t n own b c y is (same_tail 119 z own (b ++ c) rest) low cuts cutt in
-    subst (λ (k : ℕ). Within rest_of_one (length y) (scheme_in (suc n) (codes "for" ++ (k ∷ (z ∷ (b ++ y)))))) (sym first)
-    (subst (λ (k : ℕ). Within rest_of_one (length y) (scheme_in (suc n) (codes "forc" ++ (k ∷ (b ++ y))))) (sym second) (two_scheme n y (b ++ y) FoRChunkedWrapped children))
+forc_behind : (order : ItemOrder) (s t : Shape) (n : ℕ) (own b c y : List ℕ) → AreTwoChildren (is_plain s && is_plain t) (IsTextOf s) (IsTextOf t) own → 99 ∷ (order_text order ++ own) ≡ b ++ c → max (levels s) (levels t) ≤ n → 0 < length b → Cuts s n y → Cuts t n y
+    → Within rest_of_one (length y) (scheme_in (suc n) (codes "for" ++ (b ++ y)))
+forc_behind order s t n own [] c y is e low some cuts cutt = absurd (omega arith)
+forc_behind order s t n own (x ∷ b) c y is e low some cuts cutt =
+    let first : x ≡ 99 = sym (same_byte 99 x (order_text order ++ own) (b ++ c) e) in
+    subst (λ (k : ℕ). Within rest_of_one (length y) (scheme_in (suc n) (codes "for" ++ (k ∷ (b ++ y))))) (sym first)
+    (forc_cut order s t n own b c y is (same_tail 99 x (order_text order ++ own) (b ++ c) e) low cuts cutt)
 
 colon : (w n : ℕ) (digits b c y : List ℕ) → IsWidthText w digits → 58 ∷ digits ≡ b ++ c → 0 < length b → Within rest_of_one (length y) (scheme_in (suc n) (codes "bitpacked" ++ (b ++ y)))
 colon w n digits [] c y is e some = absurd (omega arith)
@@ -381,10 +369,8 @@ some_levels Plain p = absurd cc
 some_levels Primitive p = omega arith
 some_levels Constant p = omega arith
 some_levels (BitPacked packing) p = omega arith
-some_levels (FoR f) p = omega arith
-some_levels (FoRChunked f g) p = omega arith
-some_levels (FoRWrapped f) p = omega arith
-some_levels (FoRChunkedWrapped f g) p = omega arith
+some_levels (FoR order f) p = omega arith
+some_levels (FoRChunked order f g) p = omega arith
 some_levels (Delta f g) p = omega arith
 some_levels (RLE f g k) p = omega arith
 
@@ -398,18 +384,12 @@ cut_any (BitPacked BestWidth) (suc n) y text a c is p e low = headed n y (a ++ y
 cut_any (BitPacked (Width w)) (suc n) y text a c is p e low =
     after_word n (codes "bitpacked") (58 ∷ is.0) a c y (sym is.2 ∙ e) (λ d h. bitpacked_cut a d y h) (λ b h m. colon w n is.0 b c y is.1 h m)
 cut_any (BitPacked BestWidths) (suc n) y text a c is p e low = headed n y (a ++ y) (blocked_cut a c y (sym is ∙ e))
-cut_any (FoR f) (suc n) y text a c is p e low =
-    after_word n (codes "for") is.0 a c y (sym is.2 ∙ e) (λ d h. frame_cut a d y h)
-    (λ b h m. for_cut f n is.0 b c y is.1 h (omega arith) m (λ own i j iso q k. child_cuts f n y own i j iso q (λ r. cut_any f n y own i j iso r q k)))
-cut_any (FoRWrapped f) (suc n) y text a c is p e low =
-    after_word n (codes "for") (119 ∷ is.0) a c y (sym is.2 ∙ e) (λ d h. frame_cut a d y h)
-    (λ b h m. forw_cut f n is.0 b c y is.1 h (omega arith) m (λ own i j iso q k. child_cuts f n y own i j iso q (λ r. cut_any f n y own i j iso r q k)))
-cut_any (FoRChunked f g) (suc n) y text a c is p e low =
-    after_word n (codes "for") (99 ∷ is.0) a c y (sym is.2 ∙ e) (λ d h. frame_cut a d y h)
-    (λ b h m. forc_cut f g n is.0 b c y is.1 h (omega arith) m (λ own i j iso q k. child_cuts f n y own i j iso q (λ r. cut_any f n y own i j iso r q k)) (λ own i j iso q k. child_cuts g n y own i j iso q (λ r. cut_any g n y own i j iso r q k)))
-cut_any (FoRChunkedWrapped f g) (suc n) y text a c is p e low =
-    after_word n (codes "for") (99 ∷ 119 ∷ is.0) a c y (sym is.2 ∙ e) (λ d h. frame_cut a d y h)
-    (λ b h m. forcw_cut f g n is.0 b c y is.1 h (omega arith) m (λ own i j iso q k. child_cuts f n y own i j iso q (λ r. cut_any f n y own i j iso r q k)) (λ own i j iso q k. child_cuts g n y own i j iso q (λ r. cut_any g n y own i j iso r q k)))
+cut_any (FoR order f) (suc n) y text a c is p e low =
+    after_word n (codes "for") (order_text order ++ is.0) a c y (sym is.2 ∙ e) (λ d h. frame_cut a d y h)
+    (λ b h m. for_cut order f n is.0 b c y is.1 h (omega arith) m (λ own i j iso q k. child_cuts f n y own i j iso q (λ r. cut_any f n y own i j iso r q k)))
+cut_any (FoRChunked order f g) (suc n) y text a c is p e low =
+    after_word n (codes "for") (99 ∷ (order_text order ++ is.0)) a c y (sym is.2 ∙ e) (λ d h. frame_cut a d y h)
+    (λ b h m. forc_behind order f g n is.0 b c y is.1 h (omega arith) m (λ own i j iso q k. child_cuts f n y own i j iso q (λ r. cut_any f n y own i j iso r q k)) (λ own i j iso q k. child_cuts g n y own i j iso q (λ r. cut_any g n y own i j iso r q k)))
 cut_any (Delta f g) (suc n) y text a c is p e low =
     after_word n (codes "delta") is.0 a c y (sym is.2 ∙ e) (λ d h. delta_cut a d y h)
     (λ b h m.

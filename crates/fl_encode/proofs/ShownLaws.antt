@@ -2,19 +2,16 @@
 use Rattle.std.proofs.Common.{Result, Ok, Err, ap}
 use Rattle.fl_types.specs.declared.error.FastLanesError.{FastLanesError}
 use Rattle.fl_column.specs.Columns.{PrimitiveParts}
-use Rattle.fl_codec.specs.Parts.{ByChunk, FoRParts, Nulls, OneReference, Whole, compress_deltas, encode_chunked, encode_chunked_by, encode_global, encode_global_by, encode_runs}
-use Rattle.fl_codec.specs.declared.for_.ItemOrder.TheVariants.{Signed}
+use Rattle.fl_codec.specs.Parts.{ByChunk, FoRParts, Nulls, OneReference, Whole, compress_deltas, encode_chunked_by, encode_global_by, encode_runs}
 use Rattle.fl_array.specs.Trees.{Tree}
 use Rattle.fl_encode.specs.declared.scheme.Packing.{Packing}
 use Rattle.fl_encode.specs.declared.scheme.Packing.TheVariants.{BestWidth, BestWidths, Width}
-use Rattle.fl_encode.specs.declared.scheme.Scheme.{Scheme, Primitive, Constant, BitPacked, FoR', FoRChunked', FoRWrapped', FoRChunkedWrapped', Delta', RLE', Held-Scheme-FoR-0 as ChildScheme, None' as NoScheme, Some' as HasScheme}
-use Rattle.fl_encode.specs.Encodings.{HasReference, HasReferences, IsChildAs, IsEncodedAs}
+use Rattle.fl_encode.specs.Encodings.{HasReference, HasReferences, IsEncodedAs}
 use Rattle.fl_encode.specs.Packings.{IsPackedAs}
-use Rattle.fl_encode.specs.Shapes.{Shape, child_shape, shape}
-use Rattle.fl_encode.specs.Shapes as shapes
+use Rattle.fl_encode.specs.Shapes.{BitPacked, Constant, Delta, FoR, FoRChunked, Plain, Primitive, RLE, Shape}
 use Rattle.fl_encode.specs.TreeShapes.{Shows, ShowsReference, ShowsReferences, part_shape}
 
-packed_shows : (packing : Packing) (p : PrimitiveParts) (t : Tree) → IsPackedAs packing p t → Shows (shapes.BitPacked packing) p (part_shape t)
+packed_shows : (packing : Packing) (p : PrimitiveParts) (t : Tree) → IsPackedAs packing p t → Shows (BitPacked packing) p (part_shape t)
 packed_shows BestWidth p t (parts, packed, is) = ap part_shape is
 packed_shows (Width width) p t (parts, packed, is) = ap part_shape is
 packed_shows BestWidths p t (parts, packed, is) = ap part_shape is
@@ -33,24 +30,15 @@ chunks_show Is Are child others shown more (ByChunk first second) t (encoded, re
     (part_shape encoded, part_shape references, shown first encoded is, more second references are, ap part_shape made)
 chunks_show Is Are child others shown more (Nulls first reference) t made = ap part_shape made
 
-mutual
-  -- an encoded array shows its scheme
-  pub encoded_shows : (scheme : Scheme) (p : PrimitiveParts) (t : Tree) → IsEncodedAs scheme p t → Shows (shape scheme) p (part_shape t)
-  encoded_shows Primitive p t is = ap part_shape is
-  encoded_shows Constant p t is = ap part_shape is
-  encoded_shows (BitPacked packing) p t is = packed_shows packing p t is
-  encoded_shows (FoR' encoded) p t is = one_shows (IsChildAs encoded) (child_shape encoded) (child_shows encoded) (encode_global p) t is
-  encoded_shows (FoRChunked' encoded references) p t is =
-      chunks_show (IsChildAs encoded) (IsChildAs references) (child_shape encoded) (child_shape references) (child_shows encoded) (child_shows references) (encode_chunked p) t is
-  encoded_shows (FoRWrapped' encoded) p t is = one_shows (IsChildAs encoded) (child_shape encoded) (child_shows encoded) (encode_global_by Signed p) t is
-  encoded_shows (FoRChunkedWrapped' encoded references) p t is =
-      chunks_show (IsChildAs encoded) (IsChildAs references) (child_shape encoded) (child_shape references) (child_shows encoded) (child_shows references) (encode_chunked_by Signed p) t is
-  encoded_shows (Delta' bases deltas) p t (b, d, are, them, made) =
-      (part_shape b, part_shape d, child_shows bases (compress_deltas p).0 b are, child_shows deltas (compress_deltas p).1 d them, ap part_shape made)
-  encoded_shows (RLE' values indices offsets) p t (v, i, o, are, them, those, made) =
-      (part_shape v, part_shape i, part_shape o, child_shows values (encode_runs p).values v are, child_shows indices (encode_runs p).indices i them, child_shows offsets (encode_runs p).offsets o those, ap part_shape made)
-
-  -- the same of a child
-  child_shows : (scheme : ChildScheme) (p : PrimitiveParts) (t : Tree) → IsChildAs scheme p t → Shows (child_shape scheme) p (part_shape t)
-  child_shows NoScheme p t is = ap part_shape is
-  child_shows (HasScheme at scheme) p t is = encoded_shows scheme p t is
+-- an encoded array shows its scheme
+pub encoded_shows : (scheme : Shape) (p : PrimitiveParts) (t : Tree) → IsEncodedAs scheme p t → Shows scheme p (part_shape t)
+encoded_shows Plain p t is = ap part_shape is
+encoded_shows Primitive p t is = ap part_shape is
+encoded_shows Constant p t is = ap part_shape is
+encoded_shows (BitPacked packing) p t is = packed_shows packing p t is
+encoded_shows (FoR order encoded) p t is = one_shows (IsEncodedAs encoded) encoded (encoded_shows encoded) (encode_global_by order p) t is
+encoded_shows (FoRChunked order encoded references) p t is = chunks_show (IsEncodedAs encoded) (IsEncodedAs references) encoded references (encoded_shows encoded) (encoded_shows references) (encode_chunked_by order p) t is
+encoded_shows (Delta bases deltas) p t (b, d, are, them, made) =
+    (part_shape b, part_shape d, encoded_shows bases (compress_deltas p).0 b are, encoded_shows deltas (compress_deltas p).1 d them, ap part_shape made)
+encoded_shows (RLE values indices offsets) p t (v, i, o, are, them, those, made) =
+    (part_shape v, part_shape i, part_shape o, encoded_shows values (encode_runs p).values v are, encoded_shows indices (encode_runs p).indices i them, encoded_shows offsets (encode_runs p).offsets o those, ap part_shape made)

@@ -5,12 +5,10 @@ use Rattle.std.specs.Option.{option_map_or}
 use Rattle.std.proofs.lemmas.Bool.{cases_Bool}
 use Rattle.fl_encode.specs.declared.scheme.Packing.{Packing}
 use Rattle.fl_encode.specs.declared.scheme.Packing.TheVariants.{BestWidth, BestWidths, Width}
-use Rattle.fl_encode.specs.declared.text.reading.Frame.{Frame}
-use Rattle.fl_encode.specs.declared.text.reading.Frame.TheVariants as frames
 use Rattle.fl_encode.specs.declared.text.reading.Head.{Head}
 use Rattle.fl_encode.specs.declared.text.reading.Head.TheVariants as heads
-use Rattle.fl_encode.specs.Shapes.{Delta, FoR, FoRChunked, FoRChunkedWrapped, FoRWrapped, Plain, RLE, Shape, max_levels}
-use Rattle.fl_encode.specs.Texts.{after, child_by, digits_behind, expected, frame_by, frame_in, furthest, goes_on, head_in, nested_head_in, one_by, packing_behind, rest_behind, scheme_by, scheme_in, tail_behind, three_by, two_by, whole, width_in}
+use Rattle.fl_encode.specs.Shapes.{Delta, FoR, FoRChunked, Plain, RLE, Shape, max_levels}
+use Rattle.fl_encode.specs.Texts.{after, child_by, digits_behind, expected, frame_in, furthest, goes_on, head_in, nested_head_in, one_by, order_in, packing_behind, rest_behind, scheme_by, scheme_in, tail_behind, three_by, two_by, whole, width_in}
 
 -- what a reader leaves of a text is no longer than this
 abbrev pub Within : {A : Type 0} → (A → List ℕ) → ℕ → Result A ℕ → Type 0
@@ -74,23 +72,24 @@ rest_of_head h = h.1
 pub word_within : (n : ℕ) (word text : List ℕ) (head : Head) (d : Result (Head × List ℕ) ℕ) → length text ≤ n → Within rest_of_head n d → Within rest_of_head n (option_map_or (λ (rest : List ℕ). Ok (head, rest)) (rest_behind word text) d)
 word_within n word text head d h k = option_within rest_of_head n (rest_behind word text) (λ (rest : List ℕ). Ok (head, rest)) d (rest_inside n word text h) (λ rest l. l) k
 
-pub chosen_inside : (n : ℕ) (frame : Frame) (o : Option (List ℕ)) (d : Frame × List ℕ) → Inside n o → length d.1 ≤ n → length (option_map_or (λ (rest : List ℕ). (frame, rest)) o d).1 ≤ n
-chosen_inside n frame None d h k = k
-chosen_inside n frame (Some rest) d h k = h
+pub order_inside : (n : ℕ) (text : List ℕ) → length text ≤ n → length (order_in text).1 ≤ n
+order_inside n [] h = h
+order_inside n (x ∷ rest) h = elim (cases_Bool (x == 119)) [
+  | inl same ↦ rw same (omega arith)
+  | inr other ↦ rw other h
+]
 
 -- the same of the word for a frame of reference
-letters_inside : (n : ℕ) (word text : List ℕ) (frame : Frame) (d : Frame × List ℕ) → length text ≤ n → length d.1 ≤ n → length (option_map_or (λ (rest : List ℕ). (frame, rest)) (rest_behind word text) d).1 ≤ n
-letters_inside n word text frame d h k = chosen_inside n frame (rest_behind word text) d (rest_inside n word text h) k
-
 pub frame_inside : (n : ℕ) (text : List ℕ) → length text ≤ n → length (frame_in text).1 ≤ n
-frame_inside n text h =
-    letters_inside n (codes "cw") text frames.ChunkedWrapped _ h (
-    letters_inside n (codes "c") text frames.Chunked _ h (
-    letters_inside n (codes "w") text frames.WholeWrapped (frames.Whole, text) h h))
+frame_inside n [] h = h
+frame_inside n (x ∷ rest) h = elim (cases_Bool (x == 99)) [
+  | inl same ↦ rw same (order_inside n rest (omega arith))
+  | inr other ↦ rw other (order_inside n (x ∷ rest) h)
+]
 
 nested_within : (n : ℕ) (text : List ℕ) → length text ≤ n → Within rest_of_head n (nested_head_in text)
 nested_within n text h =
-    option_within rest_of_head n (rest_behind (codes "for") text) (λ rest. Ok (heads.FoR (frame_in rest).0, (frame_in rest).1)) _ (rest_inside n (codes "for") text h) (λ rest k. frame_inside n rest k) (
+    option_within rest_of_head n (rest_behind (codes "for") text) (λ rest. Ok (frame_in rest)) _ (rest_inside n (codes "for") text h) (λ rest k. frame_inside n rest k) (
     word_within n (codes "delta") text heads.Delta _ h (
     word_within n (codes "rle") text heads.RLE (Err (length text - furthest text)) h (omega arith)))
 
@@ -142,17 +141,12 @@ three_within n read stops text h =
     after_within rest_of_one rest_of_three n (child_by read last) _ (child_within n read stops last p) (λ c q.
     after_within (λ (rest : List ℕ). rest) rest_of_three n (expected 41 c.1) _ (expected_within n 41 c.1 q) (λ rest r. r))))))) h
 
-frame_by_within : (n : ℕ) (read : List ℕ → Result (Shape × List ℕ) ℕ) (frame : Frame) (text : List ℕ) → Stops n read → length text ≤ n → Within rest_of_one n (frame_by read frame text)
-frame_by_within n read frames.Whole text stops h = after_within rest_of_one rest_of_one n (one_by read text) (λ a. Ok (FoR a.0, a.1)) (one_within n read stops text h) (λ a k. k)
-frame_by_within n read frames.WholeWrapped text stops h = after_within rest_of_one rest_of_one n (one_by read text) (λ a. Ok (FoRWrapped a.0, a.1)) (one_within n read stops text h) (λ a k. k)
-frame_by_within n read frames.Chunked text stops h = after_within rest_of_two rest_of_one n (two_by read text) (λ a. Ok (FoRChunked a.0 a.1, a.2)) (two_within n read stops text h) (λ a k. k)
-frame_by_within n read frames.ChunkedWrapped text stops h = after_within rest_of_two rest_of_one n (two_by read text) (λ a. Ok (FoRChunkedWrapped a.0 a.1, a.2)) (two_within n read stops text h) (λ a k. k)
-
 pub scheme_by_within : (n : ℕ) (read : List ℕ → Result (Shape × List ℕ) ℕ) (head : Head) (text : List ℕ) → Stops n read → length text ≤ n → Within rest_of_one n (scheme_by read head text)
 scheme_by_within n read heads.Primitive text stops h = h
 scheme_by_within n read heads.Constant text stops h = h
 scheme_by_within n read (heads.BitPacked packing) text stops h = h
-scheme_by_within n read (heads.FoR frame) text stops h = frame_by_within n read frame text stops h
+scheme_by_within n read (heads.FoR order) text stops h = after_within rest_of_one rest_of_one n (one_by read text) (λ a. Ok (FoR order a.0, a.1)) (one_within n read stops text h) (λ a k. k)
+scheme_by_within n read (heads.FoRChunked order) text stops h = after_within rest_of_two rest_of_one n (two_by read text) (λ a. Ok (FoRChunked order a.0 a.1, a.2)) (two_within n read stops text h) (λ a k. k)
 scheme_by_within n read heads.Delta text stops h = after_within rest_of_two rest_of_one n (two_by read text) (λ a. Ok (Delta a.0 a.1, a.2)) (two_within n read stops text h) (λ a k. k)
 scheme_by_within n read heads.RLE text stops h = after_within rest_of_three rest_of_one n (three_by read text) (λ a. Ok (RLE a.0 a.1 a.2, a.3)) (three_within n read stops text h) (λ a k. k)
 

@@ -1,24 +1,23 @@
 -- What is printed is read.
-use Rattle.std.proofs.Common.{◌≡◌, ◌+◌, ◌-◌, ◌*◌, ◌/◌, ◌%◌, ◌==◌, ◌<◌, ◌≤◌, ◌&&◌, ◌||◌, ◌++◌, ℕ, zero, suc, Bool, true, false, List, [], ◌∷◌, length, Option, Some, None, Ok, Err, refl, ap, sym, subst, ◌∙◌, inl, inr, ◌⊎◌, arith, append_assoc, append-nil, nat_lt, not}
-use Rattle.std.specs.Prelude.{IsErrAnd, Result, codes, is_some}
+use Rattle.std.proofs.Common.{◌≡◌, ◌+◌, ◌-◌, ◌*◌, ◌/◌, ◌%◌, ◌==◌, ◌<◌, ◌≤◌, ◌&&◌, ◌||◌, ◌++◌, ℕ, zero, suc, Bool, true, false, List, [], ◌∷◌, length, Option, None, Ok, Err, refl, ap, sym, subst, ◌∙◌, inl, inr, ◌⊎◌, arith, append_assoc, append-nil, nat_lt}
+use Rattle.std.specs.Prelude.{IsErrAnd, Result, codes}
 use Rattle.std.proofs.lemmas.Bool.{cases_Bool}
 use Rattle.std.proofs.lemmas.Bool.Decides.{nat_tests}
 use Rattle.fl_column.proofs.ListLaws.{and_first, and_second}
 use Rattle.fl_encode.specs.declared.scheme.Packing.{Packing}
 use Rattle.fl_encode.specs.declared.scheme.Packing.TheVariants.{BestWidth, BestWidths, Width}
 use Rattle.std.specs.Option.{option_map_or}
-use Rattle.fl_encode.specs.declared.text.reading.Frame.{Frame}
-use Rattle.fl_encode.specs.declared.text.reading.Frame.TheVariants as frames
 use Rattle.fl_encode.specs.declared.text.reading.Head.{Head}
 use Rattle.fl_encode.specs.declared.text.reading.Head.TheVariants as heads
 use Rattle.fl_encode.specs.declared.text.reading.Stop.{Stop}
 use Rattle.fl_encode.specs.declared.text.reading.Stop.TheVariants as ends
-use Rattle.std.proofs.Common.{Box}
-use Rattle.std.specs.declared.alloc.Global.{Global}
-use Rattle.fl_encode.specs.declared.scheme.Scheme.{Scheme, back-Scheme-FoR-0 as child_scheme}
-use Rattle.fl_encode.specs.declared.scheme.Scheme as schemes
-use Rattle.fl_encode.specs.Shapes.{BitPacked, Constant, Delta, FoR, FoRChunked, FoRChunkedWrapped, FoRWrapped, Plain, Primitive, RLE, Shape, child_shape, in_parentheses, is_plain, levels, max_levels, scheme_text, shape, width_text}
-use Rattle.fl_encode.specs.Texts.{Finds, RunsOutIf, after, child_by, digits_behind, expected, frame_in, goes_on, has_widths, head_in, one_by, packing_behind, positioned, scheme_by, scheme_in, scheme_of_text, tail_behind, three_by, two_by, whole, width_in}
+use Rattle.fl_codec.specs.declared.for_.ItemOrder.{ItemOrder}
+use Rattle.fl_codec.specs.declared.for_.ItemOrder.TheVariants.{Natural, Signed}
+use Rattle.fl_encode.specs.declared.scheme.Scheme.{Scheme}
+use Rattle.fl_encode.specs.declared.scheme.Scheme.TheVariants as schemes
+use Rattle.fl_encode.specs.SchemeShapes.{shape}
+use Rattle.fl_encode.specs.Shapes.{BitPacked, Constant, Delta, FoR, FoRChunked, Plain, Primitive, RLE, Shape, in_parentheses, is_plain, levels, max_levels, order_text, scheme_text, width_text}
+use Rattle.fl_encode.specs.Texts.{Finds, RunsOutIf, after, child_by, digits_behind, expected, goes_on, has_widths, head_in, one_by, order_in, packing_behind, positioned, scheme_by, scheme_in, scheme_of_text, tail_behind, three_by, two_by, whole, width_in}
 
 -- ---- what stands behind a scheme: nothing, a comma or a closing parenthesis
 abbrev pub follows : List ℕ → Bool
@@ -35,20 +34,23 @@ no_tail byte (x ∷ rest) e f h = elim (one_of x h) [
   | inr is ↦ rw (is, f) refl
 ]
 
--- no letter of a frame's word
-pub no_letters : (rest : List ℕ) → follows rest ≡ true → frame_in rest ≡ (frames.Whole, rest)
-no_letters [] h = refl
-no_letters (x ∷ rest) h = elim (one_of x h) [
-  | inl is ↦ rw is refl
-  | inr is ↦ rw is refl
-]
+-- the word for a frame of reference, where no letter of it follows
+abbrev pub NoLetter : List ℕ → Type 0
+NoLetter text = (tail_behind 99 text ≡ None) × (tail_behind 119 text ≡ None)
 
-pub no_wrap : (rest : List ℕ) → follows rest ≡ true → frame_in (99 ∷ rest) ≡ (frames.Chunked, rest)
-no_wrap [] h = refl
-no_wrap (x ∷ rest) h = elim (one_of x h) [
-  | inl is ↦ rw is refl
-  | inr is ↦ rw is refl
-]
+pub no_letters : (rest : List ℕ) → follows rest ≡ true → NoLetter rest
+no_letters rest h = (no_tail 99 rest refl refl h, no_tail 119 rest refl refl h)
+
+pub order_read : (order : ItemOrder) (rest : List ℕ) → NoLetter rest → order_in (order_text order ++ rest) ≡ (order, rest)
+order_read Natural rest none = rw none.1 refl
+order_read Signed rest none = refl
+
+pub for_read : (order : ItemOrder) (rest : List ℕ) → NoLetter rest → head_in (codes "for" ++ (order_text order ++ rest)) ≡ Ok (heads.FoR order, rest)
+for_read Natural rest none = rw (none.0, none.1) refl
+for_read Signed rest none = refl
+
+pub forc_read : (order : ItemOrder) (rest : List ℕ) → NoLetter rest → head_in (codes "forc" ++ (order_text order ++ rest)) ≡ Ok (heads.FoRChunked order, rest)
+forc_read order rest none = ap (λ (x : ItemOrder × List ℕ). Ok (heads.FoRChunked x.0, x.1)) (order_read order rest none)
 
 -- ---- widths
 pub stops : (number : ℕ) (rest : List ℕ) → follows rest ≡ true → digits_behind number rest ≡ (number, rest)
@@ -109,10 +111,8 @@ plain_is Plain h = refl
 plain_is Primitive h = cc
 plain_is Constant h = cc
 plain_is (BitPacked packing) h = cc
-plain_is (FoR a) h = cc
-plain_is (FoRChunked a b) h = cc
-plain_is (FoRWrapped a) h = cc
-plain_is (FoRChunkedWrapped a b) h = cc
+plain_is (FoR order a) h = cc
+plain_is (FoRChunked order a b) h = cc
 plain_is (Delta a b) h = cc
 plain_is (RLE a b c) h = cc
 
@@ -127,10 +127,8 @@ child_from Constant read rest h = h refl
 child_from (BitPacked BestWidth) read rest h = h refl
 child_from (BitPacked (Width w)) read rest h = h refl
 child_from (BitPacked BestWidths) read rest h = h refl
-child_from (FoR a) read rest h = h refl
-child_from (FoRChunked a b) read rest h = h refl
-child_from (FoRWrapped a) read rest h = h refl
-child_from (FoRChunkedWrapped a b) read rest h = h refl
+child_from (FoR order a) read rest h = h refl
+child_from (FoRChunked order a b) read rest h = h refl
 child_from (Delta a b) read rest h = h refl
 child_from (RLE a b c) read rest h = h refl
 
@@ -180,16 +178,9 @@ three_back a b c read rest f backa backb backc = elim (cases_Bool (is_plain a &&
 ]
 
 -- ---- schemes
-whole_word : (all : Bool) (text rest : List ℕ) → follows rest ≡ true → frame_in (in_parentheses all text ++ rest) ≡ (frames.Whole, in_parentheses all text ++ rest)
-whole_word true text rest f = no_letters rest f
-whole_word false text rest f = refl
-
-chunked_word : (all : Bool) (text rest : List ℕ) → follows rest ≡ true → frame_in (99 ∷ (in_parentheses all text ++ rest)) ≡ (frames.Chunked, in_parentheses all text ++ rest)
-chunked_word true text rest f = no_wrap rest f
-chunked_word false text rest f = refl
-
-pub for_head : (word : List ℕ) (frame : Frame) (more : List ℕ) → frame_in word ≡ (frame, more) → head_in (102 ∷ 111 ∷ 114 ∷ word) ≡ Ok (heads.FoR frame, more)
-for_head word frame more h = ap (λ (x : Frame × List ℕ). Ok (heads.FoR x.0, x.1)) h
+no_letter_behind : (all : Bool) (text rest : List ℕ) → follows rest ≡ true → NoLetter (in_parentheses all text ++ rest)
+no_letter_behind true text rest f = no_letters rest f
+no_letter_behind false text rest f = (refl, refl)
 
 -- what a word and its children say, and the width behind a colon
 abbrev pub headed : ℕ → Result (Head × List ℕ) ℕ → Result (Shape × List ℕ) ℕ
@@ -212,29 +203,21 @@ reads (BitPacked (Width width)) (suc n) rest p w h f =
     let fits : width ≤ 255 = grind (arith, nat_tests) in
     ap (λ (o : Result (ℕ × List ℕ) ℕ). headed n (after (widened o) (λ q. Ok (heads.BitPacked q.0, q.1)))) (width_back width rest fits f)
 reads (BitPacked BestWidths) (suc n) rest p w h f = refl
-reads (FoR a) zero rest p w h f = absurd (omega arith)
-reads (FoR a) (suc n) rest p w h f =
+reads (FoR order a) zero rest p w h f = absurd (omega arith)
+reads (FoR order a) (suc n) rest p w h f =
     let back = one_back a (scheme_in n) rest f (λ more g. child_from a (scheme_in n) more (λ q. reads a n more q w (omega arith) g)) in
-    let behind = in_parentheses (is_plain a) (scheme_text a) ++ rest in
-    ap (headed n) (for_head behind frames.Whole behind (whole_word (is_plain a) (scheme_text a) rest f)) ∙ ap (λ (o : Result (Shape × List ℕ) ℕ). after o (λ x. Ok (FoR x.0, x.1))) back
-reads (FoRChunked a b) zero rest p w h f = absurd (omega arith)
-reads (FoRChunked a b) (suc n) rest p w h f =
+    let own = in_parentheses (is_plain a) (scheme_text a) in
+    ap (λ (t : List ℕ). scheme_in (suc n) (codes "for" ++ t)) (append_assoc (order_text order) own rest)
+    ∙ (ap (headed n) (for_read order (own ++ rest) (no_letter_behind (is_plain a) (scheme_text a) rest f)) ∙ ap (λ (o : Result (Shape × List ℕ) ℕ). after o (λ x. Ok (FoR order x.0, x.1))) back)
+reads (FoRChunked order a b) zero rest p w h f = absurd (omega arith)
+reads (FoRChunked order a b) (suc n) rest p w h f =
     let wa = and_first (has_widths a) (has_widths b) w in
     let wb = and_second (has_widths a) (has_widths b) w in
     let back = two_back a b (scheme_in n) rest f (λ more g. child_from a (scheme_in n) more (λ q. reads a n more q wa (omega arith) g)) (λ more g. child_from b (scheme_in n) more (λ q. reads b n more q wb (omega arith) g)) in
     let text = scheme_text a ++ (codes "," ++ scheme_text b) in
-    let behind = in_parentheses (is_plain a && is_plain b) text ++ rest in
-    ap (headed n) (for_head (99 ∷ behind) frames.Chunked behind (chunked_word (is_plain a && is_plain b) text rest f)) ∙ ap (λ (o : Result (Shape × Shape × List ℕ) ℕ). after o (λ x. Ok (FoRChunked x.0 x.1, x.2))) back
-reads (FoRWrapped a) zero rest p w h f = absurd (omega arith)
-reads (FoRWrapped a) (suc n) rest p w h f =
-    let back = one_back a (scheme_in n) rest f (λ more g. child_from a (scheme_in n) more (λ q. reads a n more q w (omega arith) g)) in
-    ap (λ (o : Result (Shape × List ℕ) ℕ). after o (λ x. Ok (FoRWrapped x.0, x.1))) back
-reads (FoRChunkedWrapped a b) zero rest p w h f = absurd (omega arith)
-reads (FoRChunkedWrapped a b) (suc n) rest p w h f =
-    let wa = and_first (has_widths a) (has_widths b) w in
-    let wb = and_second (has_widths a) (has_widths b) w in
-    let back = two_back a b (scheme_in n) rest f (λ more g. child_from a (scheme_in n) more (λ q. reads a n more q wa (omega arith) g)) (λ more g. child_from b (scheme_in n) more (λ q. reads b n more q wb (omega arith) g)) in
-    ap (λ (o : Result (Shape × Shape × List ℕ) ℕ). after o (λ x. Ok (FoRChunkedWrapped x.0 x.1, x.2))) back
+    let own = in_parentheses (is_plain a && is_plain b) text in
+    ap (λ (t : List ℕ). scheme_in (suc n) (codes "forc" ++ t)) (append_assoc (order_text order) own rest)
+    ∙ (ap (headed n) (forc_read order (own ++ rest) (no_letter_behind (is_plain a && is_plain b) text rest f)) ∙ ap (λ (o : Result (Shape × Shape × List ℕ) ℕ). after o (λ x. Ok (FoRChunked order x.0 x.1, x.2))) back)
 reads (Delta a b) zero rest p w h f = absurd (omega arith)
 reads (Delta a b) (suc n) rest p w h f =
     let wa = and_first (has_widths a) (has_widths b) w in
@@ -278,22 +261,14 @@ pub shape_some : (s : Scheme) → is_plain (shape s) ≡ false
 shape_some schemes.Primitive = refl
 shape_some schemes.Constant = refl
 shape_some (schemes.BitPacked packing) = refl
-shape_some (schemes.FoR' a) = refl
-shape_some (schemes.FoRChunked' a b) = refl
-shape_some (schemes.FoRWrapped' a) = refl
-shape_some (schemes.FoRChunkedWrapped' a b) = refl
-shape_some (schemes.Delta' a b) = refl
-shape_some (schemes.RLE' a b c) = refl
+shape_some (schemes.FoR order a) = refl
+shape_some (schemes.FoRChunked order a b) = refl
+shape_some (schemes.Delta a b) = refl
+shape_some (schemes.RLE a b c) = refl
 
 -- the same of a scheme
 pub scheme_is_read : (s : Scheme) → has_widths (shape s) ≡ true → levels (shape s) ≤ max_levels → scheme_of_text (scheme_text (shape s)) ≡ Ok (shape s)
 scheme_is_read s w h = printed_is_read (shape s) (shape_some s) w h
-
-pub plain_child : (o : Option (Box Scheme Global)) (none : Bool) → is_some o ≡ not none → none ≡ is_plain (child_shape (child_scheme o))
-plain_child None true h = refl
-plain_child None false h = cc
-plain_child (Some b) true h = cc
-plain_child (Some b) false h = sym (shape_some b.value)
 
 pub one_printed : (old a : List ℕ) (all : Bool) → all ≡ false → ((old ++ 40 ∷ []) ++ a) ++ 41 ∷ [] ≡ old ++ in_parentheses all a
 one_printed old a all h = rw h (append_assoc (old ++ 40 ∷ []) a (41 ∷ []) ∙ append_assoc old (40 ∷ []) (a ++ 41 ∷ []))

@@ -1,16 +1,14 @@
--- The arrays that schemes make of a primitive one, and when they make none. A child has no scheme, or one with where it lies in memory.
+-- The arrays that schemes make of a primitive one, and when they make none.
 use Rattle.std.specs.Prelude.{◌≡◌, length, Option, Some, None, Result, Ok, Err, IfOk}
 use Rattle.fl_types.specs.declared.error.FastLanesError.{FastLanesError}
 use Rattle.fl_column.specs.Columns.{Column, PrimitiveParts, column_of_primitive}
-use Rattle.fl_codec.specs.Parts.{ByChunk, FoRParts, Nulls, OneReference, RunParts, Whole, compress_deltas, encode_chunked, encode_chunked_by, encode_global, encode_global_by, encode_runs}
-use Rattle.fl_codec.specs.declared.for_.ItemOrder.{ItemOrder}
-use Rattle.fl_codec.specs.declared.for_.ItemOrder.TheVariants.{Signed}
+use Rattle.fl_codec.specs.Parts.{ByChunk, FoRParts, Nulls, OneReference, RunParts, Whole, compress_deltas, encode_chunked_by, encode_global_by, encode_runs}
 use Rattle.fl_bitpacking.specs.Encoders.{AnswersUnless}
 use Rattle.fl_bitpacking.specs.Refusals.{otherwise}
 use Rattle.fl_array.specs.Trees.{DeltaParts, OffsetLen, Tree, column}
 use Rattle.fl_array.specs.Trees as tree
-use Rattle.fl_encode.specs.declared.scheme.Scheme.{Scheme, Primitive, Constant, BitPacked, FoR', FoRChunked', FoRWrapped', FoRChunkedWrapped', Delta', RLE', Held-Scheme-FoR-0 as ChildScheme, None' as NoScheme, Some' as HasScheme}
 use Rattle.fl_encode.specs.Packings.{IsPackedAs, constant_of, constant_refusal, packing_refusal}
+use Rattle.fl_encode.specs.Shapes.{BitPacked, Constant, Delta, FoR, FoRChunked, Plain, Primitive, RLE, Shape}
 
 -- ---- frames of reference
 -- why there is no array of one reference, if there is none: the first reason is that there is no reference
@@ -62,41 +60,27 @@ abbrev pub whole_window : PrimitiveParts → OffsetLen
 whole_window p = record { offset = 0; len = length p.slots }
 
 -- ---- schemes
-abbrev mutual
-  -- why a primitive array is not encoded, if it is not: the first reason, that of the outer encoding before those of the children in the order of their slots
-  pub encode_refusal : Scheme → PrimitiveParts → Option FastLanesError
-  encode_refusal Primitive p = None
-  encode_refusal Constant p = constant_refusal p
-  encode_refusal (BitPacked packing) p = packing_refusal packing p
-  encode_refusal (FoR' encoded) p = one_reference_refusal (child_refusal encoded) (encode_global p)
-  encode_refusal (FoRChunked' encoded references) p = references_refusal (child_refusal encoded) (child_refusal references) (encode_chunked p)
-  encode_refusal (FoRWrapped' encoded) p = one_reference_refusal (child_refusal encoded) (encode_global_by Signed p)
-  encode_refusal (FoRChunkedWrapped' encoded references) p = references_refusal (child_refusal encoded) (child_refusal references) (encode_chunked_by Signed p)
-  encode_refusal (Delta' bases deltas) p = otherwise (child_refusal bases (compress_deltas p).0) (child_refusal deltas (compress_deltas p).1)
-  encode_refusal (RLE' values indices offsets) p = otherwise (child_refusal values (encode_runs p).values) (otherwise (child_refusal indices (encode_runs p).indices) (child_refusal offsets (encode_runs p).offsets))
+-- why a primitive array is not encoded, if it is not: the first reason, that of the outer encoding before those of the children in the order of their slots
+abbrev pub encode_refusal : Shape → PrimitiveParts → Option FastLanesError
+encode_refusal Plain p = None
+encode_refusal Primitive p = None
+encode_refusal Constant p = constant_refusal p
+encode_refusal (BitPacked packing) p = packing_refusal packing p
+encode_refusal (FoR order encoded) p = one_reference_refusal (encode_refusal encoded) (encode_global_by order p)
+encode_refusal (FoRChunked order encoded references) p = references_refusal (encode_refusal encoded) (encode_refusal references) (encode_chunked_by order p)
+encode_refusal (Delta bases deltas) p = otherwise (encode_refusal bases (compress_deltas p).0) (encode_refusal deltas (compress_deltas p).1)
+encode_refusal (RLE values indices offsets) p = otherwise (encode_refusal values (encode_runs p).values) (otherwise (encode_refusal indices (encode_runs p).indices) (encode_refusal offsets (encode_runs p).offsets))
 
-  -- the same of a child, which is plain if it has no scheme
-  pub child_refusal : ChildScheme → PrimitiveParts → Option FastLanesError
-  child_refusal NoScheme p = None
-  child_refusal (HasScheme at scheme) p = encode_refusal scheme p
-
-abbrev mutual
-  -- the array is a primitive one that is encoded by a scheme
-  pub IsEncodedAs : Scheme → PrimitiveParts → Tree → Type 0
-  IsEncodedAs Primitive p t = t ≡ tree.Primitive p
-  IsEncodedAs Constant p t = t ≡ tree.Constant (constant_of p)
-  IsEncodedAs (BitPacked packing) p t = IsPackedAs packing p t
-  IsEncodedAs (FoR' encoded) p t = HasReference (IsChildAs encoded) (encode_global p) t
-  IsEncodedAs (FoRChunked' encoded references) p t = HasReferences (IsChildAs encoded) (IsChildAs references) (encode_chunked p) t
-  IsEncodedAs (FoRWrapped' encoded) p t = HasReference (IsChildAs encoded) (encode_global_by Signed p) t
-  IsEncodedAs (FoRChunkedWrapped' encoded references) p t = HasReferences (IsChildAs encoded) (IsChildAs references) (encode_chunked_by Signed p) t
-  IsEncodedAs (Delta' bases deltas) p t = HasDeltas (IsChildAs bases) (IsChildAs deltas) (compress_deltas p) (whole_delta p) t
-  IsEncodedAs (RLE' values indices offsets) p t = HasRuns (IsChildAs values) (IsChildAs indices) (IsChildAs offsets) (encode_runs p) (whole_window p) t
-
-  -- the same of a child, which is plain if it has no scheme
-  pub IsChildAs : ChildScheme → PrimitiveParts → Tree → Type 0
-  IsChildAs NoScheme p t = t ≡ tree.Primitive p
-  IsChildAs (HasScheme at scheme) p t = IsEncodedAs scheme p t
+-- the array is a primitive one that is encoded by a scheme
+abbrev pub IsEncodedAs : Shape → PrimitiveParts → Tree → Type 0
+IsEncodedAs Plain p t = t ≡ tree.Primitive p
+IsEncodedAs Primitive p t = t ≡ tree.Primitive p
+IsEncodedAs Constant p t = t ≡ tree.Constant (constant_of p)
+IsEncodedAs (BitPacked packing) p t = IsPackedAs packing p t
+IsEncodedAs (FoR order encoded) p t = HasReference (IsEncodedAs encoded) (encode_global_by order p) t
+IsEncodedAs (FoRChunked order encoded references) p t = HasReferences (IsEncodedAs encoded) (IsEncodedAs references) (encode_chunked_by order p) t
+IsEncodedAs (Delta bases deltas) p t = HasDeltas (IsEncodedAs bases) (IsEncodedAs deltas) (compress_deltas p) (whole_delta p) t
+IsEncodedAs (RLE values indices offsets) p t = HasRuns (IsEncodedAs values) (IsEncodedAs indices) (IsEncodedAs offsets) (encode_runs p) (whole_window p) t
 
 -- ---- answers
 -- a call returns an array of this form with this column or, if there is an error, that error, or memory ran out
@@ -106,18 +90,5 @@ pub record Makes (refusal : Option FastLanesError) (Is : Tree → Type 0) (c : C
   pub stands_for : IfOk result (λ t. column t ≡ c)
 
 -- what encoding a primitive array by a scheme answers: exactly the array of the scheme's parts, which has the same column, or the first refusal
-abbrev pub EncodesAs : Scheme → PrimitiveParts → Result Tree FastLanesError → Type 0
+abbrev pub EncodesAs : Shape → PrimitiveParts → Result Tree FastLanesError → Type 0
 EncodesAs scheme p result = Makes (encode_refusal scheme p) (IsEncodedAs scheme p) (column_of_primitive p) result
-
--- the same of a child
-abbrev pub EncodesChildAs : ChildScheme → PrimitiveParts → Result Tree FastLanesError → Type 0
-EncodesChildAs scheme p result = Makes (child_refusal scheme p) (IsChildAs scheme p) (column_of_primitive p) result
-
--- what encoding a primitive array less its least item by an order answers, with the child by its scheme
-abbrev pub EncodesForAs : ItemOrder → ChildScheme → PrimitiveParts → Result Tree FastLanesError → Type 0
-EncodesForAs order encoded p result = Makes (one_reference_refusal (child_refusal encoded) (encode_global_by order p)) (HasReference (IsChildAs encoded) (encode_global_by order p)) (column_of_primitive p) result
-
--- what encoding a primitive array less the least items of its chunks by an order answers, with each child by its scheme
-abbrev pub EncodesChunkedForAs : ItemOrder → ChildScheme → ChildScheme → PrimitiveParts → Result Tree FastLanesError → Type 0
-EncodesChunkedForAs order encoded references p result =
-    Makes (references_refusal (child_refusal encoded) (child_refusal references) (encode_chunked_by order p)) (HasReferences (IsChildAs encoded) (IsChildAs references) (encode_chunked_by order p)) (column_of_primitive p) result

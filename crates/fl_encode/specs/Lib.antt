@@ -1,6 +1,9 @@
 pub mod Packings
-pub mod Encodings
 pub mod Shapes
+pub mod ShapeCodes
+pub mod SameShapes
+pub mod SchemeShapes
+pub mod Encodings
+pub mod TreeShapes
 pub mod Texts
 pub mod Grammar
-pub mod TreeShapes

@@ -1,18 +1,19 @@
 -- How the text of a scheme is read.
 use Rattle.std.specs.Prelude.{◌≡◌, ◌+◌, ◌-◌, ◌*◌, ◌==◌, ◌&&◌, ℕ, Bool, true, false, List, [], ◌∷◌, length, zero, suc, Option, Some, None, Result, Ok, Err, codes, max, nat_le, is_some, if◌then◌else◌}
 use Rattle.std.specs.Option.{option_map_or}
+use Rattle.fl_codec.specs.declared.for_.ItemOrder.{ItemOrder}
+use Rattle.fl_codec.specs.declared.for_.ItemOrder.TheVariants.{Natural, Signed}
 use Rattle.fl_encode.specs.declared.scheme.Packing.{Packing}
 use Rattle.fl_encode.specs.declared.scheme.Packing.TheVariants.{BestWidth, BestWidths, Width}
 use Rattle.fl_encode.specs.declared.scheme.Scheme.{Scheme}
 use Rattle.fl_encode.specs.declared.text.SchemeError.{SchemeError}
 use Rattle.fl_encode.specs.declared.text.SchemeError.TheVariants as errors
-use Rattle.fl_encode.specs.declared.text.reading.Frame.{Frame}
-use Rattle.fl_encode.specs.declared.text.reading.Frame.TheVariants as frames
 use Rattle.fl_encode.specs.declared.text.reading.Head.{Head}
 use Rattle.fl_encode.specs.declared.text.reading.Head.TheVariants as heads
 use Rattle.fl_encode.specs.declared.text.reading.Stop.{Stop}
 use Rattle.fl_encode.specs.declared.text.reading.Stop.TheVariants as stops
-use Rattle.fl_encode.specs.Shapes.{BitPacked, Constant, Delta, FoR, FoRChunked, FoRChunkedWrapped, FoRWrapped, Plain, Primitive, RLE, Shape, max_levels, shape}
+use Rattle.fl_encode.specs.Shapes.{BitPacked, Constant, Delta, FoR, FoRChunked, Plain, Primitive, RLE, Shape, max_levels}
+use Rattle.fl_encode.specs.SchemeShapes.{shape}
 
 -- ---- readers: each returns what it read and the bytes after it, or the number of bytes from the first wrong one on
 -- what is read next, where something was read
@@ -66,17 +67,18 @@ furthest text =
     max (max (max (common (codes "primitive") text) (common (codes "constant") text)) (max (common (codes "bitpacked") text) (common (codes "blocked") text)))
     (max (max (common (codes "forcw") text) (common (codes "forw") text)) (max (common (codes "delta") text) (common (codes "rle") text)))
 
+-- the order of references, from where the word for a frame of reference may end in "w"
+abbrev pub order_in : List ℕ → ItemOrder × List ℕ
+order_in text = option_map_or (λ rest. (Signed, rest)) (tail_behind 119 text) (Natural, text)
+
 -- the word for a frame of reference, from what follows its "for"
-abbrev pub frame_in : List ℕ → Frame × List ℕ
-frame_in text =
-    option_map_or (λ rest. (frames.ChunkedWrapped, rest)) (rest_behind (codes "cw") text) (
-    option_map_or (λ rest. (frames.Chunked, rest)) (rest_behind (codes "c") text) (
-    option_map_or (λ rest. (frames.WholeWrapped, rest)) (rest_behind (codes "w") text) (frames.Whole, text)))
+abbrev pub frame_in : List ℕ → Head × List ℕ
+frame_in text = option_map_or (λ rest. (heads.FoRChunked (order_in rest).0, (order_in rest).1)) (tail_behind 99 text) (heads.FoR (order_in text).0, (order_in text).1)
 
 -- the word for an encoding that has children
 abbrev pub nested_head_in : List ℕ → Result (Head × List ℕ) ℕ
 nested_head_in text =
-    option_map_or (λ rest. Ok (heads.FoR (frame_in rest).0, (frame_in rest).1)) (rest_behind (codes "for") text) (
+    option_map_or (λ rest. Ok (frame_in rest)) (rest_behind (codes "for") text) (
     option_map_or (λ rest. Ok (heads.Delta, rest)) (rest_behind (codes "delta") text) (
     option_map_or (λ rest. Ok (heads.RLE, rest)) (rest_behind (codes "rle") text) (Err (length text - furthest text))))
 
@@ -109,19 +111,13 @@ three_by read text =
     option_map_or (λ inner.
     after (child_by read inner) (λ a. after (expected 44 a.1) (λ more. after (child_by read more) (λ b. after (expected 44 b.1) (λ last. after (child_by read last) (λ c. after (expected 41 c.1) (λ rest. Ok (a.0, b.0, c.0, rest)))))))) (tail_behind 40 text) (Ok (Plain, Plain, Plain, text))
 
--- the scheme of a word for a frame of reference and of the children after it
-abbrev pub frame_by : (List ℕ → Result (Shape × List ℕ) ℕ) → Frame → List ℕ → Result (Shape × List ℕ) ℕ
-frame_by read frames.Whole text = after (one_by read text) (λ a. Ok (FoR a.0, a.1))
-frame_by read frames.WholeWrapped text = after (one_by read text) (λ a. Ok (FoRWrapped a.0, a.1))
-frame_by read frames.Chunked text = after (two_by read text) (λ a. Ok (FoRChunked a.0 a.1, a.2))
-frame_by read frames.ChunkedWrapped text = after (two_by read text) (λ a. Ok (FoRChunkedWrapped a.0 a.1, a.2))
-
 -- the scheme of an encoding's word and of the children after it
 abbrev pub scheme_by : (List ℕ → Result (Shape × List ℕ) ℕ) → Head → List ℕ → Result (Shape × List ℕ) ℕ
 scheme_by read heads.Primitive text = Ok (Primitive, text)
 scheme_by read heads.Constant text = Ok (Constant, text)
 scheme_by read (heads.BitPacked packing) text = Ok (BitPacked packing, text)
-scheme_by read (heads.FoR frame) text = frame_by read frame text
+scheme_by read (heads.FoR order) text = after (one_by read text) (λ a. Ok (FoR order a.0, a.1))
+scheme_by read (heads.FoRChunked order) text = after (two_by read text) (λ a. Ok (FoRChunked order a.0 a.1, a.2))
 scheme_by read heads.Delta text = after (two_by read text) (λ a. Ok (Delta a.0 a.1, a.2))
 scheme_by read heads.RLE text = after (three_by read text) (λ a. Ok (RLE a.0 a.1 a.2, a.3))
 
@@ -181,9 +177,7 @@ has_widths Constant = true
 has_widths (BitPacked BestWidth) = true
 has_widths (BitPacked (Width width)) = nat_le width 255
 has_widths (BitPacked BestWidths) = true
-has_widths (FoR encoded) = has_widths encoded
-has_widths (FoRChunked encoded references) = has_widths encoded && has_widths references
-has_widths (FoRWrapped encoded) = has_widths encoded
-has_widths (FoRChunkedWrapped encoded references) = has_widths encoded && has_widths references
+has_widths (FoR order encoded) = has_widths encoded
+has_widths (FoRChunked order encoded references) = has_widths encoded && has_widths references
 has_widths (Delta bases deltas) = has_widths bases && has_widths deltas
 has_widths (RLE values indices offsets) = has_widths values && (has_widths indices && has_widths offsets)

@@ -6,14 +6,15 @@ ghost use Rattle.fl_types.specs.Types.{is_integer};
 ghost use Rattle.fl_types.specs.declared.error.FastLanesError.TheVariants.{NotInteger};
 ghost use Rattle.fl_array.specs.BitPackedArrays.{tree_of_bitpacked};
 ghost use Rattle.fl_array.specs.Trees.{column};
-ghost use Rattle.fl_encode.specs.declared.scheme.Scheme.{back-Scheme-FoR-0 as child_scheme};
-ghost use Rattle.fl_encode.specs.Shapes.{BitPacked, child_shape, shape};
+ghost use Rattle.fl_encode.specs.SchemeShapes.{shape};
+ghost use Rattle.fl_encode.specs.Shapes.{BitPacked};
 ghost use Rattle.fl_encode.specs.TreeShapes.{part_shape, shape_of};
 
-use crate::scheme::{Packing, Scheme};
+use crate::scheme::{Child, Packing, Scheme};
 use fl_array::bitpacking::{BitPackedArray, BitWidthsView};
 use fl_array::for_::FoRReferences;
 use fl_array::{ArrayRef, Node};
+use fl_codec::for_::ItemOrder;
 use fl_column::{DType, FastLanesError};
 use std::alloc::{AllocError, Global};
 
@@ -27,20 +28,22 @@ fn packing_of(array: &BitPackedArray) -> Packing
     }
 }
 
-/// The scheme of an array in another one, none of a plain one.
+/// The scheme of an array in another one, a plain child of a plain one.
 #[cycle(array_schemes)]
-fn child_of(alloc: Global, array: &ArrayRef) -> Result<Option<Box<Scheme>>, AllocError>
-    ensures { IfOk result (λ scheme. child_shape (child_scheme scheme) ≡ part_shape array.now) }
+fn child_of(alloc: Global, array: &ArrayRef) -> Result<Child, AllocError>
+    ensures { IfOk result (λ child. child ≡ part_shape array.now) }
 {
+    let order = ItemOrder::Natural;
     let scheme = match array.node() {
-        Node::Primitive(_) | Node::Bool(_) => return Ok(None),
+        Node::Primitive(_) | Node::Bool(_) => return Ok(Child::plain()),
         Node::Constant(_) => Scheme::Constant,
         Node::BitPacked(array) => Scheme::BitPacked(packing_of(array)),
         Node::FoR(array) => {
             let encoded = child_of(alloc, array.encoded())?;
             match array.references() {
-                FoRReferences::Global(_) => Scheme::FoR { encoded },
+                FoRReferences::Global(_) => Scheme::FoR { order, encoded },
                 FoRReferences::Blocked(references) => Scheme::FoRChunked {
+                    order,
                     encoded,
                     references: child_of(alloc, references)?,
                 },
@@ -56,7 +59,7 @@ fn child_of(alloc: Global, array: &ArrayRef) -> Result<Option<Box<Scheme>>, Allo
             offsets: child_of(alloc, array.offsets())?,
         },
     };
-    Ok(Some(Box::new(alloc, scheme)?))
+    Child::new(alloc, scheme)
 }
 
 /// The scheme of an array: its encoding and those of the arrays in it, with the width of bit-packed ones. An array that
@@ -71,8 +74,8 @@ pub fn scheme_of(alloc: Global, array: &ArrayRef) -> Result<Scheme, FastLanesErr
     if let DType::Bool(_) = array.dtype() {
         return Err(FastLanesError::NotInteger);
     }
-    match child_of(alloc, array)? {
-        Some(scheme) => Ok(Box::into_inner(scheme)),
+    match child_of(alloc, array)?.into_scheme() {
+        Some(scheme) => Ok(scheme),
         None => Ok(Scheme::Primitive),
     }
 }

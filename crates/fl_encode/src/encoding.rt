@@ -6,14 +6,15 @@ ghost use Rattle.fl_column.specs.Columns.{column_of_primitive};
 ghost use Rattle.fl_column.specs.Queries.{are_constant};
 ghost use Rattle.fl_array.specs.FoRArrays.{ChunkReferences, for_refusal, reference_refusal};
 ghost use Rattle.fl_array.specs.Trees.{FoRChunked, FoRGlobal, Primitive, column};
-ghost use Rattle.fl_encode.specs.Encodings.{EncodesAs, EncodesChildAs, EncodesChunkedForAs, EncodesForAs, HasChunkReferences, HasOneReference, IsChildAs, Makes, child_refusal};
+ghost use Rattle.fl_encode.specs.Encodings.{EncodesAs, HasChunkReferences, HasOneReference, IsEncodedAs, Makes, encode_refusal};
 ghost use Rattle.fl_bitpacking.specs.Refusals.{otherwise};
-ghost use Rattle.fl_encode.specs.declared.scheme.Scheme.{Delta', RLE', back-Scheme-FoR-0 as child_scheme};
+ghost use Rattle.fl_encode.specs.SchemeShapes.{shape};
+ghost use Rattle.fl_encode.specs.Shapes as shapes;
 
 use crate::parts::{
     over_deltas, over_nulls, over_reference, over_references, over_runs, pack, prove_few, repeat,
 };
-use crate::scheme::Scheme;
+use crate::scheme::{Child, Scheme};
 use fl_array::{ArrayRef, IntoArray};
 use fl_codec::for_::{EncodedFoR, GlobalFoR, ItemOrder, encode_by, encode_chunked_by};
 use fl_codec::laws::{
@@ -29,11 +30,11 @@ use std::alloc::Global;
 fn encode_child(
     alloc: Global,
     child: PrimitiveArray,
-    scheme: &Option<Box<Scheme>>,
+    scheme: &Child,
 ) -> Result<ArrayRef, FastLanesError>
-    ensures { EncodesChildAs (child_scheme scheme.now) child result }
+    ensures { EncodesAs scheme.now child result }
 {
-    match scheme {
+    match scheme.scheme() {
         None => Ok(child.into_array()),
         Some(scheme) => encode(alloc, &child, scheme),
     }
@@ -45,10 +46,10 @@ fn encode_over_reference(
     alloc: Global,
     child: PrimitiveArray,
     reference: Scalar,
-    scheme: &Option<Box<Scheme>>,
+    scheme: &Child,
 ) -> Result<ArrayRef, FastLanesError>
     requires { reference_refusal (column_of_primitive child).dtype (scalar_parts reference) ≡ None }
-    ensures { Makes (child_refusal (child_scheme scheme.now) child) (HasOneReference (IsChildAs (child_scheme scheme.now)) (record { child = child; reference = scalar_parts reference })) (column (FoRGlobal (Primitive child) (scalar_parts reference))) result }
+    ensures { Makes (encode_refusal scheme.now child) (HasOneReference (IsEncodedAs scheme.now) (record { child = child; reference = scalar_parts reference })) (column (FoRGlobal (Primitive child) (scalar_parts reference))) result }
 {
     let encoded = encode_child(alloc, child, scheme)?;
     over_reference(alloc, encoded, reference)
@@ -60,12 +61,12 @@ fn encode_over_references(
     alloc: Global,
     child: PrimitiveArray,
     others: PrimitiveArray,
-    encoded: &Option<Box<Scheme>>,
-    references: &Option<Box<Scheme>>,
+    encoded: &Child,
+    references: &Child,
 ) -> Result<ArrayRef, FastLanesError>
     requires sound { for_refusal (column_of_primitive child) (ChunkReferences (Primitive others) 0) ≡ None }
     requires differ { are_constant (column_of_primitive others).items ≡ false }
-    ensures { Makes (otherwise (child_refusal (child_scheme encoded.now) child) (child_refusal (child_scheme references.now) others)) (HasChunkReferences (IsChildAs (child_scheme encoded.now)) (IsChildAs (child_scheme references.now)) child others) (column (FoRChunked (Primitive child) (Primitive others) 0)) result }
+    ensures { Makes (otherwise (encode_refusal encoded.now child) (encode_refusal references.now others)) (HasChunkReferences (IsEncodedAs encoded.now) (IsEncodedAs references.now) child others) (column (FoRChunked (Primitive child) (Primitive others) 0)) result }
 {
     let encoded = encode_child(alloc, child, encoded)?;
     let references = encode_child(alloc, others, references)?;
@@ -81,9 +82,9 @@ fn encode_for(
     alloc: Global,
     array: &PrimitiveArray,
     order: ItemOrder,
-    scheme: &Option<Box<Scheme>>,
+    scheme: &Child,
 ) -> Result<ArrayRef, FastLanesError>
-    ensures { EncodesForAs order (child_scheme scheme.now) array.now result }
+    ensures { EncodesAs (shapes.FoR order scheme.now) array.now result }
 {
     global_for_by_and_back(array, order);
     let GlobalFoR { child, reference } = encode_by(alloc, array, order)?;
@@ -100,10 +101,10 @@ fn encode_chunked_for(
     alloc: Global,
     array: &PrimitiveArray,
     order: ItemOrder,
-    encoded: &Option<Box<Scheme>>,
-    references: &Option<Box<Scheme>>,
+    encoded: &Child,
+    references: &Child,
 ) -> Result<ArrayRef, FastLanesError>
-    ensures { EncodesChunkedForAs order (child_scheme encoded.now) (child_scheme references.now) array.now result }
+    ensures { EncodesAs (shapes.FoRChunked order encoded.now references.now) array.now result }
 {
     chunked_for_by_and_back(array, order);
     prove_few(array);
@@ -127,10 +128,10 @@ fn encode_chunked_for(
 fn encode_delta(
     alloc: Global,
     array: &PrimitiveArray,
-    bases: &Option<Box<Scheme>>,
-    deltas: &Option<Box<Scheme>>,
+    bases: &Child,
+    deltas: &Child,
 ) -> Result<ArrayRef, FastLanesError>
-    ensures { EncodesAs (Delta' (child_scheme bases.now) (child_scheme deltas.now)) array.now result }
+    ensures { EncodesAs (shapes.Delta bases.now deltas.now) array.now result }
 {
     deltas_and_back(array);
     let len = array.len();
@@ -149,11 +150,11 @@ fn encode_delta(
 fn encode_rle(
     alloc: Global,
     array: &PrimitiveArray,
-    values: &Option<Box<Scheme>>,
-    indices: &Option<Box<Scheme>>,
-    offsets: &Option<Box<Scheme>>,
+    values: &Child,
+    indices: &Child,
+    offsets: &Child,
 ) -> Result<ArrayRef, FastLanesError>
-    ensures { EncodesAs (RLE' (child_scheme values.now) (child_scheme indices.now) (child_scheme offsets.now)) array.now result }
+    ensures { EncodesAs (shapes.RLE values.now indices.now offsets.now) array.now result }
 {
     runs_and_back(array);
     let (len, _validity) = (array.len(), array.validity());
@@ -180,32 +181,28 @@ fn encode_rle(
 /// The first that applies, from the outer encoding to its children in the order of their slots:
 /// - `Constant`: `CastOutOfRange` if two items differ.
 /// - `BitPacked`: the first of `NegativeValue`, `WidthTooLarge` and `AllBlocksNative` that applies.
-/// - `FoR` and `FoRWrapped`: `NoMinimum` if all items are null.
+/// - `FoR`: `NoMinimum` if all items are null.
 ///
-/// `FoRChunked` and `FoRChunkedWrapped` make one reference if all are equal, and a constant child if all items are null.
-/// The schemes of children that the array then does not have are not used.
+/// `FoRChunked` makes one reference if all are equal, and a constant child if all items are null. The schemes of children
+/// that the array then does not have are not used.
 #[cycle(encode)]
 pub fn encode(
     alloc: Global,
     array: &PrimitiveArray,
     scheme: &Scheme,
 ) -> Result<ArrayRef, FastLanesError>
-    ensures { EncodesAs scheme.now array.now result }
+    ensures { EncodesAs (shape scheme.now) array.now result }
 {
     match scheme {
         Scheme::Primitive => Ok(array.try_clone(alloc)?.into_array()),
         Scheme::Constant => repeat(array),
         Scheme::BitPacked(packing) => pack(alloc, array, *packing),
-        Scheme::FoR { encoded } => encode_for(alloc, array, ItemOrder::Natural, encoded),
+        Scheme::FoR { order, encoded } => encode_for(alloc, array, *order, encoded),
         Scheme::FoRChunked {
+            order,
             encoded,
             references,
-        } => encode_chunked_for(alloc, array, ItemOrder::Natural, encoded, references),
-        Scheme::FoRWrapped { encoded } => encode_for(alloc, array, ItemOrder::Signed, encoded),
-        Scheme::FoRChunkedWrapped {
-            encoded,
-            references,
-        } => encode_chunked_for(alloc, array, ItemOrder::Signed, encoded, references),
+        } => encode_chunked_for(alloc, array, *order, encoded, references),
         Scheme::Delta { bases, deltas } => encode_delta(alloc, array, bases, deltas),
         Scheme::RLE {
             values,

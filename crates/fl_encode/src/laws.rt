@@ -1,25 +1,24 @@
 //! What holds of every scheme.
 
 ghost use Rattle.std.specs.Prelude.{◌≡◌, ◌<◌, ◌≤◌, ℕ, List, Ok, Err, true};
-ghost use Rattle.fl_encode.specs.declared.scheme.Scheme.{back-Scheme-FoR-0 as child_scheme};
 ghost use Rattle.fl_encode.specs.Grammar.{IsFirstWrong, IsSchemeText};
-ghost use Rattle.fl_encode.specs.Shapes.{Shape, child_shape, levels, max_levels, scheme_text, shape};
+ghost use Rattle.fl_encode.specs.Shapes.{Shape, levels, max_levels, scheme_text};
+ghost use Rattle.fl_encode.specs.SchemeShapes.{shape};
 ghost use Rattle.fl_encode.specs.Shapes as shapes;
 ghost use Rattle.fl_encode.specs.Texts.{has_widths, scheme_of_text};
 ghost use Rattle.fl_encode.specs.TreeShapes.{Shows, part_shape};
-ghost use Rattle.fl_encode.specs.declared.scheme.Scheme.{Scheme};
 ghost use Rattle.fl_encode.specs.Encodings.{IsEncodedAs};
 ghost use Rattle.fl_array.specs.Trees.{Tree};
 ghost use Rattle.fl_column.specs.Columns.{PrimitiveParts};
 
-use crate::scheme::{Packing, Scheme};
+use crate::scheme::{Child, Packing, Scheme};
 
 /// Each width of a child's scheme is at most 255.
 #[cycle(widths)]
-fn prove_child_widths(child: &Option<Box<Scheme>>)
-    ensures { has_widths (child_shape (child_scheme child.now)) ≡ true }
+fn prove_child_widths(child: &Child)
+    ensures { has_widths child.now ≡ true }
 {
-    match child {
+    match child.scheme() {
         None => (),
         Some(scheme) => prove_widths(scheme),
     }
@@ -33,12 +32,9 @@ fn prove_widths(scheme: &Scheme)
     match scheme {
         Scheme::Primitive | Scheme::Constant => (),
         Scheme::BitPacked(packing) => prove_width(*packing),
-        Scheme::FoR { encoded } | Scheme::FoRWrapped { encoded } => prove_child_widths(encoded),
+        Scheme::FoR { order: _, encoded } => prove_child_widths(encoded),
         Scheme::FoRChunked {
-            encoded,
-            references,
-        }
-        | Scheme::FoRChunkedWrapped {
+            order: _,
             encoded,
             references,
         } => {
@@ -98,5 +94,5 @@ pub fn wrong_byte_is_the_first()
 /// best width stands that width; one reference stands for those of chunks if they are equal, and a constant for the
 /// differences of nothing but nulls.
 pub fn encoded_shows_scheme()
-    ensures { (scheme : Scheme) (p : PrimitiveParts) (t : Tree) → IsEncodedAs scheme p t → Shows (shape scheme) p (part_shape t) }
+    ensures { (scheme : Shape) (p : PrimitiveParts) (t : Tree) → IsEncodedAs scheme p t → Shows scheme p (part_shape t) }
 {}

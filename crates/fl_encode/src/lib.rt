@@ -10,4 +10,4 @@ pub mod text;
 
 pub use crate::array_schemes::scheme_of;
 pub use crate::encoding::encode;
-pub use crate::scheme::{Packing, Scheme};
+pub use crate::scheme::{Child, Packing, Scheme};

@@ -8,7 +8,8 @@ mod reading;
 ghost use Rattle.std.specs.Prelude.{◌≡◌, ◌++◌, Err, IfOk, true};
 ghost use Rattle.fl_encode.specs.declared.text.SchemeError.TheVariants.{OutOfMemory};
 ghost use Rattle.fl_encode.specs.Grammar.{FollowsGrammar};
-ghost use Rattle.fl_encode.specs.Shapes.{scheme_text, shape};
+ghost use Rattle.fl_encode.specs.SchemeShapes.{shape};
+ghost use Rattle.fl_encode.specs.Shapes.{scheme_text};
 ghost use Rattle.fl_encode.specs.Texts.{IsParsed, says_children, scheme_of_text};
 
 use crate::scheme::Scheme;

@@ -8,23 +8,24 @@ use Rattle.fl_codec.specs.Parts.{non_nullable, null_constant, reference_scalar}
 use Rattle.fl_array.specs.Trees.{Constant, FoRGlobal, Primitive}
 use Rattle.flcol_engine.specs.declared.commands.Encoding.TheVariants.{BitPacked, ChunkedFoR, FoR}
 use Rattle.fl_encode.specs.declared.scheme.Packing.TheVariants.{Width}
-use Rattle.flcol_engine.specs.Encodings.{EncodesAs, encoding_refusal}
+use Rattle.fl_encode.specs.Encodings.{encode_refusal}
+use Rattle.flcol_engine.specs.Encodings.{EncodesAs, scheme_of}
 
 -- ---- refusals
 -- `bitpacked:9` of a negative `i8`: a negative item is judged before the width
-negative_first : encoding_refusal (BitPacked (Width 9)) (non_nullable I8 (negsuc 0 ∷ [])) ≡ Some NegativeValue
+negative_first : encode_refusal (scheme_of (BitPacked (Width 9))) (non_nullable I8 (negsuc 0 ∷ [])) ≡ Some NegativeValue
 negative_first = refl
 
 -- `for+bitpacked:255` of no items: the outer encoding's refusal is the answer
-outer_first : encoding_refusal (FoR (Some (Width 255))) (non_nullable U32 []) ≡ Some NoMinimum
+outer_first : encode_refusal (scheme_of (FoR (Some (Width 255)))) (non_nullable U32 []) ≡ Some NoMinimum
 outer_first = refl
 
 -- `for+bitpacked:255` of an item: the packing's
-inner_next : encoding_refusal (FoR (Some (Width 255))) (non_nullable U32 (pos 7 ∷ [])) ≡ Some WidthTooLarge
+inner_next : encode_refusal (scheme_of (FoR (Some (Width 255)))) (non_nullable U32 (pos 7 ∷ [])) ≡ Some WidthTooLarge
 inner_next = refl
 
 -- `for+bitpacked:3` of -128 and 127: their difference of 255 is stored as -1
-wide_range : encoding_refusal (FoR (Some (Width 3))) (non_nullable I8 (negsuc 127 ∷ pos 127 ∷ [])) ≡ Some NegativeValue
+wide_range : encode_refusal (scheme_of (FoR (Some (Width 3)))) (non_nullable I8 (negsuc 127 ∷ pos 127 ∷ [])) ≡ Some NegativeValue
 wide_range = refl
 
 -- ---- arrays

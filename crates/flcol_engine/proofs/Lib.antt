@@ -11,7 +11,6 @@ pub mod LengthLemmas
 pub mod DigitLemmas
 pub mod OperationLemmas
 pub mod ConstantLemmas
-pub mod EncodingLemmas
 mod EncodingExamples
 pub mod RoomLemmas
 pub mod RunLemmas

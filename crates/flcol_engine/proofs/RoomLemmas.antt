@@ -17,7 +17,8 @@ use Rattle.fl_patches.specs.PatchMaps.{PatchesParts}
 use Rattle.fl_bitpacking.specs.Blocks.{boundary_array}
 use Rattle.fl_bitpacking.specs.Columns.{BitPackedParts}
 use Rattle.fl_bitpacking.specs.Encoders.{best_width_of, best_widths_of}
-use Rattle.fl_codec.specs.Parts.{ByChunk, FoRParts, Nulls, OneReference, Whole, compress_deltas, encode_chunked, encode_global, encode_runs}
+use Rattle.fl_codec.specs.Parts.{ByChunk, FoRParts, Nulls, OneReference, Whole, compress_deltas, encode_chunked_by, encode_global_by, encode_runs}
+use Rattle.fl_codec.specs.declared.for_.ItemOrder.TheVariants.{Natural}
 use Rattle.fl_metadata.specs.Messages.{delta_slots, for_chunked_slots, patches_slots, patches_text, rle_slots}
 use Rattle.fl_metadata.specs.Scalars.{scalar_slots}
 use Rattle.fl_metadata.specs.declared.rle.RLEMetadata.{RLEMetadata}
@@ -41,7 +42,9 @@ use Rattle.flcol_engine.specs.declared.fault.Fault.{Fault}
 use Rattle.flcol_engine.specs.Faults.{of_container, out_of_memory}
 use Rattle.flcol_engine.specs.Outputs.{IsStored}
 use Rattle.fl_encode.specs.Packings.{IsPackedAs}
-use Rattle.flcol_engine.specs.Encodings.{HasOneReference, HasReference, HasReferences, IsChild, IsEncodedAs}
+use Rattle.fl_encode.specs.Encodings.{HasOneReference, HasReference, HasReferences, IsEncodedAs}
+use Rattle.fl_encode.specs.Shapes.{Plain}
+use Rattle.flcol_engine.specs.Encodings.{child_of, scheme_of}
 
 -- ---- metadata are short
 groups_short : (k n : ℕ) → length (groups_text k n) ≤ k
@@ -257,26 +260,28 @@ packed_shallow (Width width) p t (parts, is, e) = rw e (omega (arith, global_sha
 packed_shallow BestWidth p t (parts, is, e) = rw e (omega (arith, global_shallow parts (best_width_of p)))
 packed_shallow BestWidths p t (parts, is, e) = rw e (blocked_shallow parts (boundary_array (best_widths_of p)))
 
-child_shallow : (packing : Option Packing) (p : PrimitiveParts) (t : Tree) → IsChild packing p t → depth (written t) ≤ 3
+child_shallow : (packing : Option Packing) (p : PrimitiveParts) (t : Tree) → IsEncodedAs (child_of packing) p t → depth (written t) ≤ 3
 child_shallow None p t e = rw e (omega (arith, primitive_shallow p))
 child_shallow (Some packing) p t is = packed_shallow packing p t is
 
-one_reference_shallow : (packing : Option Packing) (parts : OneReference) (t : Tree) → HasOneReference packing parts t → depth (written t) ≤ 4
+one_reference_shallow : (packing : Option Packing) (parts : OneReference) (t : Tree) → HasOneReference (IsEncodedAs (child_of packing)) parts t → depth (written t) ≤ 4
 one_reference_shallow packing parts t (child, is, e) = rw e (omega (arith, child_shallow packing parts.child child is))
 
-reference_shallow : (packing : Option Packing) (r : Result OneReference FastLanesError) (t : Tree) → HasReference packing r t → depth (written t) ≤ 4
+reference_shallow : (packing : Option Packing) (r : Result OneReference FastLanesError) (t : Tree) → HasReference (IsEncodedAs (child_of packing)) r t → depth (written t) ≤ 4
 reference_shallow packing (Ok parts) t is = one_reference_shallow packing parts t is
 reference_shallow packing (Err refusal) t is = absurd is
 
-references_shallow : (packing : Option Packing) (parts : FoRParts) (t : Tree) → HasReferences packing parts t → depth (written t) ≤ 4
+references_shallow : (packing : Option Packing) (parts : FoRParts) (t : Tree) → HasReferences (IsEncodedAs (child_of packing)) (IsEncodedAs Plain) parts t → depth (written t) ≤ 4
 references_shallow packing (Whole parts) t is = one_reference_shallow packing parts t is
-references_shallow packing (ByChunk plain references) t (child, is, e) = rw e (omega (arith, child_shallow packing plain child is, primitive_shallow references))
+references_shallow packing (ByChunk plain references) t (child, others, is, same, e) = rw (e, same) (omega (arith, child_shallow packing plain child is, primitive_shallow references))
 references_shallow packing (Nulls child reference) t e = rw e (omega arith)
 
-pub encoded_shallow : (encoding : Encoding) (p : PrimitiveParts) (t : Tree) → IsEncodedAs encoding p t → depth (written t) ≤ 4
+pub encoded_shallow : (encoding : Encoding) (p : PrimitiveParts) (t : Tree) → IsEncodedAs (scheme_of encoding) p t → depth (written t) ≤ 4
 encoded_shallow encodings.Primitive p t e = rw e (omega (arith, primitive_shallow p))
 encoded_shallow (encodings.BitPacked packing) p t is = omega (arith, packed_shallow packing p t is)
-encoded_shallow (encodings.FoR packing) p t is = reference_shallow packing (encode_global p) t is
-encoded_shallow (encodings.ChunkedFoR packing) p t is = references_shallow packing (encode_chunked p) t is
-encoded_shallow (encodings.Delta packing) p t (deltas, is, e) = rw e (omega (arith, child_shallow packing (compress_deltas p).1 deltas is, primitive_shallow (compress_deltas p).0, validity_deep (length p.slots) p.validity))
-encoded_shallow (encodings.RLE packing) p t (indices, is, e) = rw e (omega (arith, child_shallow packing (encode_runs p).indices indices is, primitive_shallow (encode_runs p).values, primitive_shallow (encode_runs p).offsets))
+encoded_shallow (encodings.FoR packing) p t is = reference_shallow packing (encode_global_by Natural p) t is
+encoded_shallow (encodings.ChunkedFoR packing) p t is = references_shallow packing (encode_chunked_by Natural p) t is
+encoded_shallow (encodings.Delta packing) p t (bases, deltas, same, is, e) =
+    rw (e, same) (omega (arith, child_shallow packing (compress_deltas p).1 deltas is, primitive_shallow (compress_deltas p).0, validity_deep (length p.slots) p.validity))
+encoded_shallow (encodings.RLE packing) p t (values, indices, offsets, first, is, last, e) =
+    rw (e, first, last) (omega (arith, child_shallow packing (encode_runs p).indices indices is, primitive_shallow (encode_runs p).values, primitive_shallow (encode_runs p).offsets))

@@ -2,52 +2,52 @@
 
 ghost use Rattle.std.specs.Prelude.{◌≡◌, IfErr, IfOk};
 ghost use Rattle.fl_types.specs.declared.error.FastLanesError.TheVariants.{OutOfMemory};
-ghost use Rattle.fl_encode.specs.declared.scheme.Scheme.{back-Scheme-FoR-0 as child_scheme};
-ghost use Rattle.flcol_engine.specs.Encodings.{EncodesAs, IsSchemeOf, PacksAs};
+ghost use Rattle.fl_encode.specs.SchemeShapes.{shape};
+ghost use Rattle.flcol_engine.specs.Encodings.{EncodesAs, child_of, scheme_of};
 
 use crate::commands::{Encoding, Packing};
 use fl_array::{ArrayRef, IntoArray};
+use fl_codec::for_::ItemOrder;
 use fl_column::{FastLanesError, PrimitiveArray};
-use fl_encode::Scheme;
+use fl_encode::{Child, Scheme};
 use std::alloc::Global;
 
-/// The scheme of a child, which is packed where that is asked for.
-fn child_of(alloc: Global, packing: Option<Packing>) -> Result<Option<Box<Scheme>>, FastLanesError>
-    ensures scheme { IfOk result (λ scheme. PacksAs packing (child_scheme scheme)) }
+/// A child, which is packed where that is asked for, and else plain.
+fn child_of(alloc: Global, packing: Option<Packing>) -> Result<Child, FastLanesError>
+    ensures child { IfOk result (λ child. child ≡ child_of packing) }
     ensures memory { IfErr result (λ e. e ≡ OutOfMemory) }
 {
     match packing {
-        None => Ok(None),
-        Some(packing) => {
-            let scheme = Box::new(alloc, Scheme::BitPacked(packing))?;
-            Ok(Some(scheme))
-        }
+        None => Ok(Child::plain()),
+        Some(packing) => Ok(Child::new(alloc, Scheme::BitPacked(packing))?),
     }
 }
 
 /// The scheme of an encoding.
 fn scheme_of(alloc: Global, encoding: Encoding) -> Result<Scheme, FastLanesError>
-    ensures scheme { IfOk result (IsSchemeOf encoding) }
+    ensures scheme { IfOk result (λ scheme. shape scheme ≡ scheme_of encoding) }
     ensures memory { IfErr result (λ e. e ≡ OutOfMemory) }
 {
     match encoding {
         Encoding::Primitive => Ok(Scheme::Primitive),
         Encoding::BitPacked(packing) => Ok(Scheme::BitPacked(packing)),
         Encoding::FoR(packing) => Ok(Scheme::FoR {
+            order: ItemOrder::Natural,
             encoded: child_of(alloc, packing)?,
         }),
         Encoding::ChunkedFoR(packing) => Ok(Scheme::FoRChunked {
+            order: ItemOrder::Natural,
             encoded: child_of(alloc, packing)?,
-            references: None,
+            references: Child::plain(),
         }),
         Encoding::Delta(packing) => Ok(Scheme::Delta {
-            bases: None,
+            bases: Child::plain(),
             deltas: child_of(alloc, packing)?,
         }),
         Encoding::RLE(packing) => Ok(Scheme::RLE {
-            values: None,
+            values: Child::plain(),
             indices: child_of(alloc, packing)?,
-            offsets: None,
+            offsets: Child::plain(),
         }),
     }
 }

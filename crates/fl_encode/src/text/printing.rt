@@ -1,14 +1,12 @@
 //! Printing a scheme.
 
 ghost use Rattle.std.specs.Prelude.{◌≡◌, ◌++◌, ◌&&◌, IfOk, codes};
-ghost use Rattle.fl_encode.specs.declared.scheme.Scheme.{back-Scheme-FoR-0 as child_scheme};
-ghost use Rattle.fl_encode.specs.Shapes.{child_shape, in_parentheses, is_plain, packing_text, scheme_text, shape, width_text};
+ghost use Rattle.fl_encode.specs.SchemeShapes.{shape};
+ghost use Rattle.fl_encode.specs.Shapes.{in_parentheses, is_plain, order_text, packing_text, scheme_text, width_text};
 
-use crate::scheme::{Packing, Scheme};
+use crate::scheme::{Child, Packing, Scheme};
+use fl_codec::for_::ItemOrder;
 use std::alloc::AllocError;
-
-/// A child's scheme, if it has one.
-type Child = Option<Box<Scheme>>;
 
 /// Appends the digits of a width.
 fn push_width(text: &mut Vec<u8>, width: u8) -> Result<(), AllocError>
@@ -38,33 +36,22 @@ fn push_packing(text: &mut Vec<u8>, packing: Packing) -> Result<(), AllocError>
     }
 }
 
-/// Whether a child has no scheme.
-fn is_plain(child: &Child) -> bool
-    ensures { result ≡ is_plain (child_shape (child_scheme child.now)) }
+/// Appends what the word for a frame of reference ends in.
+fn push_order(text: &mut Vec<u8>, order: ItemOrder) -> Result<(), AllocError>
+    ensures { IfOk result (λ _. text.new.items ≡ text.old.items ++ order_text order) }
 {
-    child.is_none()
-}
-
-/// Whether neither of two children has a scheme.
-fn are_both_plain(first: &Child, second: &Child) -> bool
-    ensures { result ≡ is_plain (child_shape (child_scheme first.now)) && is_plain (child_shape (child_scheme second.now)) }
-{
-    is_plain(first) && is_plain(second)
-}
-
-/// Whether none of three children has a scheme.
-fn are_all_plain(first: &Child, second: &Child, third: &Child) -> bool
-    ensures { result ≡ is_plain (child_shape (child_scheme first.now)) && (is_plain (child_shape (child_scheme second.now)) && is_plain (child_shape (child_scheme third.now))) }
-{
-    is_plain(first) && are_both_plain(second, third)
+    match order {
+        ItemOrder::Natural => Ok(()),
+        ItemOrder::Signed => text.extend_from_slice(b"w"),
+    }
 }
 
 /// Appends the text of a child.
 #[cycle(push)]
 fn push_child(text: &mut Vec<u8>, child: &Child) -> Result<(), AllocError>
-    ensures { IfOk result (λ _. text.new.items ≡ text.old.items ++ scheme_text (child_shape (child_scheme child.now))) }
+    ensures { IfOk result (λ _. text.new.items ≡ text.old.items ++ scheme_text child.now) }
 {
-    match child {
+    match child.scheme() {
         None => text.extend_from_slice(b"_"),
         Some(scheme) => push_scheme(text, scheme),
     }
@@ -73,9 +60,9 @@ fn push_child(text: &mut Vec<u8>, child: &Child) -> Result<(), AllocError>
 /// Appends the one child in parentheses, unless it is plain.
 #[cycle(push)]
 fn push_one(text: &mut Vec<u8>, child: &Child) -> Result<(), AllocError>
-    ensures { IfOk result (λ _. text.new.items ≡ text.old.items ++ in_parentheses (is_plain (child_shape (child_scheme child.now))) (scheme_text (child_shape (child_scheme child.now)))) }
+    ensures { IfOk result (λ _. text.new.items ≡ text.old.items ++ in_parentheses (is_plain child.now) (scheme_text child.now)) }
 {
-    if is_plain(child) {
+    if child.is_plain() {
         return Ok(());
     }
     text.push(b'(')?;
@@ -87,9 +74,9 @@ fn push_one(text: &mut Vec<u8>, child: &Child) -> Result<(), AllocError>
 /// Appends the two children in parentheses, unless both are plain.
 #[cycle(push)]
 fn push_two(text: &mut Vec<u8>, first: &Child, second: &Child) -> Result<(), AllocError>
-    ensures { IfOk result (λ _. text.new.items ≡ text.old.items ++ in_parentheses (is_plain (child_shape (child_scheme first.now)) && is_plain (child_shape (child_scheme second.now))) (scheme_text (child_shape (child_scheme first.now)) ++ (codes "," ++ scheme_text (child_shape (child_scheme second.now))))) }
+    ensures { IfOk result (λ _. text.new.items ≡ text.old.items ++ in_parentheses (is_plain first.now && is_plain second.now) (scheme_text first.now ++ (codes "," ++ scheme_text second.now))) }
 {
-    if are_both_plain(first, second) {
+    if first.is_plain() && second.is_plain() {
         return Ok(());
     }
     text.push(b'(')?;
@@ -108,9 +95,9 @@ fn push_three(
     second: &Child,
     third: &Child,
 ) -> Result<(), AllocError>
-    ensures { IfOk result (λ _. text.new.items ≡ text.old.items ++ in_parentheses (is_plain (child_shape (child_scheme first.now)) && (is_plain (child_shape (child_scheme second.now)) && is_plain (child_shape (child_scheme third.now)))) (scheme_text (child_shape (child_scheme first.now)) ++ (codes "," ++ (scheme_text (child_shape (child_scheme second.now)) ++ (codes "," ++ scheme_text (child_shape (child_scheme third.now))))))) }
+    ensures { IfOk result (λ _. text.new.items ≡ text.old.items ++ in_parentheses (is_plain first.now && (is_plain second.now && is_plain third.now)) (scheme_text first.now ++ (codes "," ++ (scheme_text second.now ++ (codes "," ++ scheme_text third.now))))) }
 {
-    if are_all_plain(first, second, third) {
+    if first.is_plain() && second.is_plain() && third.is_plain() {
         return Ok(());
     }
     text.push(b'(')?;
@@ -132,26 +119,18 @@ pub(crate) fn push_scheme(text: &mut Vec<u8>, scheme: &Scheme) -> Result<(), All
         Scheme::Primitive => text.extend_from_slice(b"primitive"),
         Scheme::Constant => text.extend_from_slice(b"constant"),
         Scheme::BitPacked(packing) => push_packing(text, *packing),
-        Scheme::FoR { encoded } => {
+        Scheme::FoR { order, encoded } => {
             text.extend_from_slice(b"for")?;
+            push_order(text, *order)?;
             push_one(text, encoded)
         }
         Scheme::FoRChunked {
+            order,
             encoded,
             references,
         } => {
             text.extend_from_slice(b"forc")?;
-            push_two(text, encoded, references)
-        }
-        Scheme::FoRWrapped { encoded } => {
-            text.extend_from_slice(b"forw")?;
-            push_one(text, encoded)
-        }
-        Scheme::FoRChunkedWrapped {
-            encoded,
-            references,
-        } => {
-            text.extend_from_slice(b"forcw")?;
+            push_order(text, *order)?;
             push_two(text, encoded, references)
         }
         Scheme::Delta { bases, deltas } => {

@@ -2,14 +2,15 @@
 
 ghost use Rattle.std.specs.Prelude.{◌≡◌, ◌+◌, ◌≤◌, IfOk, Ok, false, is_some, length, codes};
 ghost use Rattle.std.specs.Option.{option_copied};
-ghost use Rattle.fl_encode.specs.declared.scheme.Scheme.{back-Scheme-FoR-0 as child_scheme};
 ghost use Rattle.fl_encode.specs.declared.text.reading.Stop.TheVariants.{OutOfMemory};
-ghost use Rattle.fl_encode.specs.Shapes.{child_shape, max_levels, shape};
-ghost use Rattle.fl_encode.specs.Texts.{Finds, RunsOutIf, after, child_by, common, digits_behind, expected, frame_by, frame_in, furthest, head_in, nested_head_in, one_by, packing_behind, rest_behind, says_children, scheme_by, scheme_in, tail_behind, three_by, two_by, whole, width_in};
+ghost use Rattle.fl_encode.specs.SchemeShapes.{shape};
+ghost use Rattle.fl_encode.specs.Shapes.{max_levels};
+ghost use Rattle.fl_encode.specs.Texts.{Finds, RunsOutIf, after, child_by, common, digits_behind, expected, frame_in, furthest, head_in, nested_head_in, one_by, order_in, packing_behind, rest_behind, says_children, scheme_by, scheme_in, tail_behind, three_by, two_by, whole, width_in};
 
-use crate::scheme::{Packing, Scheme};
+use crate::scheme::{Child, Packing, Scheme};
 use crate::text::MAX_LEVELS;
-use std::alloc::{AllocFailed, Global};
+use fl_codec::for_::ItemOrder;
+use std::alloc::{AllocError, Global};
 
 /// Where reading stopped.
 #[derive(Clone, Copy, Debug, PartialEq, Eq)]
@@ -20,10 +21,10 @@ pub(crate) enum Stop {
     Left(usize),
 }
 
-impl<T: Drop> From<AllocFailed<T>> for Stop {
+impl From<AllocError> for Stop {
     ghost from_gives = { λ _ e. e ≡ OutOfMemory };
 
-    fn from(_e: AllocFailed<T>) -> Stop {
+    fn from(_e: AllocError) -> Stop {
         Stop::OutOfMemory
     }
 }
@@ -37,29 +38,15 @@ pub(crate) enum Head {
     Constant,
     /// `bitpacked`, with a width or none, or `blocked`.
     BitPacked(Packing),
-    /// `for`, `forc`, `forw` or `forcw`.
-    FoR(Frame),
+    /// `for` or `forw`.
+    FoR(ItemOrder),
+    /// `forc` or `forcw`.
+    FoRChunked(ItemOrder),
     /// `delta`.
     Delta,
     /// `rle`.
     RLE,
 }
-
-/// The word for a frame of reference.
-#[derive(Clone, Copy, Debug, PartialEq, Eq)]
-pub(crate) enum Frame {
-    /// `for`.
-    Whole,
-    /// `forw`.
-    WholeWrapped,
-    /// `forc`.
-    Chunked,
-    /// `forcw`.
-    ChunkedWrapped,
-}
-
-/// A child's scheme, if it has one.
-type Child = Option<Box<Scheme>>;
 
 /// What follows a byte, if the text begins with it.
 fn tail_behind(byte: u8, text: &[u8]) -> Option<&[u8]>
@@ -163,20 +150,31 @@ fn furthest(text: &[u8]) -> usize
     plain.max(packed).max(frames.max(nested))
 }
 
+/// The order of references, from where the word for a frame of reference may end in `w`, and what follows it.
+fn read_order(text: &[u8]) -> (ItemOrder, &[u8])
+    ensures order { result.0 ≡ (order_in text.now).0 }
+    ensures rest { result.1.now ≡ (order_in text.now).1 }
+{
+    match tail_behind(b'w', text) {
+        Some(rest) => (ItemOrder::Signed, rest),
+        None => (ItemOrder::Natural, text),
+    }
+}
+
 /// The word for a frame of reference, from the bytes after its `for`, and what follows it.
-fn read_frame_word(text: &[u8]) -> (Frame, &[u8])
+fn read_frame(text: &[u8]) -> (Head, &[u8])
     ensures frame { result.0 ≡ (frame_in text.now).0 }
     ensures rest { result.1.now ≡ (frame_in text.now).1 }
 {
-    if let Some(rest) = rest_behind(b"cw", text) {
-        return (Frame::ChunkedWrapped, rest);
-    }
-    if let Some(rest) = rest_behind(b"c", text) {
-        return (Frame::Chunked, rest);
-    }
-    match rest_behind(b"w", text) {
-        Some(rest) => (Frame::WholeWrapped, rest),
-        None => (Frame::Whole, text),
+    match tail_behind(b'c', text) {
+        Some(rest) => {
+            let (order, rest) = read_order(rest);
+            (Head::FoRChunked(order), rest)
+        }
+        None => {
+            let (order, rest) = read_order(text);
+            (Head::FoR(order), rest)
+        }
     }
 }
 
@@ -186,8 +184,7 @@ fn read_nested_head(text: &[u8]) -> Result<(Head, &[u8]), Stop>
     ensures memory { RunsOutIf false result }
 {
     if let Some(rest) = rest_behind(b"for", text) {
-        let (frame, rest) = read_frame_word(rest);
-        return Ok((Head::FoR(frame), rest));
+        return Ok(read_frame(rest));
     }
     if let Some(rest) = rest_behind(b"delta", text) {
         return Ok((Head::Delta, rest));
@@ -222,24 +219,24 @@ fn read_head(text: &[u8]) -> Result<(Head, &[u8]), Stop>
 /// A child: an underscore, or a scheme.
 #[cycle(read)]
 fn read_child(alloc: Global, depth: usize, text: &[u8]) -> Result<(Child, &[u8]), Stop>
-    ensures { Finds (λ c. (child_shape (child_scheme c.0), c.1.now)) result (child_by (scheme_in depth) text.now) }
+    ensures { Finds (λ c. (c.0, c.1.now)) result (child_by (scheme_in depth) text.now) }
 {
     if let Some(rest) = tail_behind(b'_', text) {
-        return Ok((None, rest));
+        return Ok((Child::plain(), rest));
     }
     let (scheme, rest) = read_scheme(alloc, depth, text)?;
-    let scheme = Box::new(alloc, scheme)?;
-    Ok((Some(scheme), rest))
+    let child = Child::new(alloc, scheme)?;
+    Ok((child, rest))
 }
 
 /// The one child in parentheses, or none.
 #[cycle(read)]
 fn read_one(alloc: Global, depth: usize, text: &[u8]) -> Result<(Child, &[u8]), Stop>
-    ensures found { Finds (λ c. (child_shape (child_scheme c.0), c.1.now)) result (one_by (scheme_in depth) text.now) }
+    ensures found { Finds (λ c. (c.0, c.1.now)) result (one_by (scheme_in depth) text.now) }
     ensures memory { RunsOutIf (is_some (tail_behind 40 text.now)) result }
 {
     let Some(inner) = tail_behind(b'(', text) else {
-        return Ok((None, text));
+        return Ok((Child::plain(), text));
     };
     let (child, rest) = read_child(alloc, depth, inner)?;
     let rest = expected(b')', rest)?;
@@ -249,11 +246,11 @@ fn read_one(alloc: Global, depth: usize, text: &[u8]) -> Result<(Child, &[u8]), 
 /// The two children in parentheses, or none.
 #[cycle(read)]
 fn read_two(alloc: Global, depth: usize, text: &[u8]) -> Result<(Child, Child, &[u8]), Stop>
-    ensures found { Finds (λ c. (child_shape (child_scheme c.0), child_shape (child_scheme c.1), c.2.now)) result (two_by (scheme_in depth) text.now) }
+    ensures found { Finds (λ c. (c.0, c.1, c.2.now)) result (two_by (scheme_in depth) text.now) }
     ensures memory { RunsOutIf (is_some (tail_behind 40 text.now)) result }
 {
     let Some(inner) = tail_behind(b'(', text) else {
-        return Ok((None, None, text));
+        return Ok((Child::plain(), Child::plain(), text));
     };
     let (first, rest) = read_child(alloc, depth, inner)?;
     let rest = expected(b',', rest)?;
@@ -269,11 +266,11 @@ fn read_three(
     depth: usize,
     text: &[u8],
 ) -> Result<(Child, Child, Child, &[u8]), Stop>
-    ensures found { Finds (λ c. (child_shape (child_scheme c.0), child_shape (child_scheme c.1), child_shape (child_scheme c.2), c.3.now)) result (three_by (scheme_in depth) text.now) }
+    ensures found { Finds (λ c. (c.0, c.1, c.2, c.3.now)) result (three_by (scheme_in depth) text.now) }
     ensures memory { RunsOutIf (is_some (tail_behind 40 text.now)) result }
 {
     let Some(inner) = tail_behind(b'(', text) else {
-        return Ok((None, None, None, text));
+        return Ok((Child::plain(), Child::plain(), Child::plain(), text));
     };
     let (first, rest) = read_child(alloc, depth, inner)?;
     let rest = expected(b',', rest)?;
@@ -282,45 +279,6 @@ fn read_three(
     let (third, rest) = read_child(alloc, depth, rest)?;
     let rest = expected(b')', rest)?;
     Ok((first, second, third, rest))
-}
-
-/// The scheme of a word for a frame of reference and of the children after it.
-#[cycle(read)]
-fn read_frame(
-    alloc: Global,
-    depth: usize,
-    frame: Frame,
-    text: &[u8],
-) -> Result<(Scheme, &[u8]), Stop>
-    ensures found { Finds (λ s. (shape s.0, s.1.now)) result (frame_by (scheme_in depth) frame text.now) }
-    ensures memory { RunsOutIf (is_some (tail_behind 40 text.now)) result }
-{
-    match frame {
-        Frame::Whole => {
-            let (encoded, rest) = read_one(alloc, depth, text)?;
-            Ok((Scheme::FoR { encoded }, rest))
-        }
-        Frame::WholeWrapped => {
-            let (encoded, rest) = read_one(alloc, depth, text)?;
-            Ok((Scheme::FoRWrapped { encoded }, rest))
-        }
-        Frame::Chunked => {
-            let (encoded, references, rest) = read_two(alloc, depth, text)?;
-            let scheme = Scheme::FoRChunked {
-                encoded,
-                references,
-            };
-            Ok((scheme, rest))
-        }
-        Frame::ChunkedWrapped => {
-            let (encoded, references, rest) = read_two(alloc, depth, text)?;
-            let scheme = Scheme::FoRChunkedWrapped {
-                encoded,
-                references,
-            };
-            Ok((scheme, rest))
-        }
-    }
 }
 
 /// The scheme of an encoding's word and of the children after it.
@@ -338,7 +296,19 @@ fn read_children(
         Head::Primitive => Ok((Scheme::Primitive, text)),
         Head::Constant => Ok((Scheme::Constant, text)),
         Head::BitPacked(packing) => Ok((Scheme::BitPacked(packing), text)),
-        Head::FoR(frame) => read_frame(alloc, depth, frame, text),
+        Head::FoR(order) => {
+            let (encoded, rest) = read_one(alloc, depth, text)?;
+            Ok((Scheme::FoR { order, encoded }, rest))
+        }
+        Head::FoRChunked(order) => {
+            let (encoded, references, rest) = read_two(alloc, depth, text)?;
+            let scheme = Scheme::FoRChunked {
+                order,
+                encoded,
+                references,
+            };
+            Ok((scheme, rest))
+        }
         Head::Delta => {
             let (bases, deltas, rest) = read_two(alloc, depth, text)?;
             Ok((Scheme::Delta { bases, deltas }, rest))

@@ -1,6 +1,6 @@
 use Rattle.std.proofs.Common.{sym, ◌∙◌}
 use Rattle.fl_compress.specs.Choices.{chosen}
-use Rattle.fl_encode.specs.Shapes.{shape}
+use Rattle.fl_encode.specs.SchemeShapes.{shape}
 use Rattle.fl_compress.proofs.AnswerLaws.{free_candidate, search_without_runs, whole_search}
 use Rattle.fl_compress.proofs.FewerLevels.{single_choice}
 use Rattle.fl_compress.proofs.search.choose.Goals as goal

@@ -1,6 +1,6 @@
 use Rattle.std.proofs.Common.{◌≡◌, ap, length, ◌∙◌, arith}
 use Rattle.fl_array.proofs.EncodedRLE.{ok_is}
-use Rattle.fl_encode.specs.Shapes.{shape}
+use Rattle.fl_encode.specs.SchemeShapes.{shape}
 use Rattle.fl_serde.specs.ByteCounts.{validity_bytes}
 use Rattle.fl_compress.specs.Candidates.{framed_schemes}
 use Rattle.fl_compress.specs.Choices.{chosen}

@@ -1,7 +1,7 @@
 use Rattle.std.proofs.Common.{ap, sym, ◌∙◌}
 use Rattle.fl_array.proofs.EncodedRLE.{ok_is}
 use Rattle.fl_statistics.specs.BitStatistics.{bit_statistics}
-use Rattle.fl_encode.specs.Shapes.{shape}
+use Rattle.fl_encode.specs.SchemeShapes.{shape}
 use Rattle.fl_compress.specs.Choices.{chosen, chosen_in, part_of, with_slots}
 use Rattle.fl_compress.proofs.AnswerLaws.{free_choice, gives, packed_choice, unpacked_choice}
 use Rattle.fl_compress.proofs.search.choose_differences.Goals as goal

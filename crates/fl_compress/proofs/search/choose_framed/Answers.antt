@@ -1,6 +1,6 @@
 use Rattle.std.proofs.Common.{◌-◌, arith, refl, sym, ◌∙◌}
 use Rattle.fl_array.proofs.EncodedRLE.{ok_is}
-use Rattle.fl_encode.specs.Shapes.{shape}
+use Rattle.fl_encode.specs.SchemeShapes.{shape}
 use Rattle.fl_compress.specs.Choices.{chosen, chosen_in, part_of}
 use Rattle.fl_compress.proofs.AnswerLaws.{alike_choice, framed_choice, free_choice, free_framed, packed_choice, unframed_choice}
 use Rattle.fl_compress.proofs.FewerLevels.{packed_costs}

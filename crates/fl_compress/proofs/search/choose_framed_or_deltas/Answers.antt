@@ -1,6 +1,6 @@
 use Rattle.std.proofs.Common.{sym, ◌∙◌}
 use Rattle.fl_compress.specs.Choices.{chosen}
-use Rattle.fl_encode.specs.Shapes.{shape}
+use Rattle.fl_encode.specs.SchemeShapes.{shape}
 use Rattle.fl_compress.proofs.AnswerLaws.{delta_choice, free_deltas, no_delta_choice}
 use Rattle.fl_compress.proofs.search.choose_framed_or_deltas.Goals as goal
 

@@ -1,4 +1,4 @@
-use Rattle.fl_encode.specs.Shapes.{shape}
+use Rattle.fl_encode.specs.SchemeShapes.{shape}
 use Rattle.fl_compress.specs.Choices.{part_of}
 use Rattle.fl_compress.proofs.PartLaws.{part_covers, part_fits}
 use Rattle.fl_compress.proofs.ReferenceLaws.{zero_frames}

@@ -3,7 +3,7 @@ use Rattle.std.proofs.lemmas.Bool.Decides.{Decides-int_eq}
 use Rattle.fl_types.specs.declared.error.FastLanesError.TheVariants.{NoMinimum}
 use Rattle.fl_array.proofs.EncodedRLE.{ok_is}
 use Rattle.fl_codec.specs.Parts.{subtract_min, subtract_reference}
-use Rattle.fl_encode.specs.Shapes.{shape}
+use Rattle.fl_encode.specs.SchemeShapes.{shape}
 use Rattle.fl_compress.specs.Candidates.{packed_schemes}
 use Rattle.fl_compress.specs.Choices.{chosen, part_of}
 use Rattle.fl_compress.proofs.AnswerLaws.{one_choice, or_one}

@@ -1,6 +1,6 @@
 use Rattle.std.proofs.Common.{refl, sym, ◌∙◌}
 use Rattle.fl_array.proofs.EncodedRLE.{ok_is}
-use Rattle.fl_encode.specs.Shapes.{shape}
+use Rattle.fl_encode.specs.SchemeShapes.{shape}
 use Rattle.fl_compress.specs.Choices.{chosen, chosen_in}
 use Rattle.fl_compress.proofs.AnswerLaws.{free_choice, gives, packed_choice, unpacked_choice}
 use Rattle.fl_compress.proofs.search.choose_packed.Goals as goal

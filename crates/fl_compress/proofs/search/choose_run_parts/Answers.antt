@@ -1,5 +1,5 @@
 use Rattle.std.proofs.Common.{arith, refl}
-use Rattle.fl_encode.specs.Shapes.{shape}
+use Rattle.fl_encode.specs.SchemeShapes.{shape}
 use Rattle.fl_compress.specs.Choices.{chosen}
 use Rattle.fl_compress.proofs.AnswerLaws.{dear_runs, gives, run_parts_choice}
 use Rattle.fl_compress.proofs.search.choose_run_parts.Goals as goal

@@ -1,6 +1,6 @@
 use Rattle.std.proofs.Common.{arith}
 use Rattle.fl_array.proofs.EncodedRLE.{ok_is}
-use Rattle.fl_encode.specs.Shapes.{shape}
+use Rattle.fl_encode.specs.SchemeShapes.{shape}
 use Rattle.fl_compress.specs.Candidates.{delta_schemes, framed_schemes}
 use Rattle.fl_compress.specs.Choices.{chosen}
 use Rattle.fl_compress.proofs.AnswerLaws.{dear_indices, runs_choice}

@@ -6,20 +6,14 @@ use Rattle.fl_array.proofs.DeltaEncoding.{encoded_accepted, encoded_back}
 use Rattle.fl_array.proofs.EncodedRLE.{encoded_sound, ok_is}
 use Rattle.fl_array.proofs.EncodedRLE.{encoded_back as runs_back}
 use Rattle.fl_array.proofs.FoREncoding.{chunked_column, few_positions, global_accepted, made_accepted}
-use Rattle.fl_encode.specs.declared.scheme.Scheme.{RLE', back-Scheme-FoR-0 as child_scheme}
+use Rattle.fl_encode.specs.Shapes.{RLE}
 use Rattle.fl_encode.proofs.ConstantLaws.{no_constant, references_differ}
 use Rattle.fl_encode.proofs.EncodingLaws.{deltas_accepted, deltas_made, indices_refused, one_reference_made, over_references_made, passed_on, references_made, runs_accepted, runs_made, values_refused}
 use Rattle.fl_encode.proofs.encoding.+encode.Goals as goal
 
 -- ---- one level
-pub encode_child-returns-in-Some : goal.encode_child-returns-in-Some
-encode_child-returns-in-Some t c = rw (c.in-Some.is, ← c.deref.ensures) c.encode.ensures
-
 pub encode-returns-in-FoRChunked : goal.encode-returns-in-FoRChunked
 encode-returns-in-FoRChunked t c = rw c.in-FoRChunked.is c.encode_chunked_for.ensures
-
-pub encode-returns-in-FoRChunkedWrapped : goal.encode-returns-in-FoRChunkedWrapped
-encode-returns-in-FoRChunkedWrapped t c = rw c.in-FoRChunkedWrapped.is c.encode_chunked_for-in-FoRChunkedWrapped.ensures
 
 -- ---- frames of reference
 pub encode_for-encode_over_reference-requires : goal.encode_for-encode_over_reference-requires
@@ -27,7 +21,7 @@ encode_for-encode_over_reference-requires t c = (search rules, global_accepted c
 
 pub encode_for-returns : goal.encode_for-returns
 encode_for-returns t c =
-    one_reference_made c.args.order (child_scheme c.args.scheme.now) c.args.array.now (global_parts c.in_ok-child.field-0) c.encode_over_reference.result c.in_ok-child.ensures
+    one_reference_made c.args.order c.args.scheme.now c.args.array.now (global_parts c.in_ok-child.field-0) c.encode_over_reference.result c.in_ok-child.ensures
     (c.global_for_by_and_back.ensures (global_parts c.in_ok-child.field-0) c.in_ok-child.ensures) c.encode_over_reference.ensures
 
 pub encode_over_references-over_references-requires-clause-chunked : goal.encode_over_references-over_references-requires-clause-chunked
@@ -35,7 +29,7 @@ encode_over_references-over_references-requires-clause-chunked t c = no_constant
 
 pub encode_over_references-returns : goal.encode_over_references-returns
 encode_over_references-returns t c =
-    over_references_made (child_scheme c.args.encoded.now) (child_scheme c.args.references.now) c.args.child c.args.others c.in_ok-encoded.encoded c.in_ok-references.references c.over_references.result c.in_ok-encoded.ensures c.in_ok-references.ensures c.over_references.ensures
+    over_references_made c.args.encoded.now c.args.references.now c.args.child c.args.others c.in_ok-encoded.encoded c.in_ok-references.references c.over_references.result c.in_ok-encoded.ensures c.in_ok-references.ensures c.over_references.ensures
 
 pub encode_chunked_for-encode_over_reference-requires : goal.encode_chunked_for-encode_over_reference-requires
 encode_chunked_for-encode_over_reference-requires t c = (
@@ -60,7 +54,7 @@ encode_chunked_for-over_nulls-requires t c =
 pub encode_chunked_for-returns-in-Chunked : goal.encode_chunked_for-returns-in-Chunked
 encode_chunked_for-returns-in-Chunked t c =
     let is = ok_is _ _ c.in_ok-child.ensures ∙ ap for_parts c.in-Chunked.is in
-    references_made c.args.order (child_scheme c.args.encoded.now) (child_scheme c.args.references.now) c.args.array.now c.in-Chunked.child c.in-Chunked.others c.encode_over_references.result is
+    references_made c.args.order c.args.encoded.now c.args.references.now c.args.array.now c.in-Chunked.child c.in-Chunked.others c.encode_over_references.result is
     (chunked_column c.args.order c.args.array.now c.in-Chunked.child c.in-Chunked.others is c.chunked_for_by_and_back.ensures) c.encode_over_references.ensures
 
 -- ---- deltas
@@ -73,19 +67,19 @@ pub encode_delta-returns : goal.encode_delta-returns
 encode_delta-returns t c =
     let parts = ok_is _ _ c.in_ok-plain_bases.ensures in
     let valid = sym (ok_is _ _ c.in_ok-validity.ensures) ∙ c.validity.ensures.value in
-    deltas_made (child_scheme c.args.bases.now) (child_scheme c.args.deltas.now) c.args.array.now c.in_ok-plain_bases.plain_bases c.in_ok-plain_bases.plain_deltas c.in_ok-validity.validity c.len-len.result c.in_ok-bases.bases c.in_ok-deltas.deltas c.over_deltas.result parts valid c.len-len.ensures.slots
+    deltas_made c.args.bases.now c.args.deltas.now c.args.array.now c.in_ok-plain_bases.plain_bases c.in_ok-plain_bases.plain_deltas c.in_ok-validity.validity c.len-len.result c.in_ok-bases.bases c.in_ok-deltas.deltas c.over_deltas.result parts valid c.len-len.ensures.slots
     (encoded_back c.args.array.now c.in_ok-plain_bases.plain_bases c.in_ok-plain_bases.plain_deltas c.in_ok-validity.validity c.len-len.result parts valid c.len-len.ensures.slots c.deltas_and_back.ensures) c.in_ok-bases.ensures c.in_ok-deltas.ensures c.over_deltas.ensures
 
 -- ---- runs
 pub encode_rle-returns-in_err-indices : goal.encode_rle-returns-in_err-indices
 encode_rle-returns-in_err-indices t c =
-    passed_on (RLE' (child_scheme c.args.values.now) (child_scheme c.args.indices.now) (child_scheme c.args.offsets.now)) c.args.array.now c.from_residual-in_err-indices.result c.in_err-indices.field-0.0 c.from_residual-in_err-indices.ensures.1
-    (indices_refused (child_scheme c.args.values.now) (child_scheme c.args.indices.now) (child_scheme c.args.offsets.now) c.args.array.now (run_parts c.in_ok-runs.runs) c.in_ok-values.values c.in_err-indices.field-0.0 (ok_is _ _ (sym c.in_ok-runs.ensures)) c.in_ok-values.ensures c.in_err-indices.ensures)
+    passed_on (RLE c.args.values.now c.args.indices.now c.args.offsets.now) c.args.array.now c.from_residual-in_err-indices.result c.in_err-indices.field-0.0 c.from_residual-in_err-indices.ensures.1
+    (indices_refused c.args.values.now c.args.indices.now c.args.offsets.now c.args.array.now (run_parts c.in_ok-runs.runs) c.in_ok-values.values c.in_err-indices.field-0.0 (ok_is _ _ (sym c.in_ok-runs.ensures)) c.in_ok-values.ensures c.in_err-indices.ensures)
 
 pub encode_rle-returns-in_err-values : goal.encode_rle-returns-in_err-values
 encode_rle-returns-in_err-values t c =
-    passed_on (RLE' (child_scheme c.args.values.now) (child_scheme c.args.indices.now) (child_scheme c.args.offsets.now)) c.args.array.now c.from_residual-in_err-values.result c.in_err-values.field-0.0 c.from_residual-in_err-values.ensures.1
-    (values_refused (child_scheme c.args.values.now) (child_scheme c.args.indices.now) (child_scheme c.args.offsets.now) c.args.array.now (run_parts c.in_ok-runs.runs) c.in_err-values.field-0.0 (ok_is _ _ (sym c.in_ok-runs.ensures)) c.in_err-values.ensures)
+    passed_on (RLE c.args.values.now c.args.indices.now c.args.offsets.now) c.args.array.now c.from_residual-in_err-values.result c.in_err-values.field-0.0 c.from_residual-in_err-values.ensures.1
+    (values_refused c.args.values.now c.args.indices.now c.args.offsets.now c.args.array.now (run_parts c.in_ok-runs.runs) c.in_err-values.field-0.0 (ok_is _ _ (sym c.in_ok-runs.ensures)) c.in_err-values.ensures)
 
 pub encode_rle-over_runs-requires : goal.encode_rle-over_runs-requires
 encode_rle-over_runs-requires t c =
@@ -98,5 +92,5 @@ encode_rle-returns t c =
     let runs = c.in_ok-runs.runs in
     let parts = ok_is _ _ (sym c.in_ok-runs.ensures) in
     let sound = encoded_sound c.args.array.now runs.values runs.indices runs.offsets _ parts c.len-len.ensures.slots c.validity-values.ensures.covers c.validity-indices.ensures.covers c.validity-offsets.ensures.covers c.runs_and_back.ensures.sound in
-    runs_made (child_scheme c.args.values.now) (child_scheme c.args.indices.now) (child_scheme c.args.offsets.now) c.args.array.now (run_parts runs) c.len-len.result c.in_ok-values.values c.in_ok-indices.indices c.in_ok-offsets.offsets c.over_runs.result parts c.len-len.ensures.slots
+    runs_made c.args.values.now c.args.indices.now c.args.offsets.now c.args.array.now (run_parts runs) c.len-len.result c.in_ok-values.values c.in_ok-indices.indices c.in_ok-offsets.offsets c.over_runs.result parts c.len-len.ensures.slots
     (runs_back c.args.array.now runs.values runs.indices runs.offsets _ parts c.len-len.ensures.slots sound c.runs_and_back.ensures.column) c.in_ok-values.ensures c.in_ok-indices.ensures c.in_ok-offsets.ensures c.over_runs.ensures

@@ -1,5 +1,5 @@
 use Rattle.std.proofs.Common.{ℕ}
-use Rattle.fl_encode.specs.Shapes.{shape}
+use Rattle.fl_encode.specs.SchemeShapes.{shape}
 use Rattle.fl_encode.specs.Texts.{says_children}
 use Rattle.fl_encode.proofs.TextLaws.{never_runs_out, next_scheme}
 use Rattle.fl_encode.proofs.text.reading.+read.Goals as goal
