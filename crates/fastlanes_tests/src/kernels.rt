@@ -360,6 +360,42 @@ fn sums_come_back<W: FastLanes>(items: &[W; FL_CHUNK_SIZE]) -> bool
     are_same(&back, items)
 }
 
+/// Bit `p` of the answers of a delta block is set where item `p` is the one in the middle.
+fn answers_are_in_order<W: FastLanes>(
+    deltas: &[W; FL_CHUNK_SIZE],
+    bases: &[W],
+    items: &[W; FL_CHUNK_SIZE],
+) -> bool
+    requires { length bases.now ≡ W.LANES }
+{
+    let wanted = items[FL_CHUNK_SIZE / 2];
+    let mut bits = [u64::MAX; 16];
+    let same = |item: W, rhs: W| item.same(rhs);
+    undelta_cmp(deltas, bases, &mut bits, same, wanted);
+    for p in 0..FL_CHUNK_SIZE {
+        let is_set = bits[p / 64] >> (p % 64) & 1 == 1;
+        if is_set != items[p].same(wanted) {
+            return false;
+        }
+    }
+    true
+}
+
+/// The items through deltas beside bases that count up, and back in their order in one step.
+fn items_come_back_in_order<W: FastLanes>(items: &[W; FL_CHUNK_SIZE]) -> bool
+    requires { 1 ≤ W.T }
+{
+    let bases = counted::<W>();
+    let bases = &bases[..block_size::<W>(1)];
+    let mut stored = [W::zero(); FL_CHUNK_SIZE];
+    let mut deltas = [W::zero(); FL_CHUNK_SIZE];
+    let mut back = [W::zero(); FL_CHUNK_SIZE];
+    transpose(items, &mut stored);
+    delta(&stored, bases, &mut deltas);
+    undelta_to_items(&deltas, bases, &mut back);
+    are_same(&back, items) && answers_are_in_order(&deltas, bases, items)
+}
+
 /// The items through the runs and back.
 fn runs_come_back<W: FastLanes>(items: &[W; FL_CHUNK_SIZE]) -> bool {
     let mut values = [W::zero(); FL_CHUNK_SIZE];
@@ -386,6 +422,7 @@ fn blocks_come_back<W: FastLanes>() -> bool
     places_come_back(&items)
         && deltas_come_back(&items)
         && sums_come_back(&items)
+        && items_come_back_in_order(&items)
         && runs_come_back(&items)
 }
 

@@ -121,18 +121,6 @@ values_repeated value xs z each i h = let within : i < length xs = rw length-map
 pub delta_typed : (a : DeltaArrayParts) (p : PrimitiveParts) (ptype : PType) → column_of_primitive p ≡ column a.bases → has_ptype ptype (column (tree_of_delta a)).dtype ≡ true → p.ptype ≡ ptype
 delta_typed a p ptype e h = ap ptype_of_column e ∙ sym (same_ptype_is ptype (ptype_of_column (column a.bases)) h)
 
--- the integers that are summed from decoded bases and deltas are the items of the column
-pub delta_written : (a : DeltaArrayParts) (p q : PrimitiveParts) (ptype : PType) (integers : List ℤ) → refusal_of_delta a ≡ None → column_of_primitive p ≡ column a.bases → column_of_primitive q ≡ column a.deltas → p.ptype ≡ ptype
-    → integers ≡ tabulate (λ i. delta_integer ptype p.slots q.slots (a.parts.offset + i)) a.parts.len → AreItemsOf integers (column (tree_of_delta a))
-delta_written a p q ptype integers h e f typed is =
-    let covered = (sound_deltas a h).covered in
-    let item : ℕ → ℤ = λ i. delta_integer ptype p.slots q.slots (a.parts.offset + i) in
-    let parts : PrimitiveParts = record { ptype = ptype; slots = integers; validity = a.parts.validity } in
-    let long : length integers ≡ a.parts.len = ap length is ∙ length-table item a.parts.len in
-    let summed : column_of_primitive parts ≡ delta_column ptype p.slots q.slots a.parts.validity a.parts.offset a.parts.len = rw (is, items_of-table item a.parts.validity a.parts.len covered) refl in
-    let same : column_of_primitive parts ≡ column (tree_of_delta a) = summed ∙ (ap (λ t. delta_column t p.slots q.slots a.parts.validity a.parts.offset a.parts.len) (sym typed) ∙ delta_decoded a p q h e f) in
-    items_written parts (column (tree_of_delta a)) (rw long covered) same
-
 -- ---- run-length encoded arrays
 -- the run values have the type of the column
 pub rle_typed : (a : RLEArrayParts) (p : PrimitiveParts) (ptype : PType) → column_of_primitive p ≡ column a.values → has_ptype ptype (column (tree_of_rle a)).dtype ≡ true → p.ptype ≡ ptype

@@ -40,15 +40,25 @@ judged_plain parts offset len v i o =
     let offsets : length (column_of_primitive parts.offsets).items ≡ length parts.offsets.slots = length-items_of parts.offsets.validity parts.offsets.slots o in
     rw (values, indices, offsets) (sym (chain (nat_le 1024 offset) (can_be_null (nullability_of parts.values.validity)) (is_run_index_type parts.indices.ptype) (is_index_type (column_of_primitive parts.offsets).dtype) (length parts.indices.slots % 1024 == 0) (nat_lt (length parts.indices.slots) (offset + len)) (length parts.offsets.slots == length parts.indices.slots / 1024) OffsetTooLarge NotInteger ChildNullable RunIndexType BlockOffsetsType ChildLength RangeBeyondChild BlockOffsetsCount (contents_refusal parts)))
 
+-- parts that make a column make an array
+pub parts_sound : (r : RunParts) (v i o : PrimitiveParts) (len n : ℕ) → (let parts : RunParts = record { values = v; indices = i; offsets = o } in parts) ≡ r → n ≡ len → IsTrue (covers v.validity (length v.slots)) → IsTrue (covers i.validity (length i.slots)) → IsTrue (covers o.validity (length o.slots))
+    → runs_refusal r 0 len ≡ None → rle_refusal (column_of_primitive v) (column_of_primitive i) (column_of_primitive o) 0 n ≡ None
+parts_sound r v i o len n e is x y z h = rw is (judged_plain (record { values = v; indices = i; offsets = o }) 0 len x y z ∙ (ap (λ (s : RunParts). runs_refusal s 0 len) e ∙ h))
+
+-- its column is theirs
+pub parts_back : (r : RunParts) (p v i o : PrimitiveParts) (n : ℕ) → (let parts : RunParts = record { values = v; indices = i; offsets = o } in parts) ≡ r → n ≡ length p.slots → rle_refusal (column_of_primitive v) (column_of_primitive i) (column_of_primitive o) 0 n ≡ None
+    → run_column r 0 (length p.slots) ≡ column_of_primitive p → column_of_rle (column_of_primitive v) (column_of_primitive i) (column_of_primitive o) (record { offset = 0; len = n }) ≡ column_of_primitive p
+parts_back r p v i o n e is h back =
+    let a : RLEArrayParts = record { values = Primitive v; indices = Primitive i; offsets = Primitive o; window = record { offset = 0; len = n } } in
+    let parts : RunParts = record { values = v; indices = i; offsets = o } in
+    sym (decoded_column a parts h refl refl refl) ∙ (ap (λ (s : RunParts). run_column s 0 n) e ∙ (ap (λ m. run_column r 0 m) is ∙ back))
+
 -- the encoder's parts make an array
 pub encoded_sound : (p v i o : PrimitiveParts) (n : ℕ) → (let parts : RunParts = record { values = v; indices = i; offsets = o } in parts) ≡ encode_runs p → n ≡ length p.slots → IsTrue (covers v.validity (length v.slots)) → IsTrue (covers i.validity (length i.slots)) → IsTrue (covers o.validity (length o.slots))
     → runs_refusal (encode_runs p) 0 (length p.slots) ≡ None → rle_refusal (column_of_primitive v) (column_of_primitive i) (column_of_primitive o) 0 n ≡ None
-encoded_sound p v i o n e is x y z h = rw is (judged_plain (record { values = v; indices = i; offsets = o }) 0 (length p.slots) x y z ∙ (ap (λ (r : RunParts). runs_refusal r 0 (length p.slots)) e ∙ h))
+encoded_sound p v i o n e is x y z h = parts_sound (encode_runs p) v i o (length p.slots) n e is x y z h
 
 -- its column is that of the plain array
 pub encoded_back : (p v i o : PrimitiveParts) (n : ℕ) → (let parts : RunParts = record { values = v; indices = i; offsets = o } in parts) ≡ encode_runs p → n ≡ length p.slots → rle_refusal (column_of_primitive v) (column_of_primitive i) (column_of_primitive o) 0 n ≡ None
     → run_column (encode_runs p) 0 (length p.slots) ≡ column_of_primitive p → column_of_rle (column_of_primitive v) (column_of_primitive i) (column_of_primitive o) (record { offset = 0; len = n }) ≡ column_of_primitive p
-encoded_back p v i o n e is h back =
-    let a : RLEArrayParts = record { values = Primitive v; indices = Primitive i; offsets = Primitive o; window = record { offset = 0; len = n } } in
-    let parts : RunParts = record { values = v; indices = i; offsets = o } in
-    sym (decoded_column a parts h refl refl refl) ∙ (ap (λ (r : RunParts). run_column r 0 n) e ∙ (ap (λ m. run_column (encode_runs p) 0 m) is ∙ back))
+encoded_back p v i o n e is h back = parts_back (encode_runs p) p v i o n e is h back

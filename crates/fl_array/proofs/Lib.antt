@@ -23,3 +23,8 @@ pub mod PackedFoR
 pub mod DecodedItems
 mod TypedItems
 pub mod BlockWidths
+pub mod ReadLaws
+pub mod NoNulls
+pub mod ReadPacked
+pub mod ReadReferences
+pub mod ReadDeltas

@@ -25,3 +25,7 @@ pub mod OwnedParts
 pub mod UnpackedBlocks
 pub mod PrimitiveCows
 pub mod BlockWidths
+pub mod NoNulls
+pub mod PackedSums
+pub mod Readers
+pub mod ReaderParts

@@ -3,6 +3,7 @@ use Rattle.std.specs.Prelude.{length, Option, Some, None, Result}
 use Rattle.fl_types.specs.declared.error.FastLanesError.{FastLanesError}
 use Rattle.fl_column.specs.Columns.{PrimitiveParts}
 use Rattle.fl_bitpacking.specs.Refusals.{accepted}
+use Rattle.fl_codec.specs.Dictionaries.{encode_dictionaries}
 use Rattle.fl_codec.specs.Parts.{encode_runs}
 use Rattle.fl_codec.specs.RunRefusals.{rle_refusal}
 use Rattle.fl_array.specs.Trees.{Tree, OffsetLen, Primitive, RLE, column}
@@ -40,5 +41,14 @@ encoded_rle p = record {
   values = Primitive (encode_runs p).values;
   indices = Primitive (encode_runs p).indices;
   offsets = Primitive (encode_runs p).offsets;
+  window = record { offset = 0; len = length p.slots };
+}
+
+-- the run-length encoded array of a plain one that has a dictionary for each chunk
+abbrev pub encoded_dictionary : PrimitiveParts → RLEArrayParts
+encoded_dictionary p = record {
+  values = Primitive (encode_dictionaries p).values;
+  indices = Primitive (encode_dictionaries p).indices;
+  offsets = Primitive (encode_dictionaries p).offsets;
   window = record { offset = 0; len = length p.slots };
 }

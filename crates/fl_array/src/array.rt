@@ -2,6 +2,7 @@
 
 mod counted;
 mod decode_into;
+mod no_nulls;
 pub(crate) mod primitive_cow;
 mod ranges;
 mod typed_items;

@@ -3,7 +3,7 @@
 pub(crate) mod bit_packed_array_ext;
 pub mod bitpack_compress;
 pub mod bitpack_decompress;
-mod block_widths;
+pub(crate) mod block_widths;
 mod compute;
 mod data;
 mod single_items;

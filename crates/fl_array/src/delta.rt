@@ -1,7 +1,6 @@
 //! Delta arrays: in each block of 1024 items a base for each lane, and the deltas along the lanes.
 
 mod compute;
-mod decode_into;
 mod decoding;
 mod delta_array_ext;
 mod delta_data;

@@ -8,8 +8,10 @@ pub mod for_;
 pub mod laws;
 mod numbers;
 mod proof_support;
+pub mod reader;
 pub mod rle;
 mod to_blocked;
 mod validities;
 
 pub use crate::array::{ArrayRef, IntoArray, Node};
+pub use crate::reader::Reader;

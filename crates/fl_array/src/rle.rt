@@ -4,6 +4,7 @@
 mod compute;
 mod decode_into;
 mod decoding;
+mod dictionary;
 mod rle_array_ext;
 mod rle_data;
 mod rle_probe;
@@ -28,6 +29,7 @@ ghost use Rattle.fl_array.specs.Slices.{slice_tree};
 use crate::array::{ArrayRef, IntoArray};
 use crate::numbers::number_of_scalar;
 pub use crate::rle::decoding::rle_decompress;
+pub use crate::rle::dictionary::Dictionary;
 pub use crate::rle::rle_array_ext::{RLEArrayExt, RLESlots};
 pub use crate::rle::rle_data::RLEData;
 pub use crate::rle::rle_probe::RleProbeState;

@@ -121,7 +121,7 @@ plus_its_own ptype references z j h =
     ap (λ n. plus_if_some ptype (slice_get references n) z) own ∙ ap (λ o. plus_if_some ptype o z) (slice_get-get_or references j (pos 0) h)
 
 -- ---- columns
-decoded_at : (valid : Bool) (item : ℤ → ℤ) (patch : Option ℤ) (stored z : ℤ) → z ≡ unwrap_or (option_map item patch) (item stored) → cond valid (Some z) None ≡ option_map item (if valid then Some (unwrap_or patch stored) else None)
+pub decoded_at : (valid : Bool) (item : ℤ → ℤ) (patch : Option ℤ) (stored z : ℤ) → z ≡ unwrap_or (option_map item patch) (item stored) → cond valid (Some z) None ≡ option_map item (if valid then Some (unwrap_or patch stored) else None)
 decoded_at false item patch stored z e = refl
 decoded_at true item None stored z e = ap (λ n. Some n) e
 decoded_at true item (Some p) stored z e = ap (λ n. Some n) e

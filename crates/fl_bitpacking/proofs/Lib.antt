@@ -34,3 +34,5 @@ pub mod FilteredLaws
 pub mod MaskWords
 pub mod PartPatches
 pub mod RefusedNegatives
+pub mod ReadItems
+pub mod AnswerWords

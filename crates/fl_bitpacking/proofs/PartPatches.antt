@@ -1,5 +1,5 @@
 -- Patches of consecutive items: those whose indices are between two numbers.
-use Rattle.std.proofs.Common.{◌≡◌, ℕ, ℤ, ◌+◌, ◌-◌, ◌<◌, ◌≤◌, ◌≢◌, unwrap_or, List, length, map, get_or, unsigned_abs, refl, ap, sym, ◌∙◌, arith, true, None, inl, inr}
+use Rattle.std.proofs.Common.{◌≡◌, ℕ, ℤ, ◌+◌, ◌-◌, ◌<◌, ◌≤◌, ◌≢◌, option_map, unwrap_or, List, length, map, get_or, unsigned_abs, refl, ap, sym, ◌∙◌, arith, true, None, inl, inr}
 use Rattle.std.proofs.lemmas.Bool.{cases_lt}
 use Rattle.fl_types.specs.Bits.{between}
 use Rattle.fl_column.proofs.ItemLaws.{length-between}
@@ -71,8 +71,8 @@ counted_all f indices k limit past below =
     omega arith
 
 -- where there is no patch in a part
-pub none_in_part : (p : PatchesParts) (from n before after i : ℕ) (z : ℤ) → refusal_of p ≡ None → before ≡ patches_before from p → after ≡ patches_before (from + n) p → before ≡ after → i < n → z ≡ unwrap_or (patched p (from + i)) z
-none_in_part p from n before after i z e first last same h =
+pub none_in_part : (item : ℤ → ℤ) (p : PatchesParts) (from n before after i : ℕ) (z : ℤ) → refusal_of p ≡ None → before ≡ patches_before from p → after ≡ patches_before (from + n) p → before ≡ after → i < n → z ≡ unwrap_or (option_map item (patched p (from + i))) z
+none_in_part item p from n before after i z e first last same h =
     let none : patched p (from + i) ≡ None = none_cut p from (from + n) i (sound p e) (sym first ∙ same ∙ last) (omega arith) in
     rw none refl
 

@@ -29,3 +29,4 @@ pub mod Compared
 pub mod Taken
 pub mod Filtered
 pub mod ReadWidths
+pub mod ItemsFrom

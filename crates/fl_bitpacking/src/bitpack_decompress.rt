@@ -2,6 +2,7 @@
 
 pub(crate) mod block_decoding;
 pub mod decode_into;
+pub mod read_into;
 pub mod unfor;
 
 ghost use Rattle.std.specs.Prelude.{◌≡◌, ◌+◌, ◌-◌, ◌*◌, ◌/◌, ◌<◌, ◌≤◌, ◌^◌, ℕ, IfOk, IfSome, Ok, OnOk, length, map, min, option_map, unwrap_or};

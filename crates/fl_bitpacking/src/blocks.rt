@@ -1,13 +1,18 @@
 //! The blocks of a packed column: where their bytes are, and their items.
 
-ghost use Rattle.std.specs.Prelude.{◌≡◌, ◌+◌, ◌-◌, ◌*◌, ◌<◌, ◌≤◌, ◌^◌, ℕ, length, min};
+ghost use Rattle.std.specs.Prelude.{◌≡◌, ◌+◌, ◌-◌, ◌*◌, ◌/◌, ◌<◌, ◌≤◌, ◌^◌, ℕ, length, min};
 ghost use Rattle.fl_types.specs.Bits.{between};
 ghost use Rattle.fl_types.specs.Integers.{bits_of_type};
+ghost use Rattle.fl_column.specs.Chunks.{chunk_count};
 ghost use Rattle.fl_bitpacking.specs.BlockSums.{decoded_item};
 ghost use Rattle.fl_bitpacking.specs.Blocks.{block_item, blocks_of, bytes_of_block, global_blocks, value_at};
 ghost use Rattle.fl_bitpacking.specs.Parts.{AreReadable, blocks_in};
+ghost use Rattle.fl_bitpacking.specs.Taken.{HasStarts};
 
+use crate::bit_packed::BitPacked;
 use crate::bitpack_decompress::block_decoding::BlockDecoder;
+use crate::compute::take::runs::block_start;
+use crate::places::places_from;
 use fastlanes::{FL_CHUNK_SIZE, Work};
 use fl_column::chunk_count;
 use fl_patches::Widths;
@@ -61,6 +66,33 @@ fn decode_part<T: NativePType, D: BlockDecoder<T>>(
     }
 }
 
+/// Writes the items of block `j` from position `low` on. Only where not all of them are written there is a scratch
+/// block.
+fn read_part<T: BitPacked, D: BlockDecoder<T>>(
+    decoder: &D,
+    j: usize,
+    width: usize,
+    block: &[u8],
+    low: usize,
+    items: &mut [T],
+    work: &mut Work,
+)
+    requires width { width ≤ bits_of_type T.PTYPE }
+    requires block { length block.now ≡ 128 * width }
+    requires within { low + length items.old ≤ 1024 }
+    ensures items { (i : ℕ) → i < length items.old → value_at T.value items.new i ≡ D.item decoder.now j (block_item T.PTYPE width block.now (low + i)) }
+    ensures blocks { work.new.blocks ≡ min (work.old.blocks + 1) u64.MAX }
+    ensures words { work.new.words ≡ work.old.words }
+{
+    match items.as_mut_array::<FL_CHUNK_SIZE>() {
+        Some(whole) => decoder.decode_block(j, width, block, whole, work),
+        None => {
+            let mut scratch = [T::zero(); FL_CHUNK_SIZE];
+            decode_part(decoder, j, width, block, low, items, &mut scratch, work)
+        }
+    }
+}
+
 /// A count of blocks fits its type.
 pub(crate) fn prove_count_fits(work: &Work)
     ensures { work.now.blocks ≤ u64.MAX }
@@ -101,10 +133,7 @@ impl PackedBlocks<'_> {
         ensures order { result.0 ≤ result.1 }
         ensures room { result.1 ≤ self.entry.len }
     {
-        let start = FL_CHUNK_SIZE * j;
-        let low = self.offset.saturating_sub(start);
-        let from = start.saturating_sub(self.offset);
-        (from, from + (self.len - from).min(FL_CHUNK_SIZE - low))
+        places_from(self.offset, self.len, j)
     }
 
     /// Writes the items of block `j`, whose bytes start at `start`, and returns where those of the next
@@ -154,6 +183,57 @@ impl PackedBlocks<'_> {
             let (from, to) = self.places(j);
             let part = &mut items[from..to];
             start = self.decode_block(decoder, j, start, part, scratch, work);
+        }
+    }
+
+    /// Writes the items of block `j` from position `low` on.
+    fn read_block<T: BitPacked, D: BlockDecoder<T>>(
+        self,
+        decoder: &D,
+        j: usize,
+        low: usize,
+        items: &mut [T],
+        work: &mut Work,
+    )
+        requires readable { AreReadable (bits_of_type T.PTYPE) self }
+        requires starts { HasStarts self.widths }
+        requires block { j < blocks_in self }
+        requires low { low < 1024 }
+        requires within { low + length items.old ≤ 1024 }
+        ensures items { (i : ℕ) → i < length items.old → value_at T.value items.new i ≡ decoded_item (D.item decoder.now) T.PTYPE (blocks_of self.entry.widths) self.entry.packed.now (1024 * j + low + i) }
+        ensures blocks { work.new.blocks ≡ min (work.old.blocks + 1) u64.MAX }
+        ensures words { work.new.words ≡ work.old.words }
+    {
+        let bits = self.widths.of_block(j);
+        // For the proof: the block ends below 2 ^ 64.
+        let _size = self.packed.len();
+        let start = block_start(self.widths, j);
+        let block = block_at(self.packed, start, bits);
+        read_part(decoder, j, bits, block, low, items, work);
+    }
+
+    /// Writes the items from index `start` on, as many as the slice has. Each block that has one of them is unpacked
+    /// once, a whole one straight into its place, and no other block is read.
+    pub(crate) fn read_into<T: BitPacked, D: BlockDecoder<T>>(
+        self,
+        decoder: &D,
+        start: usize,
+        items: &mut [T],
+        work: &mut Work,
+    )
+        requires readable { AreReadable (bits_of_type T.PTYPE) self }
+        requires starts { HasStarts self.widths }
+        requires range { start + length items.old ≤ self.len }
+        ensures items { (i : ℕ) → i < length items.old → value_at T.value items.new i ≡ decoded_item (D.item decoder.now) T.PTYPE (blocks_of self.entry.widths) self.entry.packed.now (self.entry.offset + (start + i)) }
+        ensures blocks { work.new.blocks ≡ min (work.old.blocks + (chunk_count (self.entry.offset + start + length items.old) - (self.entry.offset + start) / 1024)) u64.MAX }
+        ensures words { work.new.words ≡ work.old.words }
+    {
+        prove_count_fits(work);
+        let (first, len) = (self.offset + start, items.len());
+        for j in first / FL_CHUNK_SIZE..chunk_count(first + len) {
+            let (from, to) = places_from(first, len, j);
+            let low = first.saturating_sub(FL_CHUNK_SIZE * j);
+            self.read_block(decoder, j, low, &mut items[from..to], work);
         }
     }
 }

@@ -2,6 +2,6 @@
 
 pub mod cast;
 pub mod compare;
-pub(crate) mod filter;
+pub mod filter;
 pub(crate) mod range_test;
 pub mod take;

@@ -12,6 +12,7 @@ pub mod compute;
 pub mod laws;
 pub mod packed_data;
 mod patching;
+pub mod places;
 pub mod refusals;
 pub mod unpack_iter;
 pub mod words;

@@ -1,5 +1,7 @@
 //! Applying patches to a column.
 
+pub(crate) mod ranges;
+
 ghost use Rattle.std.specs.Prelude.{◌≡◌, ◌<◌, ◌≤◌, ◌+◌, ◌/◌, ◌^◌, ℕ, length, map, option_map, slice_index, slice_set, unwrap_or};
 ghost use Rattle.fl_column.specs.Numbers.{numbers, numbers_by};
 ghost use Rattle.fl_patches.specs.PatchMaps.{patched};

@@ -27,3 +27,9 @@ pub mod FullWords
 pub mod DeltaLeasts
 pub mod ChunkSlots
 pub mod RunIndices
+pub mod ChunkedRuns
+pub mod Rising
+pub mod DistinctSteps
+pub mod RankLaws
+pub mod DictionaryLaws
+pub mod Comparisons

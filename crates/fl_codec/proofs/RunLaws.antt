@@ -68,7 +68,7 @@ range_more a (suc n) =
     let last : a + 1 + n ≡ a + suc n = omega arith in
     rw step (ap (λ ys. a ∷ ys) (range_more (a + 1) n ∙ ap (λ m. range_with_len (a + 1) n ++ m ∷ []) last))
 
-range_to_more : (n : ℕ) → range_with_len 0 (n + 1) ≡ range_with_len 0 n ++ n ∷ []
+pub range_to_more : (n : ℕ) → range_with_len 0 (n + 1) ≡ range_with_len 0 n ++ n ∷ []
 range_to_more n = let same : 0 + n ≡ n = omega arith in range_more 0 n ∙ ap (λ m. range_with_len 0 n ++ m ∷ []) same
 
 -- the first item of chunk k, and each up to position n that differs from the one before

@@ -10,3 +10,5 @@ pub mod ChunkSlices
 pub mod DeltaRefusals
 pub mod RunRefusals
 pub mod Refusals
+pub mod Distinct
+pub mod Dictionaries

@@ -67,24 +67,6 @@ pub(crate) fn write_values<T: PhysicalPType>(patterns: &[T::Physical], values: &
     }
 }
 
-/// Writes the items of block `k` that are among the values, of which value 0 is at position `offset` of block 0.
-pub(crate) fn write_block<T: PhysicalPType>(
-    block: &[T::Physical; FL_CHUNK_SIZE],
-    k: usize,
-    offset: usize,
-    values: &mut [T],
-)
-    requires offset { offset < 1024 }
-    requires few { offset + length values.old < 2 ^ 64 }
-    requires block { k < chunks_of (offset + length values.old) }
-    ensures items { (item : ℕ → ℤ) → ((q : ℕ) → q < 1024 → read_as T.PTYPE (pattern_at T.Physical.pattern block.now q) ≡ item (1024 * k + q)) → ((i : ℕ) → i < 1024 * k - offset → slice_index_or (map T.value values.old) i (pos 0) ≡ item (offset + i)) → (i : ℕ) → i < min (1024 * (k + 1)) (offset + length values.old) - offset → slice_index_or (map T.value values.new) i (pos 0) ≡ item (offset + i) }
-{
-    let (from, to) = places_of_block(k, offset, values.len());
-    let low = offset.saturating_sub(FL_CHUNK_SIZE * k);
-    let words = &block[..];
-    write_values(&words[low..low + (to - from)], &mut values[from..to]);
-}
-
 /// Appends the items of block `k` that are among the `len` items from `offset` on.
 pub(crate) fn push_block<T: PhysicalPType>(
     block: &[T::Physical; FL_CHUNK_SIZE],

@@ -1,5 +1,6 @@
 //! Columns stored as differences along the lanes of blocks of 1024 items.
 
+pub mod block_sums;
 pub mod blocks;
 pub mod children;
 mod decoding;
@@ -18,7 +19,7 @@ ghost use Rattle.fl_codec.specs.ForwardFill.{carried_to};
 ghost use Rattle.fl_codec.specs.Parts.{compress_deltas, items_of_primitive};
 
 use crate::chunks::chunk_count;
-pub use crate::delta::decoding::{decompress_into, delta_decompress};
+pub use crate::delta::decoding::delta_decompress;
 use crate::fill_forward::fill_chunk;
 use crate::plain::non_nullable;
 use fastlanes::laws::words_are_in_range;

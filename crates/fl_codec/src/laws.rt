@@ -1,8 +1,11 @@
-//! Each column is what its encoded parts decode to.
+//! Each column is what its encoded parts decode to, and what the order of dictionaries tells.
 
-ghost use Rattle.std.specs.Prelude.{◌≡◌, length, None, Ok};
+ghost use Rattle.std.specs.Prelude.{◌≡◌, ◌*◌, ◌+◌, ◌<◌, ◌≤◌, ◌<ℤ◌, ◌≤ℤ◌, ◌↔◌, ℕ, ℤ, AllPairs, Contains, List, None, Ok, Option, length};
 ghost use Rattle.fl_column.specs.Columns.{column_of_primitive};
 ghost use Rattle.fl_codec.specs.Deltas.{delta_column};
+ghost use Rattle.fl_codec.specs.Dictionaries.{chunk_dictionary, dictionary_index, encode_dictionaries};
+ghost use Rattle.fl_codec.specs.Distinct.{distinct, rank, rank_above};
+ghost use Rattle.fl_codec.specs.ForwardFill.{Reset, fill_forward};
 ghost use Rattle.fl_codec.specs.FoRValues.{column_of_for, column_of_one_reference};
 ghost use Rattle.fl_codec.specs.Parts.{OneReference, compress_deltas, encode_chunked, encode_chunked_by, encode_global, encode_global_by, encode_runs};
 ghost use Rattle.fl_codec.specs.RunColumns.{run_column, runs_refusal};
@@ -59,3 +62,26 @@ pub fn runs_and_back(array: &PrimitiveArray)
 {
     let _validity = array.validity();
 }
+
+/// The dictionaries of a column and their indices are well-formed runs, and decode to it.
+#[tactic(auto, using(crate::proofs::DictionaryLaws::dictionaries_back, crate::proofs::DictionaryLaws::dictionaries_well))]
+pub fn dictionaries_and_back(array: &PrimitiveArray)
+    ensures sound { runs_refusal (encode_dictionaries array.now) 0 (length array.now.slots) ≡ None }
+    ensures column { run_column (encode_dictionaries array.now) 0 (length array.now.slots) ≡ column_of_primitive array.now }
+{
+    let _validity = array.validity();
+}
+
+/// The distinct integers of a list rise, are those of the list, and no other rising list has just these.
+#[tactic(auto, using(crate::proofs::Rising::distinct_rises, crate::proofs::DictionaryLaws::distinct_contains, crate::proofs::DictionaryLaws::distinct_only))]
+pub fn distinct_integers_rise()
+    ensures rising { (zs : List ℤ) → AllPairs (λ x y. x <ℤ y) (distinct zs) }
+    ensures same { (zs : List ℤ) (z : ℤ) → Contains (distinct zs) z ↔ Contains zs z }
+    ensures only { (zs xs : List ℤ) → AllPairs (λ x y. x <ℤ y) xs → ((z : ℤ) → Contains xs z ↔ Contains zs z) → xs ≡ distinct zs }
+{}
+
+/// A filled item is in a range just where its index is in one of ranks, the same for all positions of its chunk.
+#[tactic(auto, using(crate::proofs::DictionaryLaws::range_of_ranks))]
+pub fn ranges_of_items_are_ranges_of_indices()
+    ensures { (items : List (Option ℤ)) (k q : ℕ) (low high : ℤ) → q < 1024 → let item : ℕ → ℤ = fill_forward Reset items in ((low ≤ℤ item (1024 * k + q)) × (item (1024 * k + q) ≤ℤ high)) ↔ ((rank (chunk_dictionary item k) low ≤ dictionary_index item k q) × (dictionary_index item k q < rank_above (chunk_dictionary item k) high)) }
+{}

@@ -4,6 +4,7 @@
 pub mod blocks;
 pub mod children;
 mod decoding;
+pub mod dictionary;
 pub mod refusals;
 
 ghost use Rattle.std.specs.Prelude.{◌≡◌, ◌+◌, ◌*◌, ◌<◌, ◌≤◌, ◌^◌, ℕ, [], pos, IsTrue, IfOk, OnOk, Ok, None, length, map, option_map, slice_index, slice_index_or, unsigned_abs, unwrap_or, ◌++◌, ◌-◌, replicate, false};
@@ -77,7 +78,7 @@ fn padded_bits(alloc: Global, bits: &BitList, total: usize) -> Result<BitList, F
 
 /// The validity of this many indices of a column of `len` items: what the column's says of all items,
 /// or its bits and, after the column's end, nulls.
-fn padded_validity(
+pub(crate) fn padded_validity(
     alloc: Global,
     validity: &Validity,
     len: usize,

@@ -2,5 +2,5 @@
 
 mod between;
 mod compare;
-mod is_constant;
-mod is_sorted;
+pub(crate) mod is_constant;
+pub(crate) mod is_sorted;

@@ -21,6 +21,8 @@ mod simplest;
 pub use crate::bools::BoolArray;
 pub use crate::builder::PrimitiveBuilder;
 pub use crate::chunks::{chunk_bounds, chunk_count, chunk_of};
+pub use crate::compute::is_constant::is_same_item;
+pub use crate::compute::is_sorted::is_in_order;
 pub use crate::constant::ConstantArray;
 pub use crate::numbers::{index_array, number_at};
 pub use crate::physical::PhysicalPType;

@@ -15,3 +15,5 @@ mod PositionLaws
 mod SortedLaws
 mod ItemLaws
 mod NullableLaws
+mod BlockLaws
+mod ReadLists

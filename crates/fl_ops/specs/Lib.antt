@@ -7,3 +7,4 @@ pub mod CastForms
 pub mod Takes
 pub mod Sums
 pub mod Unpacked
+pub mod BlockReads

@@ -148,7 +148,8 @@ pub(crate) fn test_packed(
     Ok(Some(answers))
 }
 
-/// How each item compares with a constant, from plain items: the encoded ones of a FoR array of one reference, else the array's.
+/// How each item compares with a constant: a plain or constant array compares its own, of any other array the encoded items inside
+/// of the FoR arrays of one reference are tested.
 pub(crate) fn compare_plain(
     alloc: Global,
     array: &ArrayRef,
@@ -159,14 +160,17 @@ pub(crate) fn compare_plain(
     requires typed { IsTrue (has_ptype (ptype_of_value constant) (column array.now).dtype) }
     ensures { Answers column_of_bools result (Ok (tested (holds operator (integer_of constant)) (column array.now))) }
 {
-    let (encoded, range) = encoded_comparison(array, operator, constant);
-    match range.reference {
-        Some(_) => plain_ops::test(alloc, encoded, range),
-        None => plain_ops::compare(alloc, array, operator, constant),
+    if let Some(plain) = array.as_primitive() {
+        return plain.compare(alloc, operator, constant);
     }
+    if let Some(constant_array) = array.as_constant() {
+        return constant_array.compare(alloc, operator, constant);
+    }
+    let (encoded, range) = encoded_comparison(array, operator, constant);
+    plain_ops::test(alloc, encoded, range)
 }
 
-/// Whether each item lies between two bounds, by plain items as in `compare_plain`.
+/// Whether each item lies between two bounds, in the ways of `compare_plain`.
 pub(crate) fn between_plain(
     alloc: Global,
     array: &ArrayRef,
@@ -179,9 +183,12 @@ pub(crate) fn between_plain(
     requires upper { IsTrue (has_ptype (ptype_of_value upper) (column array.now).dtype) }
     ensures { Answers column_of_bools result (Ok (tested (is_between options (integer_of lower) (integer_of upper)) (column array.now))) }
 {
-    let (encoded, range) = encoded_between(array, lower, upper, options);
-    match range.reference {
-        Some(_) => plain_ops::test(alloc, encoded, range),
-        None => plain_ops::between(alloc, array, lower, upper, options),
+    if let Some(plain) = array.as_primitive() {
+        return plain.between(alloc, lower, upper, options);
     }
+    if let Some(constant_array) = array.as_constant() {
+        return constant_array.between(alloc, lower, upper, options);
+    }
+    let (encoded, range) = encoded_between(array, lower, upper, options);
+    plain_ops::test(alloc, encoded, range)
 }

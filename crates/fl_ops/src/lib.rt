@@ -2,6 +2,7 @@
 #![tactic(auto)]
 
 pub mod array_ops;
+mod by_blocks;
 mod casting;
 mod constancy;
 mod encoded_tests;

@@ -1,18 +1,19 @@
-//! Operations and queries of arrays, by the plain array of the same column.
+//! Operations and queries of arrays whose kind has no faster way: block by block, or by the plain array of the same
+//! column.
 
 ghost use Rattle.std.specs.Prelude.{◌≡◌, IsTrue, Ok, length};
 ghost use Rattle.fl_types.specs.declared.mask.Mask.TheVariants.{AllFalse, Values};
 ghost use Rattle.fl_types.specs.Masks.{mask_len};
 ghost use Rattle.fl_types.specs.Refusals.{Answers};
-ghost use Rattle.fl_types.specs.Types.{has_ptype, is_integer};
-ghost use Rattle.fl_types.specs.Values.{integer_of, ptype_of_value};
+ghost use Rattle.fl_types.specs.Types.{is_integer};
 ghost use Rattle.fl_column.specs.Columns.{column_of_bools, column_of_constant, column_of_primitive, ptype_of_column};
 ghost use Rattle.fl_column.specs.Operations.{cast_column, filter_column, ranges_column, take_column};
-ghost use Rattle.fl_column.specs.Queries.{between_column, compare_column, is_constant_column, is_sorted_column, tested};
+ghost use Rattle.fl_column.specs.Queries.{is_constant_column, is_sorted_column, tested};
 ghost use Rattle.fl_bitpacking.specs.RangeTests.{IsTestOf, passes};
 ghost use Rattle.fl_array.specs.BitPackedArrays.{tree_of_bitpacked};
 ghost use Rattle.fl_array.specs.Trees.{column};
 
+use crate::by_blocks::{self, MOST_ITEMS, constancy, order, tests};
 use crate::takes::items::take_items;
 use crate::takes::{ranges_by_runs, take_ranges_packed};
 use fastlanes::FL_CHUNK_SIZE;
@@ -21,8 +22,7 @@ use fl_array::bitpacking::BitPackedArray;
 use fl_bitpacking::RangeTest;
 use fl_bitpacking::compute::compare::primitive::test_primitive;
 use fl_column::{
-    BetweenOptions, BitList, BoolArray, CompareOperator, ConstantArray, DType, FastLanesError,
-    Mask, PValue, PrimitiveArray, ranges_total,
+    BitList, BoolArray, ConstantArray, DType, FastLanesError, Mask, PrimitiveArray, ranges_total,
 };
 use std::alloc::Global;
 
@@ -144,6 +144,9 @@ pub(crate) fn filter(
         if let Some(packed) = array.as_bitpacked() {
             return filter_packed(alloc, packed, bits);
         }
+        if array.len() <= MOST_ITEMS {
+            return by_blocks::filter::filter(alloc, array, bits);
+        }
     }
     array.to_primitive(alloc)?.filter(alloc, mask)
 }
@@ -168,52 +171,6 @@ pub(crate) fn cast(
     array.to_primitive(alloc)?.cast(alloc, target)
 }
 
-/// How each item compares with a constant.
-pub(crate) fn compare(
-    alloc: Global,
-    array: &ArrayRef,
-    operator: CompareOperator,
-    constant: PValue,
-) -> Result<BoolArray, FastLanesError>
-    requires integers { IsTrue (is_integer (column array.now).dtype) }
-    requires typed { IsTrue (has_ptype (ptype_of_value constant) (column array.now).dtype) }
-    ensures { Answers column_of_bools result (compare_column operator (integer_of constant) (column array.now)) }
-{
-    if let Some(plain) = array.as_primitive() {
-        return plain.compare(alloc, operator, constant);
-    }
-    if let Some(constant_array) = array.as_constant() {
-        return constant_array.compare(alloc, operator, constant);
-    }
-    array
-        .to_primitive(alloc)?
-        .compare(alloc, operator, constant)
-}
-
-/// Whether each item is between two bounds.
-pub(crate) fn between(
-    alloc: Global,
-    array: &ArrayRef,
-    lower: PValue,
-    upper: PValue,
-    options: BetweenOptions,
-) -> Result<BoolArray, FastLanesError>
-    requires integers { IsTrue (is_integer (column array.now).dtype) }
-    requires lower { IsTrue (has_ptype (ptype_of_value lower) (column array.now).dtype) }
-    requires upper { IsTrue (has_ptype (ptype_of_value upper) (column array.now).dtype) }
-    ensures { Answers column_of_bools result (between_column (integer_of lower) (integer_of upper) options (column array.now)) }
-{
-    if let Some(plain) = array.as_primitive() {
-        return plain.between(alloc, lower, upper, options);
-    }
-    if let Some(constant_array) = array.as_constant() {
-        return constant_array.between(alloc, lower, upper, options);
-    }
-    array
-        .to_primitive(alloc)?
-        .between(alloc, lower, upper, options)
-}
-
 /// The answers of a test for the items.
 pub(crate) fn test(
     alloc: Global,
@@ -226,6 +183,9 @@ pub(crate) fn test(
 {
     if let Some(plain) = array.as_primitive() {
         return test_primitive(alloc, plain, range);
+    }
+    if array.len() <= MOST_ITEMS {
+        return tests::test(alloc, array, range);
     }
     test_primitive(alloc, &array.to_primitive(alloc)?, range)
 }
@@ -248,6 +208,9 @@ pub(crate) fn is_constant(alloc: Global, array: &ArrayRef) -> Result<bool, FastL
         prove_integers(constant_array);
         return Ok(constant_array.is_constant());
     }
+    if array.len() <= MOST_ITEMS {
+        return constancy::is_constant(alloc, array);
+    }
     Ok(array.to_primitive(alloc)?.is_constant())
 }
 
@@ -265,6 +228,9 @@ pub(crate) fn is_sorted(
     if let Some(constant_array) = array.as_constant() {
         prove_integers(constant_array);
         return Ok(constant_array.is_sorted(strict));
+    }
+    if array.len() <= MOST_ITEMS {
+        return order::is_sorted(alloc, array, strict);
     }
     Ok(array.to_primitive(alloc)?.is_sorted(strict))
 }

@@ -266,7 +266,7 @@ fn with_bit(word: u64, at: usize, on: bool) -> u64
 }
 
 /// The word whose lowest bits are the answers of `bit` at `start` to `start + count - 1`.
-fn word_of<F: Fn(usize) -> bool>(start: usize, count: usize, bit: &F) -> u64
+pub fn word_of<F: Fn(usize) -> bool>(start: usize, count: usize, bit: &F) -> u64
     requires count { count ≤ 64 }
     requires start { start + count < 2 ^ 64 }
     requires callable { (j : ℕ) → j < count → F.pre bit.now (start + j) }

@@ -9,6 +9,7 @@ ghost use Rattle.fl_array.specs.Reads.{AreItemsOf};
 ghost use Rattle.fl_array.specs.Trees.{column};
 
 use crate::array::{ArrayRef, Node};
+use crate::reader::Reader;
 use fastlanes::Work;
 use fl_bitpacking::unpack_iter::BitPacked;
 use fl_column::{ConstantArray, FastLanesError, NativePType, PhysicalPType, PrimitiveArray};
@@ -60,8 +61,8 @@ impl ArrayRef {
     /// not specified; `validity` says which items are null.
     ///
     /// The items are decoded straight into the slice, those of packed blocks and of delta blocks block by block. The
-    /// memory that is allocated is that of boundaries and references, and of the parts of delta and run-length encoded
-    /// arrays that are not primitive. Of a FoR array over any array but a bit-packed one, or over one whose blocks are
+    /// memory that is allocated is that of boundaries, references and bases, and of the parts of run-length encoded
+    /// arrays, that are not primitive. Of a FoR array over any array but a bit-packed one, or over one whose blocks are
     /// not the chunks of its references, the encoded items are decoded into the slice and the references are added there.
     ///
     /// # Errors
@@ -93,7 +94,11 @@ impl ArrayRef {
                 array.prove_smaller();
                 array.decode_into(alloc, values, &mut work)
             }
-            Node::Delta(array) => array.decode_into(alloc, values),
+            Node::Delta(array) => {
+                let reader = Reader::of_deltas(alloc, array)?;
+                reader.decode_into(values, &mut work);
+                Ok(())
+            }
             Node::RLE(array) => array.decode_into(alloc, values),
             Node::Bool(_) => unreachable!(),
         }

@@ -8,23 +8,8 @@ ghost use Rattle.fl_patches.specs.Exceptions.{is_negative};
 ghost use Rattle.fl_bitpacking.specs.Encoders.{list_refusal};
 
 use fl_column::{PrimitiveArray, chunk_count};
-use fl_patches::block_widths;
-use fl_types::{FastLanesError, NativePType, match_each_integer_ptype};
-
-fn has_negative_in<T: NativePType>(array: &PrimitiveArray) -> bool
-    requires { array.now.ptype ≡ T.PTYPE }
-    ensures { result ≡ list_any is_negative (items_of array.now.validity array.now.slots) }
-{
-    let validity = array.validity();
-    block_widths::has_negative(array.as_slice::<T>(), validity)
-}
-
-/// Whether an item of an array that is not null is negative.
-fn has_negative(array: &PrimitiveArray) -> bool
-    ensures { result ≡ list_any is_negative (items_of array.now.validity array.now.slots) }
-{
-    match_each_integer_ptype!(array.ptype(), has_negative_in(array))
-}
+use fl_patches::has_negative;
+use fl_types::FastLanesError;
 
 /// Whether a width is above so many bits.
 fn has_wider(widths: &[u8], bits: usize) -> bool

@@ -1,7 +1,7 @@
 //! Items of packed columns that a mask keeps, block by block: a block without one is skipped, of a block with a
 //! few each is read by itself, and any other block is unpacked.
 
-pub(crate) mod kept_items;
+pub mod kept_items;
 mod patched_part;
 
 ghost use Rattle.std.specs.Prelude.{◌≡◌, ◌+◌, ◌-◌, ◌*◌, ◌/◌, ◌<◌, ◌≤◌, ◌^◌, ℕ, IfOk, IfSome, Ok, OnOk, drop, false, length, map, min, slice_index_or, true, unwrap_or};

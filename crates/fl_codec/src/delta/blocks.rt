@@ -1,6 +1,7 @@
 //! The bases and the deltas of a column, block by block, for those who keep none of them.
 
 ghost use Rattle.std.specs.Prelude.{◌≡◌, ◌*◌, ◌+◌, ◌<◌, IfOk, OnOk, Ok, length, map};
+ghost use Rattle.fl_types.specs.Integers.{read_as};
 ghost use Rattle.fl_types.specs.Refusals.{Answers};
 ghost use Rattle.fl_codec.specs.Chunks.{chunk, chunks_of};
 ghost use Rattle.fl_codec.specs.ForwardFill.{carried_to};
@@ -14,6 +15,25 @@ use fl_column::patterns::push_values;
 use fl_column::{PhysicalPType, PrimitiveArray};
 use fl_types::{FastLanesError, match_each_integer_ptype};
 use std::alloc::{AllocError, Global};
+
+/// Makes the deltas of chunk `k` of a column, as `delta_compress` makes them, in `block`, and returns the chunk's last item,
+/// with which the next chunk begins: for chunk 0 `last` is 0. What is in `stored` does not count, before or after.
+pub fn write_delta_words<T: PhysicalPType>(
+    array: &PrimitiveArray,
+    k: usize,
+    last: T,
+    block: &mut [T::Physical; FL_CHUNK_SIZE],
+    stored: &mut [T::Physical; FL_CHUNK_SIZE],
+) -> T
+    requires same { array.now.ptype ≡ T.PTYPE }
+    requires chunk { k < chunks_of (length array.now.slots) }
+    requires last { T.value last ≡ carried_to (items_of_primitive array.now) k }
+    ensures last { T.value result ≡ carried_to (items_of_primitive array.now) (k + 1) }
+    ensures deltas { map (λ w. read_as T.PTYPE (T.Physical.pattern w)) block.new ≡ chunk k (compress_deltas array.now).1.slots }
+{
+    let _validity = array.validity();
+    encode_chunk(array, k, last, block, stored)
+}
 
 /// Replaces the items of `deltas` by the deltas of chunk `k` of a column, as `delta_compress` makes them, and returns the
 /// chunk's last item, with which the next chunk begins: for chunk 0 `last` is 0. What is in `block` and `stored` does
@@ -32,8 +52,7 @@ pub fn write_deltas<T: PhysicalPType>(
     ensures last { IfOk result (λ x. T.value x ≡ carried_to (items_of_primitive array.now) (k + 1)) }
     ensures deltas { OnOk result (map T.value deltas.new.items ≡ chunk k (compress_deltas array.now).1.slots) }
 {
-    let _validity = array.validity();
-    let last = encode_chunk(array, k, last, block, stored);
+    let last = write_delta_words(array, k, last, block, stored);
     deltas.clear();
     push_values(&block[..], deltas)?;
     Ok(last)

@@ -1,4 +1,4 @@
-//! Columns that are decoded from bases and deltas, into a new array or into a slice of the caller.
+//! Columns that are decoded from bases and deltas.
 
 ghost use Rattle.std.specs.Prelude.{◌≡◌, ◌+◌, ◌*◌, ◌<◌, ◌≤◌, ◌^◌, ℕ, IsTrue, IfOk, Ok, length, map};
 ghost use Rattle.fastlanes.specs.Layout.{pattern_at};
@@ -10,7 +10,7 @@ ghost use Rattle.fl_column.specs.Columns.{column_of_primitive};
 ghost use Rattle.fl_codec.specs.Chunks.{chunks_of};
 ghost use Rattle.fl_codec.specs.Deltas.{delta_column, delta_integer};
 
-use crate::block_items::{patterns_of, push_block, write_block};
+use crate::block_items::{patterns_of, push_block};
 use crate::chunks::chunk_count;
 use crate::plain::under_validity;
 use fastlanes::{FL_CHUNK_SIZE, FastLanes, undelta_to_items};
@@ -38,26 +38,6 @@ fn read_block<T: PhysicalPType>(
     // The deltas are copied first: sums read rows that lie apart, which takes longer from memory.
     write_patterns(&deltas[start..start + FL_CHUNK_SIZE], differences);
     undelta_to_items(differences, first, block);
-}
-
-/// Writes the items of delta blocks from `offset` on, as many as there are values: each is its lane's base and the
-/// deltas of the rows up to its own, modulo 2 to the type's bits. Nothing is allocated.
-///
-/// There are enough bases and deltas, and the offset is below 1024.
-pub fn decompress_into<T: PhysicalPType>(bases: &[T], deltas: &[T], offset: usize, values: &mut [T])
-    requires offset { offset < 1024 }
-    requires few { offset + length values.old < 2 ^ 64 }
-    requires bases { chunks_of (offset + length values.old) * lanes_of_type T.PTYPE ≤ length bases.now }
-    requires deltas { 1024 * chunks_of (offset + length values.old) ≤ length deltas.now }
-    ensures { map T.value values.new ≡ tabulate (λ i. delta_integer T.PTYPE (map T.value bases.now) (map T.value deltas.now) (offset + i)) (length values.old) }
-{
-    let mut row = [T::Physical::zero(); FL_CHUNK_SIZE];
-    let mut differences = [T::Physical::zero(); FL_CHUNK_SIZE];
-    let mut block = [T::Physical::zero(); FL_CHUNK_SIZE];
-    for j in 0..chunk_count(offset + values.len()) {
-        read_block(bases, deltas, j, &mut row, &mut differences, &mut block);
-        write_block(&block, j, offset, values);
-    }
 }
 
 fn decompress_typed<T: PhysicalPType>(

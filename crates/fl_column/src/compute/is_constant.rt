@@ -11,7 +11,7 @@ use crate::selection::item_at;
 use fl_types::{NativePType, PrimitiveBuffer, Validity, is_equal, match_each_integer_ptype};
 
 /// Whether two items are equal; a null equals a null.
-fn is_same_item<T: NativePType>(x: Option<T>, y: Option<T>) -> bool
+pub fn is_same_item<T: NativePType>(x: Option<T>, y: Option<T>) -> bool
     ensures { result ≡ same_item (option_map T.value x) (option_map T.value y) }
 {
     match (x, y) {

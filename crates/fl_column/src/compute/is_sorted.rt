@@ -21,8 +21,8 @@ fn is_item_below<T: NativePType>(x: Option<T>, y: Option<T>) -> bool
     }
 }
 
-/// Whether an item may stand before the next one.
-fn is_in_order<T: NativePType>(strict: bool, x: Option<T>, y: Option<T>) -> bool
+/// Whether an item may stand before the next one: it is not above it or, if `strict`, below it. A null is below every integer.
+pub fn is_in_order<T: NativePType>(strict: bool, x: Option<T>, y: Option<T>) -> bool
     ensures { result ≡ in_order strict (option_map T.value x) (option_map T.value y) }
 {
     if strict {

@@ -8,7 +8,7 @@ use fl_types::{BitList, NativePType};
 use std::alloc::AllocError;
 
 /// How many of the `count` booleans from `from` on are true.
-pub(crate) fn count_between(bits: &BitList, from: usize, count: usize) -> usize
+pub fn count_between(bits: &BitList, from: usize, count: usize) -> usize
     requires { from + count ≤ length bits.now }
     ensures { result ≡ true_count (between from (from + count) bits.now) }
 {
@@ -37,7 +37,7 @@ fn push_set<T: NativePType>(taken: &mut Vec<T>, items: &[T], word: u64)
 }
 
 /// Appends the items whose booleans are true, of which the first is that at `from`.
-pub(crate) fn push_kept<T: NativePType>(
+pub fn push_kept<T: NativePType>(
     taken: &mut Vec<T>,
     items: &[T],
     bits: &BitList,

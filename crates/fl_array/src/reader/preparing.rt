@@ -1,0 +1,270 @@
+//! Readers that are made of arrays.
+
+ghost use Rattle.std.specs.Prelude.{◌≡◌, IfSome, Ok};
+ghost use Rattle.std.specs.Option.{option_copied};
+ghost use Rattle.fl_types.specs.Refusals.{Answers};
+ghost use Rattle.fl_types.specs.Values.{integer_of, ptype_of_value, scalar_parts};
+ghost use Rattle.fl_column.specs.Columns.{column_of_constant, column_of_primitive, ptype_of_column};
+ghost use Rattle.fl_codec.specs.FoRColumns.{chunked_for, global_for};
+ghost use Rattle.fl_bitpacking.specs.Columns.{block_count};
+ghost use Rattle.fl_array.specs.BitPackedArrays.{tree_of_bitpacked};
+ghost use Rattle.fl_array.specs.BlockWidths.{AreBlockWidths};
+ghost use Rattle.fl_array.specs.DeltaArrays.{tree_of_delta};
+ghost use Rattle.fl_array.specs.FoRArrays.{ChunkReferences, GlobalReference, offset_of_references, tree_of_for};
+ghost use Rattle.fl_array.specs.PackedSums.{AreHeldReferences, plus_held};
+ghost use Rattle.fl_array.specs.PrimitiveCows.{primitive_of_cow};
+ghost use Rattle.fl_array.specs.ReaderParts.{AreDeltaParts, AreReferences};
+ghost use Rattle.fl_array.specs.Reads.{integer_column};
+ghost use Rattle.fl_array.specs.Trees.{column};
+
+use crate::array::primitive_cow::PrimitiveCow;
+use crate::array::{ArrayRef, Node};
+use crate::bitpacking::BitPackedArray;
+use crate::bitpacking::block_widths::BlockWidths;
+use crate::delta::DeltaArray;
+use crate::for_::{FoRArray, FoRReferences};
+use crate::reader::packed::{HeldReferences, PackedSums};
+use crate::reader::{Part, Reader};
+use fl_column::{ConstantArray, FastLanesError, PValue, PrimitiveArray, Scalar};
+use std::alloc::Global;
+
+/// The column of a constant array is of integers.
+fn prove_integers(constant: &ConstantArray)
+    ensures { integer_column (column_of_constant constant.now) ≡ Ok (column_of_constant constant.now) }
+{
+    let _ptype = constant.ptype();
+}
+
+/// A FoR array of one reference, and its encoded items, are of integers of the reference's type.
+fn reference_of(array: &FoRArray, reference: &Scalar) -> PValue
+    requires { GlobalReference (scalar_parts reference.now) ≡ array.now.references }
+    ensures typed { ptype_of_value result ≡ ptype_of_column (column array.now.encoded) }
+    ensures sums { global_for (integer_of result) (column array.now.encoded) ≡ column (tree_of_for array.now) }
+    ensures integers { integer_column (column array.now.encoded) ≡ Ok (column array.now.encoded) }
+{
+    array.prove_well_formed();
+    match reference.as_pvalue() {
+        Some(value) => value,
+        None => unreachable!(),
+    }
+}
+
+/// The decoded references are those of the chunks of the encoded items.
+fn prove_references(array: &FoRArray, references: &ArrayRef, plain: &PrimitiveArray)
+    requires same { ChunkReferences references.now (offset_of_references array.now.references) ≡ array.now.references }
+    requires plain { Ok (column_of_primitive plain.now) ≡ integer_column (column references.now) }
+    ensures chunks { AreReferences plain.now (offset_of_references array.now.references) (column array.now.encoded) }
+    ensures sums { chunked_for plain.now.slots (offset_of_references array.now.references) (column array.now.encoded) ≡ column (tree_of_for array.now) }
+    ensures integers { integer_column (column array.now.encoded) ≡ Ok (column array.now.encoded) }
+{
+    array.prove_well_formed();
+    let _count = plain.len();
+}
+
+/// The decoded bases, and a reader of the deltas, are the parts of a reader of a delta array.
+fn prove_deltas(array: &DeltaArray, bases: &PrimitiveArray, deltas: &Reader)
+    requires bases { Ok (column_of_primitive bases.now) ≡ integer_column (column array.now.bases) }
+    requires deltas { Ok deltas.now.column ≡ integer_column (column array.now.deltas) }
+    ensures { AreDeltaParts array.now bases.now deltas.now.column }
+{
+    array.prove_integers();
+    array.deltas().prove_no_nulls();
+}
+
+impl<'a> Reader<'a> {
+    /// The reader of packed items, plus references, if there are any.
+    fn packed(
+        array: &'a BitPackedArray,
+        widths: BlockWidths<'a>,
+        references: HeldReferences<'a>,
+    ) -> Reader<'a>
+        requires widths { AreBlockWidths array.now widths }
+        requires references { AreHeldReferences array.now.parts.ptype (block_count array.now.parts) references }
+        ensures { result.column ≡ plus_held references.entry array.now.parts.offset (column (tree_of_bitpacked array.now)) }
+    {
+        Reader {
+            part: Part::Packed(PackedSums {
+                array,
+                widths,
+                added: references,
+            }),
+        }
+    }
+
+    /// The reader that adds a reference to the items of another one.
+    fn plus(
+        alloc: Global,
+        encoded: Reader<'a>,
+        reference: PValue,
+    ) -> Result<Reader<'a>, FastLanesError>
+        requires { ptype_of_value reference ≡ ptype_of_column encoded.column }
+        ensures { Answers (λ r. r.column) result (Ok (global_for (integer_of reference) encoded.entry.column)) }
+    {
+        let encoded = Box::new(alloc, encoded)?;
+        Ok(Reader {
+            part: Part::FoR(reference, encoded),
+        })
+    }
+
+    /// The reader that adds the references of chunks to the items of another one.
+    fn plus_chunked(
+        alloc: Global,
+        encoded: Reader<'a>,
+        references: PrimitiveCow<'a>,
+        offset: usize,
+    ) -> Result<Reader<'a>, FastLanesError>
+        requires { AreReferences (primitive_of_cow references) offset encoded.column }
+        ensures { Answers (λ r. r.column) result (Ok (chunked_for (primitive_of_cow references.entry).slots offset encoded.entry.column)) }
+    {
+        let encoded = Box::new(alloc, encoded)?;
+        Ok(Reader {
+            part: Part::FoRChunked(references, offset, encoded),
+        })
+    }
+
+    /// The reader of a delta array.
+    fn summed(
+        alloc: Global,
+        array: &'a DeltaArray,
+        bases: PrimitiveCow<'a>,
+        deltas: Reader<'a>,
+    ) -> Result<Reader<'a>, FastLanesError>
+        requires { AreDeltaParts array.now (primitive_of_cow bases) deltas.column }
+        ensures { Answers (λ r. r.column) result (Ok (column (tree_of_delta array.now))) }
+    {
+        let deltas = Box::new(alloc, deltas)?;
+        Ok(Reader {
+            part: Part::Delta(array, bases, deltas),
+        })
+    }
+
+    /// The reader of a bit-packed array.
+    fn of_packed(alloc: Global, array: &'a BitPackedArray) -> Result<Reader<'a>, FastLanesError>
+        ensures { Answers (λ r. r.column) result (Ok (column (tree_of_bitpacked array.now))) }
+    {
+        let widths = array.widths(alloc)?;
+        Ok(Reader::packed(array, widths, HeldReferences::None))
+    }
+
+    /// The reader of a bit-packed array, to whose items one reference is added.
+    fn of_packed_for(
+        alloc: Global,
+        sums: &FoRArray,
+        packed: &'a BitPackedArray,
+        reference: &Scalar,
+    ) -> Result<Reader<'a>, FastLanesError>
+        requires same { GlobalReference (scalar_parts reference.now) ≡ sums.now.references }
+        requires packed { tree_of_bitpacked packed.now ≡ sums.now.encoded }
+        ensures { Answers (λ r. r.column) result (Ok (column (tree_of_for sums.now))) }
+    {
+        let reference = sums.reference_of_packed(packed, reference);
+        let widths = packed.widths(alloc)?;
+        Ok(Reader::packed(packed, widths, HeldReferences::Global(reference)))
+    }
+
+    /// The reader of a bit-packed array, to the items of whose blocks their references are added.
+    fn of_packed_chunks(
+        alloc: Global,
+        sums: &FoRArray,
+        packed: &'a BitPackedArray,
+        references: &'a ArrayRef,
+    ) -> Result<Reader<'a>, FastLanesError>
+        requires same { ChunkReferences references.now (offset_of_references sums.now.references) ≡ sums.now.references }
+        requires packed { tree_of_bitpacked packed.now ≡ sums.now.encoded }
+        requires offset { packed.now.parts.offset ≡ offset_of_references sums.now.references }
+        ensures { Answers (λ r. r.column) result (Ok (column (tree_of_for sums.now))) }
+    {
+        sums.prove_references_are_integers(references);
+        let plain = references.primitive_cow(alloc)?;
+        sums.prove_references_of_blocks(packed, references, plain.array());
+        let widths = packed.widths(alloc)?;
+        Ok(Reader::packed(packed, widths, HeldReferences::PerBlock(plain)))
+    }
+
+    /// The reader of a FoR array.
+    #[cycle(preparing)]
+    fn of_for(alloc: Global, sums: &'a FoRArray) -> Result<Reader<'a>, FastLanesError>
+        ensures { Answers (λ r. r.column) result (Ok (column (tree_of_for sums.now))) }
+    {
+        match sums.references() {
+            FoRReferences::Global(reference) => match sums.encoded().as_bitpacked() {
+                Some(packed) => Reader::of_packed_for(alloc, sums, packed, reference),
+                None => {
+                    let reference = reference_of(sums, reference);
+                    let encoded = Reader::try_new(alloc, sums.encoded())?;
+                    Reader::plus(alloc, encoded, reference)
+                }
+            },
+            FoRReferences::Blocked(references) => match sums.packed_in_chunks() {
+                Some(packed) => Reader::of_packed_chunks(alloc, sums, packed, references),
+                None => {
+                    sums.prove_references_are_integers(references);
+                    let plain = references.primitive_cow(alloc)?;
+                    prove_references(sums, references, plain.array());
+                    let encoded = Reader::try_new(alloc, sums.encoded())?;
+                    Reader::plus_chunked(alloc, encoded, plain, sums.offset())
+                }
+            },
+        }
+    }
+
+    /// The reader of a delta array: its bases are decoded, and its deltas have a reader.
+    #[cycle(preparing)]
+    pub(crate) fn of_deltas(
+        alloc: Global,
+        array: &'a DeltaArray,
+    ) -> Result<Reader<'a>, FastLanesError>
+        ensures { Answers (λ r. r.column) result (Ok (column (tree_of_delta array.now))) }
+    {
+        array.prove_integers();
+        let bases = array.bases().primitive_cow(alloc)?;
+        let deltas = Reader::try_new(alloc, array.deltas())?;
+        prove_deltas(array, bases.array(), &deltas);
+        Reader::summed(alloc, array, bases, deltas)
+    }
+
+    /// The reader of decoded items.
+    fn decoded(alloc: Global, array: &ArrayRef) -> Result<Reader<'a>, FastLanesError>
+        ensures { Answers (λ r. r.column) result (integer_column (column array.now)) }
+    {
+        let plain = array.to_primitive(alloc)?;
+        Ok(Reader {
+            part: Part::Decoded(plain),
+        })
+    }
+
+    /// A reader of an array of integers. This alone allocates: what the encodings need beside the stored items.
+    ///
+    /// # Errors
+    /// `NotInteger` if the array is of booleans.
+    #[cycle(preparing)]
+    pub fn try_new(alloc: Global, array: &'a ArrayRef) -> Result<Reader<'a>, FastLanesError>
+        ensures { Answers (λ r. r.column) result (integer_column (column array.now)) }
+    {
+        match array.node() {
+            Node::Primitive(plain) => Ok(Reader {
+                part: Part::Primitive(plain),
+            }),
+            Node::Constant(constant) => {
+                prove_integers(constant);
+                Ok(Reader {
+                    part: Part::Constant(constant),
+                })
+            }
+            Node::BitPacked(packed) => {
+                packed.prove_integers();
+                Reader::of_packed(alloc, packed)
+            }
+            Node::FoR(sums) => {
+                sums.prove_integers();
+                sums.prove_smaller();
+                Reader::of_for(alloc, sums)
+            }
+            Node::Delta(deltas) => {
+                deltas.prove_integers();
+                Reader::of_deltas(alloc, deltas)
+            }
+            _ => Reader::decoded(alloc, array),
+        }
+    }
+}
