@@ -45,9 +45,9 @@ extern "C" {
 
 /* The version of the library. */
 #define FLCOL_VERSION_MAJOR 1
-#define FLCOL_VERSION_MINOR 1
+#define FLCOL_VERSION_MINOR 2
 #define FLCOL_VERSION_PATCH 0
-#define FLCOL_VERSION "1.1.0"
+#define FLCOL_VERSION "1.2.0"
 
 /* The version of this interface. */
 #define FLCOL_ABI_VERSION 2
@@ -339,6 +339,82 @@ int32_t flcol_between_i32(flcol_array *array, int32_t lower, int32_t upper, uint
                           uint8_t *bits, size_t bits_len, uint8_t *validity, size_t validity_len);
 int32_t flcol_between_i64(flcol_array *array, int64_t lower, int64_t upper, uint8_t lower_strict, uint8_t upper_strict,
                           uint8_t *bits, size_t bits_len, uint8_t *validity, size_t validity_len);
+
+/* ---- Aggregates ---- */
+
+/* How many items are valid and compare so with a constant. FLCOL_NO_ARRAY. FLCOL_BAD_OPERATOR. FLCOL_WRONG_TYPE. */
+int32_t flcol_count_u8(flcol_array *array, uint8_t op, uint8_t constant, size_t *count);
+int32_t flcol_count_u16(flcol_array *array, uint8_t op, uint16_t constant, size_t *count);
+int32_t flcol_count_u32(flcol_array *array, uint8_t op, uint32_t constant, size_t *count);
+int32_t flcol_count_u64(flcol_array *array, uint8_t op, uint64_t constant, size_t *count);
+int32_t flcol_count_i8(flcol_array *array, uint8_t op, int8_t constant, size_t *count);
+int32_t flcol_count_i16(flcol_array *array, uint8_t op, int16_t constant, size_t *count);
+int32_t flcol_count_i32(flcol_array *array, uint8_t op, int32_t constant, size_t *count);
+int32_t flcol_count_i64(flcol_array *array, uint8_t op, int64_t constant, size_t *count);
+
+/* How many items are valid and lie between two bounds. A bound is left out where its `strict` is not 0.
+   FLCOL_NO_ARRAY. FLCOL_WRONG_TYPE. */
+int32_t flcol_count_between_u8(flcol_array *array, uint8_t lower, uint8_t upper, uint8_t lower_strict,
+                          uint8_t upper_strict, size_t *count);
+int32_t flcol_count_between_u16(flcol_array *array, uint16_t lower, uint16_t upper, uint8_t lower_strict,
+                          uint8_t upper_strict, size_t *count);
+int32_t flcol_count_between_u32(flcol_array *array, uint32_t lower, uint32_t upper, uint8_t lower_strict,
+                          uint8_t upper_strict, size_t *count);
+int32_t flcol_count_between_u64(flcol_array *array, uint64_t lower, uint64_t upper, uint8_t lower_strict,
+                          uint8_t upper_strict, size_t *count);
+int32_t flcol_count_between_i8(flcol_array *array, int8_t lower, int8_t upper, uint8_t lower_strict,
+                          uint8_t upper_strict, size_t *count);
+int32_t flcol_count_between_i16(flcol_array *array, int16_t lower, int16_t upper, uint8_t lower_strict,
+                          uint8_t upper_strict, size_t *count);
+int32_t flcol_count_between_i32(flcol_array *array, int32_t lower, int32_t upper, uint8_t lower_strict,
+                          uint8_t upper_strict, size_t *count);
+int32_t flcol_count_between_i64(flcol_array *array, int64_t lower, int64_t upper, uint8_t lower_strict,
+                          uint8_t upper_strict, size_t *count);
+
+/* The least and the greatest valid item, and 0; or two zeros and 1, where no item is valid. FLCOL_NO_ARRAY. FLCOL_WRONG_TYPE. */
+int32_t flcol_min_max_u8(flcol_array *array, uint8_t *least, uint8_t *greatest, uint8_t *is_none);
+int32_t flcol_min_max_u16(flcol_array *array, uint16_t *least, uint16_t *greatest, uint8_t *is_none);
+int32_t flcol_min_max_u32(flcol_array *array, uint32_t *least, uint32_t *greatest, uint8_t *is_none);
+int32_t flcol_min_max_u64(flcol_array *array, uint64_t *least, uint64_t *greatest, uint8_t *is_none);
+int32_t flcol_min_max_i8(flcol_array *array, int8_t *least, int8_t *greatest, uint8_t *is_none);
+int32_t flcol_min_max_i16(flcol_array *array, int16_t *least, int16_t *greatest, uint8_t *is_none);
+int32_t flcol_min_max_i32(flcol_array *array, int32_t *least, int32_t *greatest, uint8_t *is_none);
+int32_t flcol_min_max_i64(flcol_array *array, int64_t *least, int64_t *greatest, uint8_t *is_none);
+
+/* The sum of the valid items, exactly, of an array of a type without a sign, and of one with a sign: high * 2^64 + low.
+   FLCOL_NO_ARRAY. FLCOL_WRONG_TYPE: the type is of the other sign, or booleans. */
+int32_t flcol_sum_unsigned(flcol_array *array, uint64_t *high, uint64_t *low);
+int32_t flcol_sum_signed(flcol_array *array, int64_t *high, uint64_t *low);
+
+/* A plain array of the valid items that compare so with a constant, in their order; its type is that of the array.
+   FLCOL_NO_ARRAY. FLCOL_BAD_OPERATOR. FLCOL_WRONG_TYPE. */
+int32_t flcol_filter_by_u8(flcol_array *array, uint8_t op, uint8_t constant, flcol_array *out);
+int32_t flcol_filter_by_u16(flcol_array *array, uint8_t op, uint16_t constant, flcol_array *out);
+int32_t flcol_filter_by_u32(flcol_array *array, uint8_t op, uint32_t constant, flcol_array *out);
+int32_t flcol_filter_by_u64(flcol_array *array, uint8_t op, uint64_t constant, flcol_array *out);
+int32_t flcol_filter_by_i8(flcol_array *array, uint8_t op, int8_t constant, flcol_array *out);
+int32_t flcol_filter_by_i16(flcol_array *array, uint8_t op, int16_t constant, flcol_array *out);
+int32_t flcol_filter_by_i32(flcol_array *array, uint8_t op, int32_t constant, flcol_array *out);
+int32_t flcol_filter_by_i64(flcol_array *array, uint8_t op, int64_t constant, flcol_array *out);
+
+/* A plain array of the valid items that lie between two bounds, in their order; its type is that of the array. A bound is
+   left out where its `strict` is not 0. FLCOL_NO_ARRAY. FLCOL_WRONG_TYPE. */
+int32_t flcol_filter_between_u8(flcol_array *array, uint8_t lower, uint8_t upper, uint8_t lower_strict,
+                          uint8_t upper_strict, flcol_array *out);
+int32_t flcol_filter_between_u16(flcol_array *array, uint16_t lower, uint16_t upper, uint8_t lower_strict,
+                          uint8_t upper_strict, flcol_array *out);
+int32_t flcol_filter_between_u32(flcol_array *array, uint32_t lower, uint32_t upper, uint8_t lower_strict,
+                          uint8_t upper_strict, flcol_array *out);
+int32_t flcol_filter_between_u64(flcol_array *array, uint64_t lower, uint64_t upper, uint8_t lower_strict,
+                          uint8_t upper_strict, flcol_array *out);
+int32_t flcol_filter_between_i8(flcol_array *array, int8_t lower, int8_t upper, uint8_t lower_strict,
+                          uint8_t upper_strict, flcol_array *out);
+int32_t flcol_filter_between_i16(flcol_array *array, int16_t lower, int16_t upper, uint8_t lower_strict,
+                          uint8_t upper_strict, flcol_array *out);
+int32_t flcol_filter_between_i32(flcol_array *array, int32_t lower, int32_t upper, uint8_t lower_strict,
+                          uint8_t upper_strict, flcol_array *out);
+int32_t flcol_filter_between_i64(flcol_array *array, int64_t lower, int64_t upper, uint8_t lower_strict,
+                          uint8_t upper_strict, flcol_array *out);
 
 /* ---- Answers ---- */
 

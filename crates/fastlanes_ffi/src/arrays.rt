@@ -34,6 +34,10 @@ enum Encoding {
     ChunkedFoR,
     Delta,
     RLE,
+    /// Delta over deltas that are bit-packed at the width of least cost.
+    PackedDelta,
+    /// Run-length encoded over run indices that are bit-packed at the width of least cost.
+    PackedRLE,
 }
 
 impl Encoding {
@@ -49,6 +53,8 @@ impl Encoding {
             6 => Some(Encoding::ChunkedFoR),
             7 => Some(Encoding::Delta),
             8 => Some(Encoding::RLE),
+            9 => Some(Encoding::PackedDelta),
+            10 => Some(Encoding::PackedRLE),
             _ => None,
         }
     }
@@ -90,6 +96,44 @@ fn packed_for(alloc: Global, array: &PrimitiveArray, width: u8) -> Result<ArrayR
     Ok(FoR::try_new(alloc, packed.into_array(), *reference)?.into_array())
 }
 
+/// The delta array whose deltas are packed at the width of least cost.
+fn packed_delta(alloc: Global, array: &PrimitiveArray) -> Result<ArrayRef, FastLanesError>
+    ensures { IfOk result (λ a. column a ≡ column_of_primitive array.now) }
+{
+    let plain = Delta::try_from_primitive_array(alloc, array)?;
+    let bases = plain.bases().try_clone(alloc)?;
+    let deltas = bitpack_to_best_bit_width(alloc, &plain.deltas().to_primitive(alloc)?)?;
+    let validity = plain.validity().try_clone(alloc)?;
+    let packed = Delta::try_new(
+        alloc,
+        bases,
+        deltas.into_array(),
+        validity,
+        plain.offset(),
+        plain.len(),
+    )?;
+    Ok(packed.into_array())
+}
+
+/// The run-length encoded array whose run indices are packed at the width of least cost.
+fn packed_rle(alloc: Global, array: &PrimitiveArray) -> Result<ArrayRef, FastLanesError>
+    ensures { IfOk result (λ a. column a ≡ column_of_primitive array.now) }
+{
+    let plain = RLE::encode(alloc, array)?;
+    let values = plain.values().try_clone(alloc)?;
+    let indices = bitpack_to_best_bit_width(alloc, &plain.indices().to_primitive(alloc)?)?;
+    let offsets = plain.offsets().try_clone(alloc)?;
+    let packed = RLE::try_new(
+        alloc,
+        values,
+        indices.into_array(),
+        offsets,
+        plain.offset(),
+        plain.len(),
+    )?;
+    Ok(packed.into_array())
+}
+
 /// The array in an encoding. Only those that are packed at a width look at it.
 fn encode(
     alloc: Global,
@@ -109,6 +153,8 @@ fn encode(
         Encoding::ChunkedFoR => Ok(FoR::encode_chunked(alloc, array)?.into_array()),
         Encoding::Delta => Ok(Delta::try_from_primitive_array(alloc, array)?.into_array()),
         Encoding::RLE => Ok(RLE::encode(alloc, array)?.into_array()),
+        Encoding::PackedDelta => packed_delta(alloc, array),
+        Encoding::PackedRLE => packed_rle(alloc, array),
     }
 }
 

@@ -8,9 +8,8 @@ use Rattle.fl_column.specs.Columns.{PrimitiveParts}
 use Rattle.fl_bitpacking.specs.Encoders.{AnswersUnless}
 use Rattle.fl_array.specs.Reads.{integer_column}
 use Rattle.fl_array.specs.Trees.{Tree, column}
-use Rattle.fl_encode.specs.declared.scheme.Scheme.{Scheme}
 use Rattle.fl_encode.specs.Encodings.{EncodesAs, encode_refusal}
-use Rattle.fl_encode.specs.Shapes.{Shape, shape}
+use Rattle.fl_encode.specs.Shapes.{Shape}
 use Rattle.fl_encode.specs.Texts.{scheme_of_text}
 use Rattle.flcol_c.specs.declared.fault.Fault.{Fault}
 use Rattle.flcol_c.specs.declared.fault.Fault.TheVariants.{BadScheme, Refused}
@@ -33,20 +32,20 @@ unless_err None e h other = absurd (other h)
 unless_err (Some refusal) e h other = ap (λ x. Some x) (sym (h other))
 
 -- an array that was encoded
-pub encoding_given : (t : Tree) (scheme : Scheme) (plain : PrimitiveParts) (encoded : Tree) → IsSimplestOf (column t) plain → EncodesAs scheme plain (Ok encoded) → GivesEncoding (Ok (shape scheme)) t (Ok encoded)
+pub encoding_given : (t : Tree) (scheme : Shape) (plain : PrimitiveParts) (encoded : Tree) → IsSimplestOf (column t) plain → EncodesAs scheme plain (Ok encoded) → GivesEncoding (Ok scheme) t (Ok encoded)
 encoding_given t scheme plain encoded simplest made = (scheme, plain, refl, simplest, unless_ok (encode_refusal scheme plain) encoded made.refused, made.form, made.stands_for ∙ simplest.0)
 
 -- a refusal of the scheme
-pub scheme_refused : (t : Tree) (scheme : Scheme) (plain : PrimitiveParts) (e : FastLanesError) → refusal_in (integer_column (column t)) ≡ None → IsSimplestOf (column t) plain → EncodesAs scheme plain (Err e) → GivesEncoding (Ok (shape scheme)) t (Err (Refused e))
+pub scheme_refused : (t : Tree) (scheme : Shape) (plain : PrimitiveParts) (e : FastLanesError) → refusal_in (integer_column (column t)) ≡ None → IsSimplestOf (column t) plain → EncodesAs scheme plain (Err e) → GivesEncoding (Ok scheme) t (Err (Refused e))
 scheme_refused t scheme plain e integers simplest made = λ (other : Refused e ≢ Refused OutOfMemory).
     let known = integers_of (is_integer (column t).dtype) (column t) integers in
     let kept : e ≢ OutOfMemory = λ (is : e ≡ OutOfMemory). other (ap Refused is) in (
       λ booleans. absurd (let wrong : true ≡ false = not_both (is_integer (column t).dtype) known booleans in let none : ⊥ = cc in none),
-      λ whole. (e, refl, (scheme, plain, refl, simplest, unless_err (encode_refusal scheme plain) e made.refused kept)),
+      λ whole. (e, refl, (plain, simplest, unless_err (encode_refusal scheme plain) e made.refused kept)),
     )
 
 -- a refusal of booleans
-pub booleans_refused : (t : Tree) (scheme : Scheme) (fault : Fault) → (fault ≢ Refused OutOfMemory → refusal_in (integer_column (column t)) ≡ Some fault) → GivesEncoding (Ok (shape scheme)) t (Err fault)
+pub booleans_refused : (t : Tree) (scheme : Shape) (fault : Fault) → (fault ≢ Refused OutOfMemory → refusal_in (integer_column (column t)) ≡ Some fault) → GivesEncoding (Ok scheme) t (Err fault)
 booleans_refused t scheme fault refused = λ (other : fault ≢ Refused OutOfMemory).
     let known = booleans_of (is_integer (column t).dtype) (column t) fault (refused other) in
     (λ booleans. known.1, λ integers. absurd (let wrong : true ≡ false = not_both (is_integer (column t).dtype) integers known.0 in let none : ⊥ = cc in none))

@@ -5,9 +5,8 @@ use Rattle.fl_types.specs.declared.error.FastLanesError.TheVariants.{NotInteger,
 use Rattle.fl_types.specs.Types.{is_integer}
 use Rattle.fl_column.specs.Columns.{PrimitiveParts}
 use Rattle.fl_array.specs.Trees.{Tree, column}
-use Rattle.fl_encode.specs.declared.scheme.Scheme.{Scheme}
 use Rattle.fl_encode.specs.Encodings.{IsEncodedAs, encode_refusal}
-use Rattle.fl_encode.specs.Shapes.{Shape, shape}
+use Rattle.fl_encode.specs.Shapes.{Shape}
 use Rattle.fl_encode.specs.Texts.{says_children, scheme_of_text}
 use Rattle.flcol_c.specs.declared.fault.Fault.{Fault}
 use Rattle.flcol_c.specs.declared.fault.Fault.TheVariants.{BadScheme, NoArray, Refused}
@@ -17,19 +16,19 @@ use Rattle.flcol_c.specs.Statuses.{status_of}
 -- the array is made by the scheme that was read of a plain array of the same column with the simplest validity, and has that column
 abbrev pub IsEncodingOf : Result Shape ℕ → Tree → Tree → Type 0
 IsEncodingOf read t encoded =
-    (scheme : Scheme) × (plain : PrimitiveParts) × (read ≡ Ok (shape scheme)) × IsSimplestOf (column t) plain
+    (scheme : Shape) × (plain : PrimitiveParts) × (read ≡ Ok scheme) × IsSimplestOf (column t) plain
     × (encode_refusal scheme plain ≡ None) × IsEncodedAs scheme plain encoded × (column encoded ≡ column t)
 
--- a scheme of this shape refuses such a plain array
+-- the scheme refuses such a plain array
 abbrev pub IsRefusedBy : Shape → Tree → FastLanesError → Type 0
-IsRefusedBy form t refusal = (scheme : Scheme) × (plain : PrimitiveParts) × (shape scheme ≡ form) × IsSimplestOf (column t) plain × (encode_refusal scheme plain ≡ Some refusal)
+IsRefusedBy scheme t refusal = (plain : PrimitiveParts) × IsSimplestOf (column t) plain × (encode_refusal scheme plain ≡ Some refusal)
 
 -- what a scheme that was read does not encode an array with: booleans are refused, else the scheme refuses
 abbrev pub IsFaultOf : Result Shape ℕ → Tree → Fault → Type 0
 IsFaultOf (Err position) t fault = fault ≡ BadScheme
-IsFaultOf (Ok form) t fault =
+IsFaultOf (Ok scheme) t fault =
     (is_integer (column t).dtype ≡ false → fault ≡ Refused NotInteger)
-    × (is_integer (column t).dtype ≡ true → (refusal : FastLanesError) × (fault ≡ Refused refusal) × IsRefusedBy form t refusal)
+    × (is_integer (column t).dtype ≡ true → (refusal : FastLanesError) × (fault ≡ Refused refusal) × IsRefusedBy scheme t refusal)
 
 -- an array was encoded by the scheme that was read, or the first fault answered, unless memory ran out
 abbrev pub GivesEncoding : Result Shape ℕ → Tree → Result Tree Fault → Type 0

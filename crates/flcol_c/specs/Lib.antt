@@ -1,4 +1,5 @@
 pub mod Answering
+pub mod Aggregates
 pub mod Bitmaps
 pub mod Containers
 pub mod Encoding

@@ -20,7 +20,7 @@ use fl_ops::ArrayOps;
 use std::alloc::Global;
 
 /// The operator that a number names, if there is one.
-fn operator_of(number: u8) -> Option<CompareOperator>
+pub(crate) fn operator_of(number: u8) -> Option<CompareOperator>
     ensures { result ≡ operator_of number }
 {
     match number {
@@ -42,6 +42,16 @@ fn strictness_of(number: u8) -> StrictComparison
         StrictComparison::NonStrict
     } else {
         StrictComparison::Strict
+    }
+}
+
+/// How two bounds are meant, each left out where its number is not 0.
+pub(crate) fn options_of(lower: u8, upper: u8) -> BetweenOptions
+    ensures { result ≡ options_of lower upper }
+{
+    BetweenOptions {
+        lower_strict: strictness_of(lower),
+        upper_strict: strictness_of(upper),
     }
 }
 
@@ -105,10 +115,7 @@ pub(crate) fn between<T: NativePType>(
     }
     let lower = Scalar::primitive(bounds.0.into_pvalue(), Nullability::NonNullable);
     let upper = Scalar::primitive(bounds.1.into_pvalue(), Nullability::NonNullable);
-    let options = BetweenOptions {
-        lower_strict: strictness_of(strict.0),
-        upper_strict: strictness_of(strict.1),
-    };
+    let options = options_of(strict.0, strict.1);
     let answers = array.between(alloc, &lower, &upper, &options)?;
     let _count = answers.len();
     write_booleans(&answers, bits, validity)

@@ -1,5 +1,6 @@
 //! The calls that C makes.
 
+pub mod aggregates;
 pub mod answers;
 pub mod blocks;
 pub mod encode;

@@ -1,7 +1,7 @@
 //! Arrays encoded by the text of a scheme.
 
 ghost use Rattle.std.specs.Prelude.{◌≡◌, Err, Ok};
-ghost use Rattle.fl_encode.specs.Shapes.{shape};
+ghost use Rattle.fl_encode.specs.SchemeShapes.{shape};
 ghost use Rattle.fl_encode.specs.Texts.{scheme_of_text};
 ghost use Rattle.flcol_c.specs.declared.fault.Fault.TheVariants.{BadScheme};
 ghost use Rattle.flcol_c.specs.Encoding.{GivesEncoding, IsWrongAtOnce};

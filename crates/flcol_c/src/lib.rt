@@ -1,6 +1,7 @@
 //! Columns for C: arrays that C holds by a word, and what can be asked of them. `include/flcol.h` declares the calls.
 #![tactic(auto)]
 
+mod aggregates;
 mod answering;
 mod bitmaps;
 mod blocks;

@@ -38,6 +38,8 @@ pub use Rattle.fl_codec.specs.ChunkSlices
 pub use Rattle.fl_codec.specs.Chunks as EncodedChunks
 pub use Rattle.fl_codec.specs.DeltaRefusals
 pub use Rattle.fl_codec.specs.Deltas
+pub use Rattle.fl_codec.specs.Dictionaries
+pub use Rattle.fl_codec.specs.Distinct
 pub use Rattle.fl_codec.specs.FoRColumns
 pub use Rattle.fl_codec.specs.FoRValues
 pub use Rattle.fl_codec.specs.ForwardFill
@@ -102,6 +104,9 @@ pub use Rattle.fl_array.specs.WellFormed
 pub use Rattle.fl_encode.specs.Encodings as Schemes
 pub use Rattle.fl_encode.specs.Grammar as SchemeGrammar
 pub use Rattle.fl_encode.specs.Packings
+pub use Rattle.fl_encode.specs.SameShapes
+pub use Rattle.fl_encode.specs.SchemeShapes
+pub use Rattle.fl_encode.specs.ShapeCodes
 pub use Rattle.fl_encode.specs.Shapes
 pub use Rattle.fl_encode.specs.Texts
 pub use Rattle.fl_ops.specs.CastForms
@@ -113,6 +118,9 @@ pub use Rattle.fl_ops.specs.Selections as ArraySelections
 pub use Rattle.fl_ops.specs.Sums
 pub use Rattle.fl_ops.specs.Takes
 pub use Rattle.fl_ops.specs.Unpacked
+pub use Rattle.fl_scan.specs.Constants as ScanConstants
+pub use Rattle.fl_scan.specs.Sums as ScanSums
+pub use Rattle.fl_scan.specs.Totals
 pub use Rattle.fl_serialized.specs.Codes as NodeCodes
 pub use Rattle.fl_serialized.specs.Nodes
 pub use Rattle.fl_serialized.specs.Sizes

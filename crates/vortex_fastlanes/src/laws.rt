@@ -20,6 +20,9 @@ pub use fl_ops::laws::{
     cast_of_cast, differing_is_not_equal, one_result, same_shown, stated_result, sums_rise,
     take_of_slice,
 };
+pub use fl_scan::laws::{
+    count_is_of_true_answers, extremes_bound_each_item, filter_is_by_true_answers, slices_add_up,
+};
 pub use fl_serde::laws::{
     bytes_are_those_of_buffers, node_has_one_column, round_trip, same_column_and_kind,
     written_blocked,

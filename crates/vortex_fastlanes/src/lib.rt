@@ -13,6 +13,7 @@ pub mod for_;
 pub mod laws;
 pub mod plugin;
 pub mod rle;
+pub mod scan;
 pub mod unpack_iter;
 
 pub use crate::bitpacking::{
@@ -24,7 +25,7 @@ pub use crate::delta::{
 };
 pub use crate::for_::{FoR, FoRArray, FoRArrayExt, FoRData, FoRReferences, FoRSlots};
 pub use crate::rle::{
-    RLE, RLEArray, RLEArrayExt, RLEData, RLESlots, RleProbeState, rle_decompress,
+    Dictionary, RLE, RLEArray, RLEArrayExt, RLEData, RLESlots, RleProbeState, rle_decompress,
 };
 pub use fastlanes::{FL_CHUNK_SIZE, FastLanes, Work};
 pub use fl_column::{

@@ -1,5 +1,5 @@
-//! Run-length encoded arrays.
+//! Run-length encoded arrays, and the encoder that makes them of dictionaries.
 
 pub use fl_array::rle::{
-    RLE, RLEArray, RLEArrayExt, RLEData, RLESlots, RleProbeState, rle_decompress,
+    Dictionary, RLE, RLEArray, RLEArrayExt, RLEData, RLESlots, RleProbeState, rle_decompress,
 };

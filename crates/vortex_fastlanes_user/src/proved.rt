@@ -72,10 +72,10 @@ pub fn written_and_read(alloc: Global, array: &ArrayRef) -> Result<ArrayRef, Fas
 pub fn deltas_packed(alloc: Global, plain: &PrimitiveArray) -> Result<ArrayRef, FastLanesError>
     ensures { IfOk result (λ a. column a ≡ column_of_primitive plain.now) }
 {
-    let packed = Box::new(alloc, Scheme::BitPacked(Packing::BestWidth))?;
+    let packed = Child::new(alloc, Scheme::BitPacked(Packing::BestWidth))?;
     let scheme = Scheme::Delta {
-        bases: None,
-        deltas: Some(packed),
+        bases: Child::plain(),
+        deltas: packed,
     };
     encode(alloc, plain, &scheme)
 }

@@ -27,9 +27,10 @@ pub fn part_and_comparison(
     ensures part { IfOk result (λ r. column_of_primitive r.0 ≡ slice_of start end (column_of_primitive plain.now)) }
     ensures comparison { IfOk result (λ r. Ok (column_of_bools r.1) ≡ compare_scalar operator (scalar_parts constant.now) (slice_of start end (column_of_primitive plain.now))) }
 {
-    let packed = Box::new(alloc, Scheme::BitPacked(Packing::BestWidth))?;
+    let packed = Child::new(alloc, Scheme::BitPacked(Packing::BestWidth))?;
     let scheme = Scheme::FoR {
-        encoded: Some(packed),
+        order: ItemOrder::Natural,
+        encoded: packed,
     };
     let array = encode(alloc, plain, &scheme)?;
 

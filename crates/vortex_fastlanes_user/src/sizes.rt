@@ -2,7 +2,7 @@
 
 ghost use Rattle.std.specs.Prelude.{◌≡◌, IfOk, IsTrue, Some};
 ghost use Rattle.vortex_fastlanes.specs.Columns.{column_of_primitive};
-ghost use Rattle.vortex_fastlanes.specs.Shapes.{shape};
+ghost use Rattle.vortex_fastlanes.specs.SchemeShapes.{shape};
 ghost use Rattle.vortex_fastlanes.specs.Statistics.{is_candidate};
 
 use std::alloc::Global;

@@ -36,9 +36,10 @@ pub fn readings(alloc: Global) -> Result<PrimitiveArray, FastLanesError> {
 pub fn encoded(alloc: Global, plain: &PrimitiveArray) -> Result<ArrayRef, FastLanesError>
     ensures { IfOk result (λ a. column a ≡ column_of_primitive plain.now) }
 {
-    let packed = Box::new(alloc, Scheme::BitPacked(Packing::BestWidth))?;
+    let packed = Child::new(alloc, Scheme::BitPacked(Packing::BestWidth))?;
     let scheme = Scheme::FoR {
-        encoded: Some(packed),
+        order: ItemOrder::Natural,
+        encoded: packed,
     };
     encode(alloc, plain, &scheme)
 }

@@ -1,0 +1,11 @@
+use Rattle.std.proofs.Common.{refl, replicate, rules, SFits}
+use Rattle.std.specs.Int.{w128}
+use Rattle.fl_scan.specs.Totals.{total}
+use Rattle.fl_scan.proofs.StepLaws.{sum_of_wrapped}
+use Rattle.fl_scan.proofs.folds.total.TotalFold.add_repeated.Goals as goal
+
+pub returns-clause-gathered : goal.returns-clause-gathered
+returns-clause-gathered g c =
+    let before : SFits w128 c.args.self.now.total = search rules in
+    let fits : SFits w128 c.repeated.result = search rules in
+    sum_of_wrapped c.args.self.now.total c.repeated.result c.args.self.now.total (total (replicate c.args.times (g.T.Number.value c.args.item))) before fits refl c.repeated.ensures
