@@ -65,6 +65,7 @@ static void refusals(void) {
     CHECK(flcol_slice(&none, 2, 1, &out) == FLCOL_NO_ARRAY && flcol_take(&none, &index, 1, NULL, 0, &out) == FLCOL_NO_ARRAY);
     CHECK(flcol_take_ranges(&none, &range, 1, &out) == FLCOL_NO_ARRAY && flcol_filter(&none, &byte, 1, &out) == FLCOL_NO_ARRAY);
     CHECK(flcol_cast(&none, 99, &out) == FLCOL_NO_ARRAY && flcol_to_blocked(&none, &out) == FLCOL_NO_ARRAY);
+    CHECK(flcol_sum_unsigned(&none, &index, &index) == FLCOL_NO_ARRAY && flcol_sum_signed(&none, (int64_t *)&index, &index) == FLCOL_NO_ARRAY);
     CHECK(flcol_compress(&none, &out) == FLCOL_NO_ARRAY && flcol_nbytes(&none, &index) == FLCOL_NO_ARRAY);
     CHECK(number == 0 && byte == 0 && index == 0 && out.at == NULL);
     flcol_free(&none);
@@ -135,7 +136,10 @@ static void booleans(void) {
     CHECK(flcol_read_u8(&array, written, 3, NULL, 0) == FLCOL_WRONG_TYPE && flcol_get_u8(&array, 0, written, &byte) == FLCOL_WRONG_TYPE);
     CHECK(flcol_compare_u8(&array, FLCOL_EQ, 1, &byte, 1, NULL, 0) == FLCOL_WRONG_TYPE);
     CHECK(flcol_between_u8(&array, 0, 1, 0, 0, &byte, 1, NULL, 0) == FLCOL_WRONG_TYPE);
-    CHECK(number == 2 && byte == FLCOL_BOOL && out.at == held && memcmp(written, container, sizeof written) == 0);
+    CHECK(flcol_count_u8(&array, FLCOL_EQ, 1, &number) == FLCOL_WRONG_TYPE && flcol_count_between_u8(&array, 0, 1, 0, 0, &number) == FLCOL_WRONG_TYPE);
+    CHECK(flcol_min_max_u8(&array, written, written + 1, &byte) == FLCOL_WRONG_TYPE && flcol_sum_unsigned(&array, &bytes, &bytes) == FLCOL_WRONG_TYPE);
+    CHECK(flcol_filter_by_u8(&array, FLCOL_EQ, 1, &out) == FLCOL_WRONG_TYPE && flcol_filter_between_u8(&array, 0, 1, 0, 0, &out) == FLCOL_WRONG_TYPE);
+    CHECK(number == 2 && bytes == 1 && byte == FLCOL_BOOL && out.at == held && memcmp(written, container, sizeof written) == 0);
     flcol_free(&array), flcol_free(&out);
 }
 

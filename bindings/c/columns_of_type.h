@@ -167,6 +167,83 @@ static void FN(answers)(flcol_array *array, const ITEM *items, const uint8_t *va
     if (!nulls) CHECK(CALL(compare)(array, FLCOL_LT, 7, bits, bytes, NULL, 0) == FLCOL_OK);
 }
 
+/* The sum of the valid items, by the call of the type's sign, and by the other one. */
+static int32_t FN(sum)(flcol_array *array, uint64_t *high, uint64_t *low) {
+    return NUMBER < FLCOL_I8 ? flcol_sum_unsigned(array, high, low) : flcol_sum_signed(array, (int64_t *)high, low);
+}
+
+static int32_t FN(sum_of_other_sign)(flcol_array *array, uint64_t *high, uint64_t *low) {
+    return NUMBER < FLCOL_I8 ? flcol_sum_signed(array, (int64_t *)high, low) : flcol_sum_unsigned(array, high, low);
+}
+
+/* Sums and extremes beside a loop with carries. */
+static void FN(gathers)(flcol_array *array, const ITEM *items, const uint8_t *validity, size_t n) {
+    uint64_t high = 0, low = 0, sum_high = 1, sum_low = 1;
+    ITEM least = 0, greatest = 0, found[2] = {1, 1};
+    uint8_t is_none = 1, answer = UNWRITTEN;
+    for (size_t i = 0; i < n; i++) {
+        if (!is_valid(validity, i)) continue;
+        low += (uint64_t)items[i];
+        high += low < (uint64_t)items[i];
+        high -= NUMBER >= FLCOL_I8 ? (uint64_t)items[i] >> 63 : 0;
+        if (is_none || items[i] < least) least = items[i];
+        if (is_none || items[i] > greatest) greatest = items[i];
+        is_none = 0;
+    }
+    CHECK(FN(sum)(array, &sum_high, &sum_low) == FLCOL_OK && sum_high == high && sum_low == low);
+    CHECK(FN(sum_of_other_sign)(array, &sum_high, &sum_low) == FLCOL_WRONG_TYPE && sum_high == high && sum_low == low);
+    CHECK(CALL(min_max)(array, &found[0], &found[1], &answer) == FLCOL_OK && answer == is_none);
+    CHECK(found[0] == least && found[1] == greatest);
+}
+
+/* Counts the items that meet a test, and chooses them. */
+static void FN(counts)(flcol_array *array, const ITEM *items, const uint8_t *validity, size_t n) {
+    flcol_array out = {NULL};
+    ITEM chosen[MOST], constants[] = {7, n ? items[n / 2] : (ITEM)1, 0};
+    size_t counted, count;
+    uint8_t dtype = 0, of_array = 0;
+    for (int op = 0; op < 6; op++) {
+        ITEM constant = constants[(n + (size_t)op / 2) % 3];
+        count = 0, counted = n + 1;
+        for (size_t i = 0; i < n; i++)
+            if (is_valid(validity, i) && FN(holds)(op, items[i], constant)) chosen[count++] = items[i];
+        CHECK(CALL(count)(array, (uint8_t)op, constant, &counted) == FLCOL_OK && counted == count);
+        CHECK(CALL(filter_by)(array, (uint8_t)op, constant, &out) == FLCOL_OK);
+        FN(has)(&out, chosen, NULL, count);
+    }
+    for (int strict = 0; strict < 4; strict++) {
+        uint8_t above = strict & 1, below = (uint8_t)(strict & 2); /* any number but 0 is strict */
+        count = 0, counted = n + 1;
+        for (size_t i = 0; i < n; i++) {
+            int lies = (above ? items[i] > 3 : items[i] >= 3) && (below ? items[i] < 30 : items[i] <= 30);
+            if (is_valid(validity, i) && lies) chosen[count++] = items[i];
+        }
+        CHECK(CALL(count_between)(array, 3, 30, above, below, &counted) == FLCOL_OK && counted == count);
+        CHECK(CALL(filter_between)(array, 3, 30, above, below, &out) == FLCOL_OK);
+        FN(has)(&out, chosen, NULL, count);
+    }
+    CHECK(CALL(count_between)(array, 30, 3, 0, 0, &counted) == FLCOL_OK && counted == 0);
+    CHECK(flcol_dtype(array, &of_array) == FLCOL_OK && flcol_dtype(&out, &dtype) == FLCOL_OK && dtype == of_array);
+    void *held = out.at;
+    counted = n + 1;
+    CHECK(CALL(count)(array, 6, 7, &counted) == FLCOL_BAD_OPERATOR && counted == n + 1);
+    CHECK(CALL(filter_by)(array, 255, 7, &out) == FLCOL_BAD_OPERATOR && out.at == held);
+    flcol_free(&out);
+}
+
+/* What is asked of a slice is asked of its items alone. */
+static void FN(totals)(flcol_array *array, const ITEM *items, const uint8_t *validity, size_t n) {
+    flcol_array part = {NULL};
+    uint8_t valid[MOST_BYTES] = {0};
+    size_t from = n / 3, to = n - n / 7;
+    FN(gathers)(array, items, validity, n), FN(counts)(array, items, validity, n);
+    for (size_t i = from; i < to; i++) set_bit(valid, i - from, is_valid(validity, i));
+    CHECK(flcol_slice(array, from, to, &part) == FLCOL_OK);
+    FN(gathers)(&part, items + from, valid, to - from);
+    FN(counts)(&part, items + from, valid, to - from);
+    flcol_free(&part);
+}
+
 /* The container is written where there is room for it, and over no byte behind it; where there is less, over none. */
 static void FN(gives_back)(flcol_array *array, const ITEM *items, const uint8_t *validity, size_t n) {
     enum { BEHIND = 9 };
@@ -226,6 +303,7 @@ static void FN(every_call)(flcol_array *array, const ITEM *items, const uint8_t 
     FN(reads)(array, items, validity, n);
     FN(chooses)(array, items, validity, n);
     FN(answers)(array, items, validity, n);
+    FN(totals)(array, items, validity, n);
     FN(gives_back)(array, items, validity, n);
     FN(changes_form)(array, items, validity, n);
     FN(has)(array, items, validity, n);
@@ -242,20 +320,55 @@ static void FN(constants)(void) {
     flcol_free(&array);
 }
 
+/* The greatest and the least items, whose sum takes more than 64 bits, and items of which none is valid. */
+static void FN(far_totals)(void) {
+    static const uint8_t none[MOST_BYTES] = {0};
+    const ITEM greatest = (ITEM)(UINT64_MAX >> (64 - 8 * sizeof(ITEM) + (NUMBER >= FLCOL_I8))), least = (ITEM)~greatest;
+    ITEM items[MOST];
+    flcol_array plain = {NULL}, encoded = {NULL};
+    for (int far = 0; far < 4; far++) {
+        const uint8_t *valid = far > 1 ? none : NULL;
+        for (size_t i = 0; i < MOST; i++) items[i] = far % 2 ? least : greatest;
+        CHECK(CALL(from)(items, MOST, valid, valid ? MOST_BYTES : 0, &plain) == FLCOL_OK);
+        CHECK(flcol_compress(&plain, &encoded) == FLCOL_OK);
+        FN(totals)(&plain, items, valid, MOST), FN(totals)(&encoded, items, valid, MOST);
+    }
+    flcol_free(&plain), flcol_free(&encoded);
+}
+
 /* Calls on none, and calls of the other types. */
 static void FN(refusals)(void) {
-    flcol_array none = {NULL}, array = {NULL};
+    flcol_array none = {NULL}, array = {NULL}, out = {NULL};
     ITEM value = 0;
-    uint8_t bits = 0, validity = 0;
+    uint8_t bits = 0, validity = 0, byte = 3;
+    size_t number = 3;
     CHECK(CALL(from)(&value, 1, NULL, 0, &array) == FLCOL_OK);
-    int32_t status = NUMBER == FLCOL_U8 ? flcol_get_i8(&array, 0, (int8_t *)&value, &bits) : flcol_get_u8(&array, 0, (uint8_t *)&value, &bits);
+    int is_u8 = NUMBER == FLCOL_U8;
+    int32_t status = is_u8 ? flcol_get_i8(&array, 0, (int8_t *)&value, &bits) : flcol_get_u8(&array, 0, (uint8_t *)&value, &bits);
     CHECK(status == FLCOL_WRONG_TYPE);
+    status = is_u8 ? flcol_count_i8(&array, FLCOL_EQ, 0, &number) : flcol_count_u8(&array, FLCOL_EQ, 0, &number);
+    CHECK(status == FLCOL_WRONG_TYPE);
+    status = is_u8 ? flcol_count_i8(&array, 6, 0, &number) : flcol_count_u8(&array, 6, 0, &number);
+    CHECK(status == FLCOL_BAD_OPERATOR);
+    status = is_u8 ? flcol_count_between_i8(&array, 0, 1, 0, 0, &number) : flcol_count_between_u8(&array, 0, 1, 0, 0, &number);
+    CHECK(status == FLCOL_WRONG_TYPE && number == 3);
+    status = is_u8 ? flcol_min_max_i8(&array, (int8_t *)&byte, (int8_t *)&byte, &byte) : flcol_min_max_u8(&array, &byte, &byte, &byte);
+    CHECK(status == FLCOL_WRONG_TYPE && byte == 3);
+    status = is_u8 ? flcol_filter_by_i8(&array, FLCOL_EQ, 0, &out) : flcol_filter_by_u8(&array, FLCOL_EQ, 0, &out);
+    CHECK(status == FLCOL_WRONG_TYPE);
+    status = is_u8 ? flcol_filter_by_i8(&array, 6, 0, &out) : flcol_filter_by_u8(&array, 6, 0, &out);
+    CHECK(status == FLCOL_BAD_OPERATOR);
+    status = is_u8 ? flcol_filter_between_i8(&array, 0, 1, 0, 0, &out) : flcol_filter_between_u8(&array, 0, 1, 0, 0, &out);
+    CHECK(status == FLCOL_WRONG_TYPE && out.at == NULL);
     flcol_free(&array);
     CHECK(array.at == NULL);
     CHECK(CALL(read)(&none, &value, 1, &validity, 1) == FLCOL_NO_ARRAY);
     CHECK(CALL(get)(&none, 0, &value, &validity) == FLCOL_NO_ARRAY);
     CHECK(CALL(compare)(&none, 9, 7, &bits, 1, &validity, 1) == FLCOL_NO_ARRAY);
     CHECK(CALL(between)(&none, 3, 7, 0, 0, &bits, 1, &validity, 1) == FLCOL_NO_ARRAY);
+    CHECK(CALL(count)(&none, 9, 7, &number) == FLCOL_NO_ARRAY && CALL(count_between)(&none, 3, 7, 0, 0, &number) == FLCOL_NO_ARRAY);
+    CHECK(CALL(filter_by)(&none, 9, 7, &out) == FLCOL_NO_ARRAY && CALL(filter_between)(&none, 3, 7, 0, 0, &out) == FLCOL_NO_ARRAY);
+    CHECK(number == 3 && out.at == NULL);
     CHECK(CALL(from)(&value, 9, &validity, 1, &array) == FLCOL_VALIDITY_LENGTH && array.at == NULL);
 }
 
@@ -291,5 +404,6 @@ static void FN(columns)(void) {
         flcol_free(&encoded);
     }
     FN(constants)();
+    FN(far_totals)();
     FN(refusals)();
 }

@@ -8,6 +8,10 @@ static flcol_array array = {NULL}, out = {NULL};
 static uint8_t validity[ITEM_BYTES], bits[ITEM_BYTES], container[60000], written[60000];
 static size_t container_len, scheme_len;
 static uint64_t indices[ITEMS];
+static struct {
+    size_t count;
+    uint64_t high, low;
+} totals;
 static const flcol_range ranges[] = {{9, 900}, {0, 1100}};
 
 #define OF_TYPE "refuse_of_type.h"

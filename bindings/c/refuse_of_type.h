@@ -28,6 +28,14 @@ static int32_t FN(attempt)(int call) {
     case 18: return CALL(between)(&array, 3, 20, 0, 1, bits, ITEM_BYTES, written, ITEM_BYTES);
     case 19: return flcol_scheme_len(&array, &number);
     case 20: return flcol_scheme(&array, (char *)written, scheme_len);
+    case 21: return CALL(count)(&array, FLCOL_LT, 20, &totals.count);
+    case 22: return CALL(count_between)(&array, 3, 20, 0, 1, &totals.count);
+    case 23: return CALL(min_max)(&array, &FN(values)[0], &FN(values)[1], bits);
+    case 24:
+        return NUMBER < FLCOL_I8 ? flcol_sum_unsigned(&array, &totals.high, &totals.low)
+                                 : flcol_sum_signed(&array, (int64_t *)&totals.high, &totals.low);
+    case 25: return CALL(filter_by)(&array, FLCOL_LT, 20, &out);
+    case 26: return CALL(filter_between)(&array, 3, 20, 0, 1, &out);
     default: return LAST_CALL;
     }
 }
@@ -38,7 +46,7 @@ static void FN(refused_in_turn)(int call) {
         long before = live;
         void *held = out.at;
         memset(FN(values), UNWRITTEN, sizeof FN(values));
-        memset(bits, UNWRITTEN, sizeof bits);
+        memset(bits, UNWRITTEN, sizeof bits), memset(&totals, UNWRITTEN, sizeof totals);
         memset(written, UNWRITTEN, sizeof written);
         granted = requests;
         int32_t status = FN(attempt)(call);
@@ -47,6 +55,7 @@ static void FN(refused_in_turn)(int call) {
         refusals++;
         CHECK(status == FLCOL_OUT_OF_MEMORY && live == before && out.at == held);
         CHECK(unwritten(FN(values), sizeof FN(values)) && unwritten(bits, sizeof bits) && unwritten(written, sizeof written));
+        CHECK(unwritten(&totals, sizeof totals));
     }
 }
 

@@ -1,5 +1,21 @@
 /* Questions to an array of a container from a stranger, for one type of items (each_type.h). */
 
+/* What is asked of all items at once is what the items say that were read, if there are any. */
+static void FN(ask_totals)(flcol_array *array, const ITEM *values, const uint8_t *valid, size_t n) {
+    uint64_t high = 0, low = 0, sum = 0;
+    size_t count = 0, met = 0;
+    ITEM least = 0, greatest = 0;
+    uint8_t is_none = 0;
+    flcol_array chosen = {NULL};
+    for (size_t i = 0; i < n; i++) sum += bit(valid, i) ? (uint64_t)values[i] : 0, met += bit(valid, i) && values[i] >= 3;
+    int is_summed = answers(NUMBER < FLCOL_I8 ? flcol_sum_unsigned(array, &high, &low) : flcol_sum_signed(array, (int64_t *)&high, &low));
+    CHECK(!is_summed || n == 0 || low == sum);
+    CHECK(!answers(CALL(count)(array, FLCOL_GTE, 3, &count)) || n == 0 || count == met);
+    CHECK(!answers(CALL(min_max)(array, &least, &greatest, &is_none)) || is_none || least <= greatest);
+    if (answers(CALL(filter_by)(array, FLCOL_GTE, 3, &chosen))) CHECK(flcol_len(&chosen, &count) == FLCOL_OK && (n == 0 || count == met));
+    flcol_free(&chosen);
+}
+
 /* An array of this type answers all calls alike, or finds no memory. */
 static void FN(ask)(flcol_array *array, size_t n) {
     ITEM *values = (ITEM *)malloc((n + 1) * sizeof(ITEM)), value = 0;
@@ -13,6 +29,7 @@ static void FN(ask)(flcol_array *array, size_t n) {
         if (!answers(CALL(get)(array, i, &value, &is_null))) continue;
         CHECK(is_null == !bit(valid, i) && (is_null || (value == values[i] && bit(bits, i) == (value >= 3))));
     }
+    FN(ask_totals)(array, values, valid, is_compared ? n : 0);
     if (answers(flcol_slice(array, n / 3, n, &part))) answers(CALL(read)(&part, values, n - n / 3, valid, (n - n / 3 + 7) / 8));
     free(values), free(valid), free(bits), flcol_free(&part);
 }

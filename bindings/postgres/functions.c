@@ -32,31 +32,88 @@ Datum sql_flcol_slice(PG_FUNCTION_ARGS) {
     PG_RETURN_DATUM(array_value(part));
 }
 
-/* How many items of a value meet a condition. It can be cancelled between two windows. */
-static int64 count_items(Datum value, const struct condition *condition) {
+/* Gathers from all items of a value. It can be cancelled between two windows. */
+static void gather_all(Datum value, gather_fn *gather, void *gathered) {
     struct column *column = open_value(value);
-    int64_t count = 0;
     for (size_t from = 0; from < column->len; from += COLUMN_WINDOW) {
         CHECK_FOR_INTERRUPTS();
-        check(column_count(column, from, condition, &count));
+        check(column_gather(column, from, gather, gathered));
     }
     column_close(column);
-    return count;
 }
 
 PG_FUNCTION_INFO_V1(sql_flcol_count);
 Datum sql_flcol_count(PG_FUNCTION_ARGS) {
     const char *operator = DatumGetCString(DirectFunctionCall1(enum_out, PG_GETARG_DATUM(1)));
-    struct condition condition = {.constant = PG_GETARG_INT64(2)};
-    check(operator_of(operator, strlen(operator), &condition.op));
-    PG_RETURN_INT64(count_items(PG_GETARG_DATUM(0), &condition));
+    struct counted counted = {.condition = {.constant = PG_GETARG_INT64(2)}};
+    check(operator_of(operator, strlen(operator), &counted.condition.op));
+    gather_all(PG_GETARG_DATUM(0), gather_count, &counted);
+    PG_RETURN_INT64(counted.count);
 }
 
 PG_FUNCTION_INFO_V1(sql_flcol_between);
 Datum sql_flcol_between(PG_FUNCTION_ARGS) {
-    const struct condition condition = {
-        .is_between = true, .lower = PG_GETARG_INT64(1), .upper = PG_GETARG_INT64(2)};
-    PG_RETURN_INT64(count_items(PG_GETARG_DATUM(0), &condition));
+    struct counted counted = {
+        .condition = {.is_between = true, .lower = PG_GETARG_INT64(1), .upper = PG_GETARG_INT64(2)}};
+    gather_all(PG_GETARG_DATUM(0), gather_count, &counted);
+    PG_RETURN_INT64(counted.count);
+}
+
+/* ---- Sums and extremes: null where no item is an integer ---- */
+
+/* An integer of 128 bits as a numeric. */
+static Datum numeric_of(wide integer) {
+    char digits[41]; /* a sign, 39 digits and the 0 */
+    char *at = digits + sizeof digits - 1;
+    unsigned __int128 rest = integer < 0 ? -(unsigned __int128)integer : (unsigned __int128)integer;
+    for (*at = '\0'; rest > 0 || *at == '\0'; rest /= 10) *--at = (char)('0' + rest % 10);
+    if (integer < 0) *--at = '-';
+    return DirectFunctionCall3(numeric_in, CStringGetDatum(at), ObjectIdGetDatum(InvalidOid), Int32GetDatum(-1));
+}
+
+PG_FUNCTION_INFO_V1(sql_flcol_sum);
+Datum sql_flcol_sum(PG_FUNCTION_ARGS) {
+    struct summed summed = {0};
+    gather_all(PG_GETARG_DATUM(0), gather_sum, &summed);
+    if (summed.count == 0) PG_RETURN_NULL();
+    PG_RETURN_DATUM(numeric_of(summed.sum));
+}
+
+/* The mean, with as many digits as PostgreSQL's own avg has. */
+PG_FUNCTION_INFO_V1(sql_flcol_avg);
+Datum sql_flcol_avg(PG_FUNCTION_ARGS) {
+    struct summed summed = {0};
+    gather_all(PG_GETARG_DATUM(0), gather_sum, &summed);
+    if (summed.count == 0) PG_RETURN_NULL();
+    PG_RETURN_DATUM(DirectFunctionCall2(numeric_div, numeric_of(summed.sum), numeric_of(summed.count)));
+}
+
+static Datum extreme(FunctionCallInfo fcinfo, bool is_greatest) {
+    struct extremes extremes = {0};
+    int64_t value = 0;
+    gather_all(PG_GETARG_DATUM(0), gather_extremes, &extremes);
+    if (!extremes.is_some) PG_RETURN_NULL();
+    check(narrowed(is_greatest ? extremes.greatest : extremes.least, &value));
+    PG_RETURN_INT64(value);
+}
+
+PG_FUNCTION_INFO_V1(sql_flcol_min);
+Datum sql_flcol_min(PG_FUNCTION_ARGS) {
+    return extreme(fcinfo, false);
+}
+
+PG_FUNCTION_INFO_V1(sql_flcol_max);
+Datum sql_flcol_max(PG_FUNCTION_ARGS) {
+    return extreme(fcinfo, true);
+}
+
+PG_FUNCTION_INFO_V1(sql_flcol_nulls);
+Datum sql_flcol_nulls(PG_FUNCTION_ARGS) {
+    struct column *column = open_value(PG_GETARG_DATUM(0));
+    size_t nulls = 0;
+    check(flcol_null_count(&column->array, &nulls));
+    column_close(column);
+    PG_RETURN_INT64((int64)nulls);
 }
 
 PG_FUNCTION_INFO_V1(sql_flcol_inspect);

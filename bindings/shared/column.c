@@ -1,4 +1,4 @@
-/* Columns that are kept: one item, items in their order, counting. */
+/* Columns that are kept: one item, items in their order, what is gathered from all items. */
 #include "column.h"
 
 #include <stdio.h>
@@ -17,10 +17,9 @@ struct integer_type {
     int32_t (*item)(const void *values, size_t index, int64_t *value);
     int32_t (*get)(flcol_array *array, size_t index, struct item *item);
     int32_t (*read)(flcol_array *array, void *values, size_t len, uint8_t *validity, size_t validity_len);
-    int32_t (*compare)(flcol_array *array, uint8_t op, int64_t constant, uint8_t *bits, size_t bits_len,
-                       uint8_t *validity, size_t validity_len);
-    int32_t (*between)(flcol_array *array, int64_t lower, int64_t upper, uint8_t *bits, size_t bits_len,
-                       uint8_t *validity, size_t validity_len);
+    int32_t (*count)(flcol_array *array, uint8_t op, int64_t constant, size_t *count);
+    int32_t (*count_between)(flcol_array *array, int64_t lower, int64_t upper, size_t *count);
+    int32_t (*min_max)(flcol_array *array, struct extremes *extremes);
 };
 
 #define DEFINE_TYPE(T, C)                                                                                             \
@@ -42,13 +41,18 @@ struct integer_type {
     static int32_t read_##T(flcol_array *array, void *values, size_t len, uint8_t *validity, size_t validity_len) {   \
         return flcol_read_##T(array, values, len, validity, validity_len);                                            \
     }                                                                                                                 \
-    static int32_t compare_##T(flcol_array *array, uint8_t op, int64_t constant, uint8_t *bits, size_t bits_len,      \
-                               uint8_t *validity, size_t validity_len) {                                              \
-        return flcol_compare_##T(array, op, (C)constant, bits, bits_len, validity, validity_len);                     \
+    static int32_t count_##T(flcol_array *array, uint8_t op, int64_t constant, size_t *count) {                       \
+        return flcol_count_##T(array, op, (C)constant, count);                                                        \
     }                                                                                                                 \
-    static int32_t between_##T(flcol_array *array, int64_t lower, int64_t upper, uint8_t *bits, size_t bits_len,      \
-                               uint8_t *validity, size_t validity_len) {                                              \
-        return flcol_between_##T(array, (C)lower, (C)upper, 0, 0, bits, bits_len, validity, validity_len);            \
+    static int32_t count_between_##T(flcol_array *array, int64_t lower, int64_t upper, size_t *count) {               \
+        return flcol_count_between_##T(array, (C)lower, (C)upper, 0, 0, count);                                       \
+    }                                                                                                                 \
+    static int32_t min_max_##T(flcol_array *array, struct extremes *extremes) {                                       \
+        C least, greatest;                                                                                            \
+        uint8_t is_none;                                                                                              \
+        const int32_t status = flcol_min_max_##T(array, &least, &greatest, &is_none);                                 \
+        if (status == FLCOL_OK) *extremes = (struct extremes){!is_none, (wide)least, (wide)greatest};                 \
+        return status;                                                                                                \
     }
 
 DEFINE_TYPE(u8, uint8_t)
@@ -60,7 +64,8 @@ DEFINE_TYPE(i16, int16_t)
 DEFINE_TYPE(i32, int32_t)
 DEFINE_TYPE(i64, int64_t)
 
-#define TYPE_OF(T, LEAST, GREATEST) {LEAST, GREATEST, item_##T, get_##T, read_##T, compare_##T, between_##T}
+#define TYPE_OF(T, LEAST, GREATEST) \
+    {LEAST, GREATEST, item_##T, get_##T, read_##T, count_##T, count_between_##T, min_max_##T}
 
 static const struct integer_type types[] = {
     [FLCOL_U8] = TYPE_OF(u8, 0, UINT8_MAX),           [FLCOL_U16] = TYPE_OF(u16, 0, UINT16_MAX),
@@ -180,43 +185,75 @@ static int32_t count_valid(flcol_array *part, size_t len, int64_t *count) {
     return status;
 }
 
-/* Adds how many of a part's items meet a condition whose constants are of the type. */
-static int32_t count_part(struct column *column, flcol_array *part, size_t len, const struct condition *condition,
-                          int64_t *count) {
-    uint8_t bits[COLUMN_WINDOW / 8], valid[COLUMN_WINDOW / 8];
-    uint8_t *validity = column->is_nullable ? valid : NULL;
-    const size_t bytes = bitmap_bytes(len), validity_bytes = validity != NULL ? bytes : 0;
-    const struct integer_type *type = &types[column->type];
-    size_t met = 0;
-    int32_t status =
-        condition->is_between
-            ? type->between(part, condition->lower, condition->upper, bits, bytes, validity, validity_bytes)
-            : type->compare(part, condition->op, condition->constant, bits, bytes, validity, validity_bytes);
-    if (status == FLCOL_OK) status = flcol_count_bits(bits, bytes, validity, validity_bytes, len, &met);
-    if (status == FLCOL_OK) *count += (int64_t)met;
-    return status;
-}
-
-/* Adds how many of a part's items meet a condition. */
-static int32_t count_in(struct column *column, flcol_array *part, size_t len, struct condition condition,
+/* Counts a part's items that meet a condition. */
+static int32_t count_in(const struct integer_type *type, flcol_array *part, size_t len, struct condition condition,
                         int64_t *count) {
-    const struct integer_type *type = &types[column->type];
     bool is_met;
+    size_t met = 0;
+    int32_t status = FLCOL_OK;
     if (condition.is_between) {
         if (condition.lower < type->least) condition.lower = type->least;
         if (condition.upper > type->greatest) condition.upper = type->greatest;
         if (condition.lower > condition.upper) return FLCOL_OK;
+        status = type->count_between(part, condition.lower, condition.upper, &met);
     } else if (is_decided(type, condition.op, condition.constant, &is_met)) {
         return is_met ? count_valid(part, len, count) : FLCOL_OK;
+    } else {
+        status = type->count(part, condition.op, condition.constant, &met);
     }
-    return count_part(column, part, len, &condition, count);
+    *count += (int64_t)met;
+    return status;
 }
 
-int32_t column_count(struct column *column, size_t from, const struct condition *condition, int64_t *count) {
+int32_t gather_count(struct column *column, flcol_array *part, size_t len, void *gathered) {
+    struct counted *counted = gathered;
+    return count_in(&types[column->type], part, len, counted->condition, &counted->count);
+}
+
+/* ---- Sums and extremes ---- */
+
+static int32_t sum_of(struct column *column, flcol_array *part, wide *sum) {
+    const wide high_one = (wide)1 << 64;
+    uint64_t high = 0, low = 0;
+    int64_t signed_high = 0;
+    const bool is_signed = column->type >= FLCOL_I8;
+    const int32_t status =
+        is_signed ? flcol_sum_signed(part, &signed_high, &low) : flcol_sum_unsigned(part, &high, &low);
+    *sum = (is_signed ? (wide)signed_high : (wide)high) * high_one + (wide)low;
+    return status;
+}
+
+int32_t gather_sum(struct column *column, flcol_array *part, size_t len, void *gathered) {
+    struct summed *summed = gathered;
+    wide sum = 0;
+    int32_t status = sum_of(column, part, &sum);
+    if (status == FLCOL_OK) status = count_valid(part, len, &summed->count);
+    if (status == FLCOL_OK) summed->sum += sum;
+    return status;
+}
+
+int32_t gather_extremes(struct column *column, flcol_array *part, size_t len, void *gathered) {
+    (void)len;
+    struct extremes *all = gathered, of_part = {0};
+    const int32_t status = types[column->type].min_max(part, &of_part);
+    if (status != FLCOL_OK || !of_part.is_some) return status;
+    if (!all->is_some || of_part.least < all->least) all->least = of_part.least;
+    if (!all->is_some || of_part.greatest > all->greatest) all->greatest = of_part.greatest;
+    all->is_some = true;
+    return FLCOL_OK;
+}
+
+int32_t narrowed(wide integer, int64_t *value) {
+    if (integer < INT64_MIN || integer > INT64_MAX) return FLCOL_CAST_OUT_OF_RANGE;
+    *value = (int64_t)integer;
+    return FLCOL_OK;
+}
+
+int32_t column_gather(struct column *column, size_t from, gather_fn *gather, void *gathered) {
     flcol_array part = FLCOL_EMPTY;
     size_t len = 0;
     int32_t status = part_of(column, from, &part, &len);
-    if (status == FLCOL_OK) status = count_in(column, &part, len, *condition, count);
+    if (status == FLCOL_OK) status = gather(column, &part, len, gathered);
     flcol_free(&part);
     return status;
 }

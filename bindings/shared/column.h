@@ -68,7 +68,17 @@ struct window {
    FLCOL_CAST_OUT_OF_RANGE: it is above 2^63-1. */
 int32_t column_item(struct column *column, struct window *window, size_t index, struct item *item);
 
-/* ---- Counting ---- */
+/* ---- All items ---- */
+
+/* An integer of 128 bits, which the sum of a column is. */
+__extension__ typedef __int128 wide;
+
+/* Adds to what is gathered from a column what a part of so many items says. */
+typedef int32_t gather_fn(struct column *column, flcol_array *part, size_t len, void *gathered);
+
+/* Gathers from the COLUMN_WINDOW items from `from` on, or from as many as there are, so that whoever goes over a column can
+   stop in between. */
+int32_t column_gather(struct column *column, size_t from, gather_fn *gather, void *gathered);
 
 /* What items are counted: those that compare so with a constant, or lie between two bounds, which belong to it. */
 struct condition {
@@ -79,12 +89,33 @@ struct condition {
     int64_t upper;
 };
 
+/* How many items meet a condition. No null does. */
+struct counted {
+    struct condition condition;
+    int64_t count;
+};
+
+/* The sum of the items that are not null, and how many they are; all zeros of none. */
+struct summed {
+    wide sum;
+    int64_t count;
+};
+
+/* The least and the greatest of the items that are not null, if there are any; all zeros of none. */
+struct extremes {
+    bool is_some;
+    wide least;
+    wide greatest;
+};
+
+/* Each gathers to the struct of its name. */
+gather_fn gather_count, gather_sum, gather_extremes;
+
 /* The operator of the text `=`, `<>`, `!=`, `>`, `>=`, `<` or `<=`. FLCOL_BAD_OPERATOR. */
 int32_t operator_of(const char *text, size_t len, uint8_t *op);
 
-/* Adds to `count` how many of the COLUMN_WINDOW items from `from` on, or of as many as there are, meet a condition. No
-   null does. */
-int32_t column_count(struct column *column, size_t from, const struct condition *condition, int64_t *count);
+/* The integer in 64 bits. FLCOL_CAST_OUT_OF_RANGE. */
+int32_t narrowed(wide integer, int64_t *value);
 
 /* ---- Making a column ---- */
 

@@ -12,7 +12,14 @@ int32_t open_value(struct column *column, sqlite3_value *value) {
     return column_open(column, bytes, (size_t)sqlite3_value_bytes(value));
 }
 
+/* The statement is to end early: a status beside those of flcol.h. */
+enum { INTERRUPTED = -1 };
+
 void refuse(sqlite3_context *context, int32_t status) {
+    if (status == INTERRUPTED) {
+        sqlite3_result_error_code(context, SQLITE_INTERRUPT);
+        return;
+    }
     if (status == FLCOL_OUT_OF_MEMORY) {
         sqlite3_result_error_nomem(context);
         return;
@@ -136,18 +143,21 @@ static bool is_interrupted(sqlite3_context *context) {
 #endif
 }
 
-static int32_t answer_condition(sqlite3_context *context, struct column *column, const struct condition *condition) {
-    int64_t count = 0;
+/* Gathers from all items, unless the statement is to end early. */
+static int32_t gather_all(sqlite3_context *context, struct column *column, gather_fn *gather, void *gathered) {
     for (size_t from = 0; from < column->len; from += COLUMN_WINDOW) {
-        if (is_interrupted(context)) {
-            sqlite3_result_error_code(context, SQLITE_INTERRUPT);
-            return FLCOL_OK;
-        }
-        const int32_t status = column_count(column, from, condition, &count);
+        if (is_interrupted(context)) return INTERRUPTED;
+        const int32_t status = column_gather(column, from, gather, gathered);
         if (status != FLCOL_OK) return status;
     }
-    sqlite3_result_int64(context, count);
     return FLCOL_OK;
+}
+
+static int32_t answer_condition(sqlite3_context *context, struct column *column, struct condition condition) {
+    struct counted counted = {.condition = condition};
+    const int32_t status = gather_all(context, column, gather_count, &counted);
+    if (status == FLCOL_OK) sqlite3_result_int64(context, counted.count);
+    return status;
 }
 
 static int32_t answer_count(sqlite3_context *context, struct column *column, sqlite3_value **values) {
@@ -156,14 +166,68 @@ static int32_t answer_count(sqlite3_context *context, struct column *column, sql
     if (text == NULL) return FLCOL_OUT_OF_MEMORY;
     int32_t status = operator_of(text, (size_t)sqlite3_value_bytes(values[1]), &condition.op);
     if (status == FLCOL_OK) status = integer_value(values[2], &condition.constant);
-    return status == FLCOL_OK ? answer_condition(context, column, &condition) : status;
+    return status == FLCOL_OK ? answer_condition(context, column, condition) : status;
 }
 
 static int32_t answer_count_between(sqlite3_context *context, struct column *column, sqlite3_value **values) {
     struct condition condition = {.is_between = true};
     int32_t status = integer_value(values[1], &condition.lower);
     if (status == FLCOL_OK) status = integer_value(values[2], &condition.upper);
-    return status == FLCOL_OK ? answer_condition(context, column, &condition) : status;
+    return status == FLCOL_OK ? answer_condition(context, column, condition) : status;
+}
+
+/* The sum, as SQLite's own: null where no item is one, and an error beyond 64 bits. */
+static int32_t answer_sum(sqlite3_context *context, struct column *column, sqlite3_value **values) {
+    (void)values;
+    struct summed summed = {0};
+    int64_t sum = 0;
+    const int32_t status = gather_all(context, column, gather_sum, &summed);
+    if (status != FLCOL_OK || summed.count == 0) return status;
+    if (narrowed(summed.sum, &sum) == FLCOL_OK) {
+        sqlite3_result_int64(context, sum);
+    } else {
+        sqlite3_result_error(context, "integer overflow", -1);
+    }
+    return FLCOL_OK;
+}
+
+/* The mean as a float: what comes before the point is exact until it is rounded at the end. */
+static int32_t answer_avg(sqlite3_context *context, struct column *column, sqlite3_value **values) {
+    (void)values;
+    struct summed summed = {0};
+    const int32_t status = gather_all(context, column, gather_sum, &summed);
+    if (status != FLCOL_OK || summed.count == 0) return status;
+    const long double whole = (long double)(summed.sum / summed.count), rest = (long double)(summed.sum % summed.count);
+    sqlite3_result_double(context, (double)(whole + rest / (long double)summed.count));
+    return FLCOL_OK;
+}
+
+static int32_t answer_extreme(sqlite3_context *context, struct column *column, bool is_greatest) {
+    struct extremes extremes = {0};
+    int64_t value = 0;
+    int32_t status = gather_all(context, column, gather_extremes, &extremes);
+    if (status != FLCOL_OK || !extremes.is_some) return status;
+    status = narrowed(is_greatest ? extremes.greatest : extremes.least, &value);
+    if (status == FLCOL_OK) sqlite3_result_int64(context, value);
+    return status;
+}
+
+static int32_t answer_min(sqlite3_context *context, struct column *column, sqlite3_value **values) {
+    (void)values;
+    return answer_extreme(context, column, false);
+}
+
+static int32_t answer_max(sqlite3_context *context, struct column *column, sqlite3_value **values) {
+    (void)values;
+    return answer_extreme(context, column, true);
+}
+
+static int32_t answer_nulls(sqlite3_context *context, struct column *column, sqlite3_value **values) {
+    (void)values;
+    size_t nulls = 0;
+    const int32_t status = flcol_null_count(&column->array, &nulls);
+    if (status == FLCOL_OK) sqlite3_result_int64(context, (sqlite3_int64)nulls);
+    return status;
 }
 
 /* A container's text, which no column is opened for: columns of booleans have one too. */
@@ -202,6 +266,11 @@ DEFINE_FUNCTION(get)
 DEFINE_FUNCTION(slice)
 DEFINE_FUNCTION(count)
 DEFINE_FUNCTION(count_between)
+DEFINE_FUNCTION(sum)
+DEFINE_FUNCTION(avg)
+DEFINE_FUNCTION(min)
+DEFINE_FUNCTION(max)
+DEFINE_FUNCTION(nulls)
 
 int add_functions(sqlite3 *db) {
     static const struct {
@@ -214,6 +283,11 @@ int add_functions(sqlite3 *db) {
                      {"flcol_count", 3, flcol_count_sql},
                      {"flcol_count_between", 3, flcol_count_between_sql},
                      {"flcol_between", 3, flcol_count_between_sql},
+                     {"flcol_sum", 1, flcol_sum_sql},
+                     {"flcol_avg", 1, flcol_avg_sql},
+                     {"flcol_min", 1, flcol_min_sql},
+                     {"flcol_max", 1, flcol_max_sql},
+                     {"flcol_nulls", 1, flcol_nulls_sql},
                      {"flcol_inspect", 1, flcol_inspect_sql}};
     const int flags = SQLITE_UTF8 | SQLITE_DETERMINISTIC | SQLITE_INNOCUOUS;
     for (size_t i = 0; i < sizeof functions / sizeof *functions; i++) {

@@ -82,6 +82,29 @@ class Columns(Case):
                 plain = self.ask("SELECT count(*) FROM plain WHERE x BETWEEN ? AND ?", lower, upper)
                 self.assertEqual(self.ask("SELECT flcol_count_between(?, ?, ?)", blob, lower, upper), plain, (lower, upper))
 
+    def gather(self, blob, items):
+        """Sums, extremes and nulls are those of the table; a sum beyond 64 bits is the same error."""
+        valid = [item for item in items if item is not None]
+        plain = self.base.execute("SELECT min(x), max(x), count(*) - count(x) FROM plain").fetchone()
+        self.assertEqual(self.base.execute("SELECT flcol_min(?1), flcol_max(?1), flcol_nulls(?1)", (blob,)).fetchone(), plain)
+        mean = self.ask("SELECT flcol_avg(?)", blob)
+        if valid:
+            true_mean = sum(valid) / len(valid)
+            self.assertAlmostEqual(mean, true_mean, delta=abs(true_mean) * 2**-52)
+        else:
+            self.assertIsNone(mean)
+        exact = sum(valid) if valid else None
+        if sum(map(abs, valid)) < 2**63:  # no sum of some of them is beyond 64 bits, in whatever order SQLite adds
+            self.assertEqual(self.ask("SELECT sum(x) FROM plain"), exact)
+        if exact is None or -(2**63) <= exact < 2**63:
+            self.assertEqual(self.ask("SELECT flcol_sum(?)", blob), exact)
+        else:
+            self.overflows(blob)
+
+    def overflows(self, blob):
+        with self.assertRaisesRegex(sqlite3.OperationalError, r"\Ainteger overflow\Z"):
+            self.ask("SELECT flcol_sum(?)", blob)
+
     def cut(self, blob, items):
         start, end = sorted(self.chance.randrange(len(items) + 1) for _ in range(2))
         for start, end in ((start, end), (0, len(items)), (end, end)):
@@ -95,6 +118,7 @@ class Columns(Case):
                 blob = self.ask("SELECT flcol(x) FROM (SELECT x FROM plain ORDER BY i)")
                 self.look(blob, items)
                 self.count(blob, items)
+                self.gather(blob, items)
                 self.cut(blob, items)
 
     def test_columns_of_each_scheme_answer_as_tables(self):
@@ -109,6 +133,7 @@ class Columns(Case):
                     blob = self.ask("SELECT flcol(x, ?) FROM (SELECT x FROM plain ORDER BY i)", scheme)
                     self.look(blob, items)
                     self.count(blob, items)
+                    self.gather(blob, items)
                     self.cut(blob, items)
 
     def test_each_type_compares_with_any_constant(self):
@@ -122,6 +147,47 @@ class Columns(Case):
                 blob = containers.plain(name, items)
                 self.look(blob, items)
                 self.count(blob, items + [max(-(2**63), least - 1), min(2**63 - 1, greatest + 1)])
+                self.gather(blob, items)
+
+    def test_a_column_without_items_has_no_totals(self):
+        for name in containers.TYPES:
+            for items in ([], [None], [None] * 70_000):
+                blob = containers.plain(name, items)
+                asked = "SELECT flcol_sum(?1), flcol_avg(?1), flcol_min(?1), flcol_max(?1), flcol_nulls(?1)"
+                self.assertEqual(self.base.execute(asked, (blob,)).fetchone(), (None,) * 4 + (len(items),))
+
+    def test_a_sum_is_that_of_all_windows(self):
+        for name in containers.TYPES:
+            least, greatest = containers.bounds(name)
+            items = [least, 3, None, greatest] * 50_000
+            blob, total = containers.plain(name, items), 50_000 * (least + 3 + greatest)
+            with self.subTest(name):
+                self.assertAlmostEqual(self.ask("SELECT flcol_avg(?)", blob), total / 150_000, delta=abs(total) * 2**-60)
+                self.assertEqual(self.ask("SELECT flcol_min(?)", blob), least)
+                if total < 2**63:
+                    self.assertEqual(self.ask("SELECT flcol_sum(?)", blob), total)
+                    self.assertEqual(self.ask("SELECT flcol_max(?)", blob), greatest)
+                else:
+                    self.overflows(blob)
+
+    def test_sums_at_the_ends_of_64_bits(self):
+        self.assertEqual(self.ask("SELECT flcol_sum(?)", containers.plain("i64", [2**63 - 2, 1])), 2**63 - 1)
+        self.assertEqual(self.ask("SELECT flcol_sum(?)", containers.plain("i64", [-(2**63) + 1, -1])), -(2**63))
+        self.assertEqual(self.ask("SELECT flcol_sum(?)", containers.plain("i64", [2**63 - 1, 1, -1])), 2**63 - 1)
+        for name, items in (("i64", [2**63 - 1, 1]), ("i64", [-(2**63), -1]), ("u64", [2**64 - 1] * 3), ("u64", [2**63])):
+            self.overflows(containers.plain(name, items))
+
+    def test_chunks_are_found_by_what_they_have(self):
+        """Columns that SQLite fills have the least and the greatest item, and an index has them."""
+        self.base.execute("CREATE TABLE ranged(items BLOB, least INTEGER GENERATED ALWAYS AS (flcol_min(items)) STORED,"
+                          " greatest INTEGER GENERATED ALWAYS AS (flcol_max(items)) STORED)")  # fmt: skip
+        self.base.execute("CREATE INDEX bounds ON ranged(least, greatest)")
+        chunks = [containers.plain("i64", list(range(start, start + 1000))) for start in range(0, 10_000, 1000)]
+        self.base.executemany("INSERT INTO ranged VALUES (?)", [(chunk,) for chunk in [*chunks, containers.plain("u8", [None])]])
+        asked = "SELECT sum(flcol_count(items, '<', 1500)), count(*) FROM ranged WHERE least < 1500"
+        self.assertEqual(self.base.execute(asked).fetchone(), (1500, 2))
+        self.assertIn("bounds", self.base.execute(f"EXPLAIN QUERY PLAN {asked}").fetchone()[3])
+        self.assertEqual(self.ask("SELECT count(*) FROM ranged WHERE least IS NULL AND greatest IS NULL"), 1)
 
     def test_groups_have_columns_of_their_own(self):
         self.fill([at % 10 for at in range(5000)])
@@ -167,7 +233,7 @@ class Columns(Case):
             self.assertEqual(self.ask("SELECT flcol_between(?, ?, ?)", containers.PACKED, *bounds), named)
 
     @unittest.skipIf(sqlite3.sqlite_version_info < (3, 41), "SQLite says so from 3.41 on")
-    def test_counting_is_interrupted(self):
+    def test_a_statement_is_interrupted(self):
         def interrupt():
             self.base.interrupt()
             return 3
@@ -175,6 +241,8 @@ class Columns(Case):
         self.base.create_function("interrupt", 0, interrupt)
         with self.assertRaisesRegex(sqlite3.OperationalError, "interrupted"):
             self.ask("SELECT flcol_count(?, '=', interrupt())", containers.PACKED)
+        with self.assertRaisesRegex(sqlite3.OperationalError, "interrupted"):
+            self.ask("SELECT flcol_sum(CASE interrupt() WHEN 3 THEN ? END)", containers.PACKED)
         self.assertEqual(self.ask("SELECT flcol_count(?, '=', 3)", containers.PACKED), 1)
 
     def test_indices_narrow_the_rows(self):
@@ -212,7 +280,8 @@ class Worked(Case):
     def try_all(self, blob):
         """Asks everything of a blob, and counts the answers that are a refusal; nothing else may be one."""
         asked = ("flcol_len(?1)", "flcol_inspect(?1)", "flcol_get(?1, 0)", "flcol_slice(?1, 0, 1)", "flcol_count(?1, '<', 2)",
-                 "flcol_count_between(?1, 1, 2)", "(SELECT count(value) FROM (SELECT value FROM flcol_each(?1) LIMIT 9))")  # fmt: skip
+                 "flcol_count_between(?1, 1, 2)", "flcol_min(?1)", "flcol_max(?1)", "flcol_avg(?1)", "flcol_nulls(?1)",
+                 "(SELECT count(value) FROM (SELECT value FROM flcol_each(?1) LIMIT 9))")  # fmt: skip
         refused = 0
         for function in asked:
             try:
@@ -284,7 +353,7 @@ class Errors(Case):
         """Each argument of each function in turn is of another kind than is asked for: the answer is a null or a refusal."""
         kinds = ("NULL", "''", "'abc'", "x''", "x'00'", "-1", "2.5", "1e999", "-1e999", "9223372036854775807", "-9223372036854775808",
                  "9223372036854775808", "'9223372036854775808'", "zeroblob(1000)", "char(0)", "x'ff' || 'a'")  # fmt: skip
-        calls = {"flcol_len": ("?1",), "flcol_inspect": ("?1",), "flcol_get": ("?1", "0"), "flcol_slice": ("?1", "0", "1"),
+        calls = {"flcol_len": ("?1",), "flcol_inspect": ("?1",), "flcol_sum": ("?1",), "flcol_max": ("?1",), "flcol_nulls": ("?1",), "flcol_get": ("?1", "0"), "flcol_slice": ("?1", "0", "1"),
                  "flcol_count": ("?1", "'='", "1"), "flcol_count_between": ("?1", "1", "1"), "flcol": ("1", "'for(bitpacked)'")}  # fmt: skip
         for name, words in calls.items():
             for at in range(len(words)):
@@ -308,12 +377,15 @@ class Errors(Case):
         self.refused("flcol: CastOutOfRange", "SELECT flcol_get(?, 1)", blob)
         self.refused("flcol: CastOutOfRange", "SELECT * FROM flcol_each(?)", blob)
         self.assertEqual(self.ask("SELECT flcol_count(?, '>', 1)", blob), 1)
+        self.assertEqual(self.ask("SELECT flcol_min(?)", blob), 1)
+        self.refused("flcol: CastOutOfRange", "SELECT flcol_max(?)", blob)
+        self.assertEqual(self.ask("SELECT flcol_avg(?)", blob), (2**63 + 1) / 2)
 
     def test_a_table_of_no_container(self):
         self.refused("flcol: NoArray", "SELECT * FROM flcol_each")
 
     def test_nulls_are_passed_on(self):
-        for function in ("flcol_len(NULL)", "flcol_get(NULL, 1)", "flcol_count(?, NULL, 1)", "flcol_slice(?, 0, NULL)"):
+        for function in ("flcol_len(NULL)", "flcol_sum(NULL)", "flcol_avg(NULL)", "flcol_nulls(NULL)", "flcol_get(NULL, 1)", "flcol_count(?, NULL, 1)", "flcol_slice(?, 0, NULL)"):
             values = (containers.PACKED,) if "?" in function else ()
             self.assertIsNone(self.ask(f"SELECT {function}", *values))
         self.assertIsNone(self.ask("SELECT flcol(1) WHERE 0"))

@@ -22,9 +22,18 @@ SELECT flcol_count_between(:framed, 102, 103), flcol_count_between(:framed, -5, 
 
 SELECT flcol_between(:framed, 102, 103) AS "by its old name", flcol_between(:framed, -5, 101) AS "the same";
 
+-- What all items say. A sum has no end, and items that are null have none.
+SELECT flcol_sum(:framed), flcol_avg(:framed), flcol_min(:framed), flcol_max(:framed), flcol_nulls(:framed);
+SELECT flcol_sum(items), flcol_avg(items), flcol_min(items), flcol_max(items)
+FROM (SELECT flcol_agg(x) AS items FROM (VALUES (9223372036854775807), (9223372036854775807), (NULL), (-5)) each(x)) made;
+SELECT flcol_sum(flcol_agg(x)), flcol_min(flcol_agg(x)) FROM (VALUES (-9223372036854775808), (-9223372036854775808)) each(x);
+SELECT flcol_sum(items), flcol_avg(items), flcol_min(items), flcol_max(items), flcol_nulls(items)
+FROM (SELECT flcol_agg(NULL::bigint) AS items FROM generate_series(1, 70000)) made;
+SELECT flcol_sum(flcol_slice(:packed, 1, 1)) AS "of none";
+
 -- A null is passed on.
 SELECT flcol_len(NULL), flcol_get(NULL, 0), flcol_get(:packed, NULL), flcol_count(:packed, NULL, 1),
-       flcol_slice(NULL, 0, 1), flcol_count_between(:packed, 1, NULL), flcol_inspect(NULL);
+       flcol_slice(NULL, 0, 1), flcol_count_between(:packed, 1, NULL), flcol_inspect(NULL), flcol_sum(NULL), flcol_max(NULL);
 SELECT flcol_unnest(NULL);
 
 -- What is written as text or as bytes is read as the same.

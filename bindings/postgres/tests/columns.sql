@@ -32,6 +32,17 @@ CREATE TABLE betweens AS
     FROM plain JOIN constants a USING (k) JOIN constants b USING (k) GROUP BY k, a.c, b.c;
 SELECT 'between', count(*) FROM columns JOIN betweens USING (k) WHERE flcol_count_between(items, a, b) <> met;
 
+CREATE TABLE totals AS
+    SELECT k, sum(x) AS total, avg(x) AS mean, min(x) AS least, max(x) AS greatest, count(*) - count(x) AS nulls FROM plain GROUP BY k;
+SELECT 'sums', count(*) FROM columns JOIN totals USING (k)
+WHERE flcol_sum(items) IS DISTINCT FROM total OR flcol_avg(items) IS DISTINCT FROM mean;
+SELECT 'extremes', count(*) FROM columns JOIN totals USING (k)
+WHERE flcol_min(items) IS DISTINCT FROM least OR flcol_max(items) IS DISTINCT FROM greatest OR flcol_nulls(items) <> nulls;
+SELECT 'slices', count(*)
+FROM columns, LATERAL (VALUES (cardinality(plain) / 3, cardinality(plain) * 2 / 3), (1, 1)) range(a, b),
+    LATERAL (SELECT sum(x) AS total, max(x) AS greatest FROM unnest(plain[a + 1 : b]) x) part
+WHERE flcol_sum(flcol_slice(items, a, b)) IS DISTINCT FROM total OR flcol_max(flcol_slice(items, a, b)) IS DISTINCT FROM greatest;
+
 -- Workers that each gather a part give the same items, in whatever order.
 SET parallel_setup_cost = 0;
 SET min_parallel_table_scan_size = 0;

@@ -18,5 +18,7 @@ INSERT INTO refusals VALUES
     ($$SELECT flcol_agg(-1, 'bitpacked')$$, '22003', 'NegativeValue'),
     ($$SELECT flcol_agg(NULL::bigint, 'for')$$, '22004', 'NoMinimum'),
     ($$SELECT flcol_get('\x464c433110766f727465782e7072696d6974697665030200000000000000000000000110000000000000000100000000000000000000000000008000', 1)$$,
+     '22003', 'CastOutOfRange'),
+    ($$SELECT flcol_max('\x464c433110766f727465782e7072696d6974697665030200000000000000000000000110000000000000000100000000000000000000000000008000')$$,
      '22003', 'CastOutOfRange');
 SELECT name, count(*) FILTER (WHERE said(statement) !~ format('^%s flcol: %s: .+$', code, name)) FROM refusals GROUP BY name;

@@ -3,10 +3,15 @@
     python3 -m flcol inspect FILE..
     python3 -m flcol compress [--type u32] [--scheme 'for(bitpacked)'] IN OUT
     python3 -m flcol decode [--limit 1000000] IN OUT
+    python3 -m flcol ask [--type u32] FILE sum|min|max|mean|count|nulls
+    python3 -m flcol ask [--type u32] FILE count '<' 5
+    python3 -m flcol ask [--type u32] [--limit 1000000] FILE where '<' 5
     python3 -m flcol copy [--type i64] [--scheme 'for(bitpacked)'] [--chunk 1000000] [--closed] IN
 
 A file is a container, a .npy file of one dimension, or text with an integer or `null` in each line, which needs a type.
-What is decoded is text, or a .npy file where its name ends so. `copy` writes a line for each chunk of a column, as COPY of
+What is decoded is text, or a .npy file where its name ends so. `ask` answers a number, or `null` where no item is one, and
+`where` the items in lines; nulls are left out. Operators are ==, !=, <, <=, > and >=, and `between 1 5` stands in the place of
+one with its integer, or by itself for `where between 1 5`. `copy` writes a line for each chunk of a column, as COPY of
 PostgreSQL reads it: its number, a tab, and its container in hexadecimal digits. With --closed a last line follows when the
 whole column was written, with the number of lines before it and a null, which whoever reads from a pipe can ask for. `-` is
 standard input or output. An error is one line on standard error, and the status 1.
@@ -21,12 +26,15 @@ from contextlib import contextmanager
 from typing import Any, BinaryIO, Iterator, Optional
 
 from . import __version__
+from ._array import Array
 from ._column import Column
 from ._dtypes import full_name
-from ._files import BadFile, Tell, pieces, read, writer
+from ._files import BadFile, Tell, pieces, read, write_lines, writer
 
 #: So many items are decoded unasked, though the container has few bytes.
 UNASKED = 1 << 28
+
+QUESTIONS = ("sum", "min", "max", "mean", "count", "nulls", "where", "between")
 
 
 @contextmanager
@@ -98,12 +106,66 @@ def compress(words: argparse.Namespace) -> None:
 def decode(words: argparse.Namespace) -> None:
     """Writes the items of a container."""
     column = column_of(words.source, None)
-    most = max(UNASKED, 8 * column.nbytes) if words.limit is None else words.limit
-    if column.size > most:
-        raise BadFile(f"{words.source} has {column.size} items, more than {most}: --limit {column.size} decodes it all the same")
+    refuse_many(words.source, column, column.size, words.limit)
     write = writer(column, words.target)
     with opened(words.target, "wb") as file, progress("writing") as tell:
         write(column, file, tell)
+
+
+def refuse_many(name: str, column: Column, items: int, limit: Optional[int]) -> None:
+    """Refuses to write more items of a column than its bytes suggest, or than are allowed."""
+    most = max(UNASKED, 8 * column.nbytes) if limit is None else limit
+    if items > most:
+        raise BadFile(f"{name} has {items} items, more than {most}: --limit {items} writes them all the same")
+
+
+def ask(words: argparse.Namespace) -> None:
+    """Says what is asked of a column: a number, or the items that meet a test."""
+    test = words.test if words.question != "between" else ["between", *words.test]
+    column = column_of(words.file, words.type)
+    if words.question in ("where", "between"):
+        choose(words, integers(column, words.question), test)
+    elif test and words.question != "count":
+        raise BadFile(f"{words.question} takes no test")
+    elif test:
+        say(str(tested(integers(column, "a test"), "count", test)))
+    else:
+        answer = number_of(column, words.question)
+        say("null" if answer is None else repr(answer))
+
+
+def number_of(column: Any, question: str) -> Any:
+    """What a question without a test asks."""
+    if question == "nulls":
+        return column.null_count
+    return getattr(column if question in ("sum", "count") else integers(column, question), question)()
+
+
+def integers(column: Column, what: str) -> Array:
+    """The column, of integers."""
+    if not isinstance(column, Array):
+        raise BadFile(f"{what} is asked of integers, and the file has booleans")
+    return column
+
+
+def tested(column: Array, what: str, test: list[str]) -> Any:
+    """What a column answers to ``count`` or ``where`` with a test: an operator and an integer, or two bounds."""
+    try:
+        name, constants = test[0], [int(word) for word in test[1:]]
+    except (IndexError, ValueError):
+        constants = []
+    if len(constants) != (2 if test[:1] == ["between"] else 1):
+        raise BadFile("a test is an operator and an integer, as '<' 5, or between and two integers")
+    if name == "between":
+        return (column.count_between if what == "count" else column.where_between)(*constants)
+    return (column.count_where if what == "count" else column.where)(name, *constants)
+
+
+def choose(words: argparse.Namespace, column: Array, test: list[str]) -> None:
+    """Writes the items that meet a test."""
+    refuse_many(f"the answer from {words.file}", column, tested(column, "count", test), words.limit)
+    with opened("-", "wb") as file, progress("writing") as tell:
+        write_lines(tested(column, "where", test), file, tell)
 
 
 def copy(words: argparse.Namespace) -> None:
@@ -155,13 +217,20 @@ def parser() -> argparse.ArgumentParser:
     reads.add_argument("--limit", type=count, help=f"the most items to write; {UNASKED}, or 8 for each byte, if it is left out")
     reads.set_defaults(run=decode)
 
+    asks = commands.add_parser("ask", help="say a number of a column, or its items that meet a test")
+    asks.add_argument("--limit", type=count, help="the most items to write, as of decode")
+    asks.add_argument("file", metavar="FILE")
+    asks.add_argument("question", choices=QUESTIONS)
+    asks.add_argument("test", nargs="*", metavar="TEST", help="an operator and an integer, as '<' 5, or: between 1 5")
+    asks.set_defaults(run=ask)
+
     for command in (makes, copies, reads):
         command.add_argument("source", metavar="IN")
     for command in (makes, reads):
         command.add_argument("target", metavar="OUT")
     for command in (makes, copies):
         command.add_argument("--scheme", help="the tree of encodings; that of the fewest bytes if it is left out")
-    for command in (looks, makes, copies):
+    for command in (looks, makes, copies, asks):
         said = "the type of lines of text, u8 to u64 or i8 to i64, or by NumPy's name, with a ? behind for nulls"
         command.add_argument("--type", type=full_name, help=said)
     return whole

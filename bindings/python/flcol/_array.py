@@ -1,7 +1,7 @@
 """Arrays of integers."""
 from __future__ import annotations
 
-from ctypes import byref, c_uint8
+from ctypes import byref, c_int64, c_size_t, c_uint8, c_uint64
 from typing import Any, Optional, Union
 
 from ._bits import bytes_of_bits, integer_of, unpack_bits
@@ -11,8 +11,10 @@ from ._column import Column
 from ._dtypes import BOOL, INT64, NULLABLE, UINT64, name_of, numpy, parsed
 from ._indexing import Places, of_integers
 from ._library import CAST_NULL, CAST_OUT_OF_RANGE, Error, Handle, call, within
+from ._reducing import check_whole
 
 _EQ, _NOT_EQ, _GT, _GTE, _LT, _LTE = range(6)
+_OPERATORS = {"==": _EQ, "!=": _NOT_EQ, ">": _GT, ">=": _GTE, "<": _LT, "<=": _LTE}
 
 
 class Array(Column):
@@ -88,9 +90,56 @@ class Array(Column):
             return self.null_count > 0
         if isinstance(item, float) and item.is_integer():
             item = int(item)
-        return integer_of(item) is not None and (self == item).true_count > 0
+        return integer_of(item) is not None and self.count_where("==", item) > 0
+
+    # All items at once
+
+    def sum(self, axis: Any = None, dtype: Any = None, out: Any = None, **more: Any) -> int:
+        """The sum of the items that are not null, exactly; 0 where there is none."""
+        check_whole("sum", axis, dtype, out, more)
+        high, low = c_int64() if self._kind.least else c_uint64(), c_uint64()
+        self._call("sum_signed" if self._kind.least else "sum_unsigned", byref(high), byref(low))
+        return high.value * 2**64 + low.value
+
+    def mean(self, axis: Any = None, dtype: Any = None, out: Any = None, **more: Any) -> Optional[float]:
+        """The mean of the items that are not null, the float next to it; None where there is none."""
+        check_whole("mean", axis, dtype, out, more)
+        count = self.count()
+        return self.sum() / count if count else None
+
+    def min(self, axis: Any = None, out: Any = None, **more: Any) -> Optional[int]:
+        """The least item that is not null; None where there is none."""
+        check_whole("min", axis, None, out, more)
+        return self.min_max()[0]
+
+    def max(self, axis: Any = None, out: Any = None, **more: Any) -> Optional[int]:
+        """The greatest item that is not null; None where there is none."""
+        check_whole("max", axis, None, out, more)
+        return self.min_max()[1]
+
+    def min_max(self) -> tuple[Optional[int], Optional[int]]:
+        """The least and the greatest item that is not null, found at once; two times None where there is none."""
+        least, greatest, is_none = self._kind.value(), self._kind.value(), c_uint8()
+        self._call(f"min_max_{self._kind.short}", byref(least), byref(greatest), byref(is_none))
+        return (None, None) if is_none.value else (least.value, greatest.value)
+
+    def count_where(self, op: str, constant: int) -> int:
+        """How many items compare so with an integer, by ``==``, ``!=``, ``<``, ``<=``, ``>`` or ``>=``; no null does."""
+        return self._ask(f"count_{self._kind.short}", c_size_t, *self._comparison(_operator(op), constant))
+
+    def count_between(self, lower: int, upper: int, inclusive: str = "both") -> int:
+        """How many items lie between two bounds; ``inclusive`` is that of ``between``."""
+        return self._ask(f"count_between_{self._kind.short}", c_size_t, *self._bounds(lower, upper, inclusive))
 
     # Choosing items
+
+    def where(self, op: str, constant: int) -> Array:
+        """The items that compare so with an integer, in their order, as a plain array; operators as of ``count_where``."""
+        return self._made(f"filter_by_{self._kind.short}", *self._comparison(_operator(op), constant))
+
+    def where_between(self, lower: int, upper: int, inclusive: str = "both") -> Array:
+        """The items that lie between two bounds, in their order, as a plain array; ``inclusive`` is that of ``between``."""
+        return self._made(f"filter_between_{self._kind.short}", *self._bounds(lower, upper, inclusive))
 
     def _as_places(self, length: int) -> Places:
         """The items as indices into so many others."""
@@ -137,23 +186,31 @@ class Array(Column):
 
     def between(self, lower: int, upper: int, inclusive: str = "both") -> BoolArray:
         """Whether each item lies between two bounds; ``inclusive`` is ``both``, ``left``, ``right`` or ``neither``."""
+        return self._answers("between_", *self._bounds(lower, upper, inclusive))
+
+    def _compared(self, op: int, other: Any) -> BoolArray:
+        return self._answers("compare_", *self._comparison(op, other))
+
+    def _comparison(self, op: int, other: Any) -> tuple[int, int]:
+        """A comparison with an integer of any size by one with an item of the type."""
+        least, greatest = self._kind.least, self._kind.greatest
+        constant = _constant(other)
+        if constant > greatest:
+            return (_LTE if op in (_LT, _LTE, _NOT_EQ) else _GT), greatest
+        if constant < least:
+            return (_GTE if op in (_GT, _GTE, _NOT_EQ) else _LT), least
+        return op, constant
+
+    def _bounds(self, lower: Any, upper: Any, inclusive: str) -> tuple[int, int, int, int]:
+        """Bounds of any size by two items of the type that belong to it, the lower above the upper where none lies between."""
         if inclusive not in ("both", "left", "right", "neither"):
             raise ValueError("inclusive is both, left, right or neither")
         least, greatest = self._kind.least, self._kind.greatest
         low = _constant(lower) + (inclusive in ("right", "neither"))
         high = _constant(upper) - (inclusive in ("left", "neither"))
         if low > greatest or high < least:
-            low, high = 1, 0
-        return self._answers("between_", max(low, least), min(high, greatest), 0, 0)
-
-    def _compared(self, op: int, other: Any) -> BoolArray:
-        least, greatest = self._kind.least, self._kind.greatest
-        constant = _constant(other)
-        if constant > greatest:
-            op, constant = (_LTE if op in (_LT, _LTE, _NOT_EQ) else _GT), greatest
-        elif constant < least:
-            op, constant = (_GTE if op in (_GT, _GTE, _NOT_EQ) else _LT), least
-        return self._answers("compare_", op, constant)
+            return 1, 0, 0, 0
+        return max(low, least), min(high, greatest), 0, 0
 
     def _answers(self, name: str, *arguments: Any) -> BoolArray:
         return BoolArray(*self._answered(name, *arguments), self._size)
@@ -176,6 +233,13 @@ def frombytes(container: Any) -> Union[Array, BoolArray]:
     with address(kept) as at:
         call("deserialize", at, view.nbytes, byref(handle))
     return of_handle(handle)
+
+
+def _operator(op: Any) -> int:
+    """The number of an operator."""
+    if not isinstance(op, str) or op not in _OPERATORS:
+        raise ValueError(f"an operator is one of {', '.join(_OPERATORS)}, and not {op!r}")
+    return _OPERATORS[op]
 
 
 def _constant(other: Any) -> int:

@@ -11,6 +11,7 @@ from ._buffers import address, kind_of
 from ._column import Column
 from ._dtypes import BOOL, NULLABLE, UINT8, numpy, parsed
 from ._library import CAST_NULL, Error, Handle, call
+from ._reducing import check_whole
 
 _NOT_EQ = 1
 
@@ -145,8 +146,9 @@ class BoolArray(Column):
             return False
         return None if nulls else True
 
-    def sum(self) -> int:
+    def sum(self, axis: Any = None, dtype: Any = None, out: Any = None, **more: Any) -> int:
         """How many answers are True; as in SQL nulls are left out."""
+        check_whole("sum", axis, dtype, out, more)
         return self.true_count
 
     def __bool__(self) -> bool:

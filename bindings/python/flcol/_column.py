@@ -65,6 +65,10 @@ class Column:
         """How many items are null."""
         return self._ask("null_count", c_size_t) if self.nullable else 0
 
+    def count(self) -> int:
+        """How many items are not null."""
+        return self._size - self.null_count
+
     @property
     def scheme(self) -> str:
         """What the array is, as the text of a scheme: the words of ``encode``, with each width.

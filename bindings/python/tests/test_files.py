@@ -77,6 +77,29 @@ class Command(unittest.TestCase):
             self.assertEqual((number, back), (2, items))
         self.assertEqual(run("copy", "--scheme", "delta", "--type", "u8", "-")[1].count(b"\n"), 1)
 
+    def test_what_is_asked(self):
+        lines = b"5\n-7\nnull\n9\n18446744073709551610\n".replace(b"18446744073709551610", b"9223372036854775807")
+        (self.folder / "lines").write_bytes(lines)
+        (self.folder / "column").write_bytes(bytes(flcol.array([5, -7, None, 9, 2**63 - 1], dtype="int64")))
+        asked = {
+            "sum": f"{2**63 + 6}", "min": "-7", "max": f"{2**63 - 1}", "mean": repr((2**63 + 6) / 4), "count": "4", "nulls": "1",
+            "count < 6": "2", "count == -7": "1", "count between -7 9": "3", "count > 9999999999999999999": "0",
+            "where < 6": "5\n-7", "where != 5": f"-7\n9\n{2**63 - 1}", "between 5 9": "5\n9", "where between 5 9": "5\n9",
+        }  # fmt: skip
+        for question, answer in asked.items():
+            for words in ([self.folder / "column", *question.split()], ["--type", "i64?", self.folder / "lines", *question.split()]):
+                with self.subTest(words):
+                    self.assertEqual(run("ask", *words), (0, f"{answer}\n".encode(), ""))
+        self.assertEqual(run("ask", self.folder / "column", "where", "<", "-7"), (0, b"", ""))
+        nothing = bytes(flcol.array([None, None], dtype="uint8"))
+        for question, answer in {"sum": b"0", "min": b"null", "max": b"null", "mean": b"null", "count": b"0", "nulls": b"2"}.items():
+            self.assertEqual(run("ask", "-", question, source=nothing), (0, answer + b"\n", ""))
+        for question, answer in {"sum": b"2", "count": b"3", "nulls": b"1"}.items():
+            self.assertEqual(run("ask", "-", question, source=BOOLEANS), (0, answer + b"\n", ""))
+        many = bytes(flcol.constant(5, 1000))
+        self.assertEqual(run("ask", "--limit", "999", "-", "where", ">", "4", source=many)[:2], (1, b""))
+        self.assertEqual(run("ask", "--limit", "1000", "-", "where", ">", "4", source=many), (0, b"5\n" * 1000, ""))
+
     def test_what_is_refused(self):
         bad = [
             (["compress", "--type", "u8", "--scheme", "for", "-", "-"], b"1\nx\n", "no item of uint8: one of those from b'1"),
@@ -105,6 +128,16 @@ class Command(unittest.TestCase):
             (["compress", "--scheme", "for", "-", "-"], npy("[" * 20000, bytes(8)), "malformed"),
             (["decode", "-", "-"], bytes(flcol.constant(5, 2**40)), "--limit 1099511627776"),
             (["decode", "--limit", "2", "-", "-"], bytes(flcol.array([1, 2, 3])), "has 3 items, more than 2"),
+            (["ask", "--limit", "2", "-", "where", ">", "0"], bytes(flcol.array([1, 2, 3])), "has 3 items, more than 2"),
+            (["ask", "-", "count", "=<", "5"], bytes(flcol.array([1])), "an operator is one of =="),
+            (["ask", "-", "count", "<"], bytes(flcol.array([1])), "a test is an operator"),
+            (["ask", "-", "count", "<", "1.5"], bytes(flcol.array([1])), "a test is an operator"),
+            (["ask", "-", "where"], bytes(flcol.array([1])), "a test is an operator"),
+            (["ask", "-", "between", "1"], bytes(flcol.array([1])), "a test is an operator"),
+            (["ask", "-", "min", "<", "1"], bytes(flcol.array([1])), "min takes no test"),
+            (["ask", "-", "min"], BOOLEANS, "min is asked of integers"),
+            (["ask", "-", "where", "==", "1"], BOOLEANS, "where is asked of integers"),
+            (["ask", "-", "sum"], b"1\n", "need a type"),
             (["decode", "-", self.folder], bytes(flcol.array([1])), "directory"),
             (["decode", "-", "/dev/full"], bytes(flcol.array([1])), "No space left"),
             (["decode", "-", self.folder / "x.npy"], bytes(flcol.array([None])), "no nulls"),
@@ -116,7 +149,7 @@ class Command(unittest.TestCase):
                 self.assertEqual((status, written), (1, b""))
                 self.assertIn(said, error)
                 self.assertRegex(error, r"\Aflcol: [^\n]+\n\Z")
-        for words in (["decode"], ["decode", "--limit", "x", "-", "-"], ["decode", "--limit", "0", "-", "-"], ["copy", "--chunk", "1e3", "-"], []):
+        for words in (["decode"], ["ask", "-"], ["ask", "-", "median"], ["decode", "--limit", "x", "-", "-"], ["decode", "--limit", "0", "-", "-"], ["copy", "--chunk", "1e3", "-"], []):
             status, written, error = run(*words)
             self.assertEqual((status, written), (2, b""))
             self.assertNotIn("Traceback", error)

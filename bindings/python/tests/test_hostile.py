@@ -47,8 +47,12 @@ def ask(container):
         assert (array == 3).to_list() == [None if item is None else item == 3 for item in items]
         assert [array[at] for at in range(min(9, len(items)))] == items[:9] and list(array[:99]) == items[:99]
         assert array[1:].to_list() == items[1:] and array[::2].to_list() == items[::2]
+        known = [item for item in items if item is not None]
+        assert (array.sum(), array.count()) == (sum(known), len(known))
         if array.dtype != "bool" and array.dtype != "bool?":
             assert array.is_sorted() in (False, True)
+            assert (array.min(), array.max()) == ((min(known), max(known)) if known else (None, None))
+            assert array.where(">=", 3).to_list() == [item for item in known if item >= 3]
     except MemoryError:
         pass
     return True

@@ -109,6 +109,31 @@ fn answers<T: Item + TryFrom<u64> + Debug>() {
     });
 }
 
+/// The sum of items as text, which both signs have.
+fn sum_of<T: Item + Into<i128>>(items: &[Option<T>]) -> String {
+    items.iter().flatten().map(|item| (*item).into()).sum::<i128>().to_string()
+}
+
+fn totals<T: Item + TryFrom<u64> + Into<i128> + Debug>() {
+    let (five, twenty) = (T::try_from(5).ok().unwrap(), T::try_from(20).ok().unwrap());
+    columns::<T>(|array, items| {
+        let (from, to) = (items.len() / 3, items.len() - items.len() / 7);
+        for (array, items) in [(array, items), (&array.slice(from..to).unwrap(), &items[from..to])] {
+            let known: Vec<T> = items.iter().flatten().copied().collect();
+            let chosen = |test: &dyn Fn(T) -> bool| known.iter().copied().filter(|it| test(*it)).collect::<Vec<_>>();
+            let (least, greatest) = (known.iter().min().copied(), known.iter().max().copied());
+            assert_eq!(array.sum::<T>().unwrap().to_string(), sum_of(items));
+            assert_eq!((array.min(), array.max(), array.min_max()), (Ok(least), Ok(greatest), Ok(least.zip(greatest))));
+            let below = chosen(&|it| it < twenty);
+            assert_eq!(array.count_where(Op::Lt, 20), Ok(below.len()));
+            assert_eq!(array.filter_by(Op::Lt, 20).unwrap().to_vec::<T>().unwrap(), below);
+            let between = chosen(&|it| it >= five && it < twenty);
+            assert_eq!(array.count_between(5..20), Ok(between.len()));
+            assert_eq!(array.filter_between(5..20).unwrap().to_vec::<T>().unwrap(), between);
+        }
+    });
+}
+
 macro_rules! for_each_type {
     ($($item:ident),+) => {
         $(mod $item {
@@ -118,11 +143,38 @@ macro_rules! for_each_type {
             fn picks() { super::picks::<$item>() }
             #[test]
             fn answers() { super::answers::<$item>() }
+            #[test]
+            fn totals() { super::totals::<$item>() }
         })+
     };
 }
 
 for_each_type!(u8, u16, u32, u64, i8, i16, i32, i64);
+
+#[test]
+fn sums_beyond_64_bits() {
+    let sum = |item: u64| 3000 * u128::from(item);
+    assert_eq!(Array::new(&[u64::MAX; 3000]).unwrap().compress().unwrap().sum::<u64>(), Ok(sum(u64::MAX)));
+    assert_eq!(Array::constant(Some(u64::MAX), 3000).unwrap().sum::<u64>(), Ok(sum(u64::MAX)));
+    assert_eq!(Array::new(&[i64::MIN; 3000]).unwrap().sum::<i64>(), Ok(3000 * i128::from(i64::MIN)));
+    assert_eq!(Array::new(&[-1_i8, 1, -1]).unwrap().sum::<i8>(), Ok(-1));
+}
+
+#[test]
+fn totals_of_nothing_and_of_other_types() {
+    for array in [Array::new::<i32>(&[]), Array::constant(None::<i32>, 2000)].map(Result::unwrap) {
+        assert_eq!((array.sum::<i32>(), array.min_max::<i32>()), (Ok(0), Ok(None)));
+        assert_eq!((array.count_where(Op::NotEq, 5), array.filter_by(Op::Gte, -9).unwrap().len()), (Ok(0), 0));
+        assert_eq!((array.sum::<u32>(), array.sum::<i64>()), (Err(Error::WrongType), Err(Error::WrongType)));
+        assert_eq!((array.min::<i16>(), array.max::<u32>()), (Err(Error::WrongType), Err(Error::WrongType)));
+    }
+    let booleans = Array::try_from([true, false]).unwrap();
+    assert_eq!((booleans.sum::<u8>(), booleans.min::<u8>()), (Err(Error::WrongType), Err(Error::WrongType)));
+    assert_eq!(booleans.count_where(Op::Eq, 1), Err(Error::NotInteger));
+    assert_eq!(booleans.count_between(0..1), Err(Error::NotInteger));
+    assert_eq!(booleans.filter_by(Op::Eq, 1).unwrap_err(), Error::NotInteger);
+    assert_eq!(booleans.filter_between(0..1).unwrap_err(), Error::NotInteger);
+}
 
 #[test]
 fn casts_keep_the_items_or_are_refused() {

@@ -36,6 +36,9 @@ fn compares<T: Item + TryFrom<u8> + Into<i128>>() {
         for op in OPERATORS {
             let expected = items.iter().map(|item| item.map(|item| holds(op, item.into(), constant))).collect();
             assert_eq!(array.compare(op, constant), Ok(expected), "{op} {constant}");
+            let met: Vec<T> = items.iter().flatten().copied().filter(|it| holds(op, (*it).into(), constant)).collect();
+            assert_eq!(array.count_where(op, constant), Ok(met.len()), "{op} {constant}");
+            assert_eq!(array.filter_by(op, constant).unwrap().to_vec::<T>(), Ok(met), "{op} {constant}");
         }
     }
 }
@@ -66,6 +69,9 @@ fn lies_between<T: Item + TryFrom<u8> + Into<i128>>() {
             };
             let expected = items.iter().map(|item| item.map(|item| inside(item.into()))).collect();
             assert_eq!(array.between(range), Ok(expected), "{range:?}");
+            let lying: Vec<T> = items.iter().flatten().copied().filter(|it| inside((*it).into())).collect();
+            assert_eq!(array.count_between(range), Ok(lying.len()), "{range:?}");
+            assert_eq!(array.filter_between(range).unwrap().to_vec::<T>(), Ok(lying), "{range:?}");
         }
     }
 }

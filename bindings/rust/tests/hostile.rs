@@ -105,11 +105,31 @@ fn ask_huge<T: Item>(array: &Array) {
     assert_eq!(array.equals(&array.slice(1..).unwrap()), Ok(false));
     assert_eq!(format!("{array:?}"), format!("Array({}, {len})", array.dtype()));
 
+    ask_huge_totals(array, first);
     let again = Array::from_bytes(&array.to_bytes().unwrap()).unwrap();
     assert_eq!((again.len(), again.to_string()), (len, array.to_string()));
     let _ = (array.nbytes(), array.null_count(), array.is_constant(), array.is_sorted(), array.is_strictly_sorted());
     let _ = (array.cast(PType::U64.nullable()), array.to_blocked(), array.compress());
     let _ = SCHEMES.map(|scheme| array.encode(scheme));
+}
+
+/// What is gathered of all items is known of a constant, and the items of any other array have no room. Chosen ones have none
+/// of either.
+fn ask_huge_totals<T: Item>(array: &Array, first: Option<T>) {
+    let valid = if first.is_some() { array.len() } else { 0 };
+    let refused = |error: Option<Error>| error == Some(Error::OutOfMemory);
+    if array.to_string() == "constant" {
+        assert_eq!(array.min_max(), Ok(first.zip(first)));
+        assert_eq!(array.count_where(Op::Gte, T::MIN), Ok(valid));
+        assert_eq!(array.count_between(T::MIN..), Ok(valid));
+        assert_eq!(array.count_where(Op::Lt, T::MIN), Ok(0));
+        assert!(array.sum::<T>().is_ok());
+    } else {
+        assert!(refused(array.min_max::<T>().err()) && refused(array.sum::<T>().err()));
+        assert!(refused(array.count_where(Op::Lt, 3).err()) && refused(array.count_between(1..3).err()));
+    }
+    assert!(valid == 0 || refused(array.filter_by(Op::Gte, T::MIN).err()));
+    assert!(valid == 0 || refused(array.filter_between(T::MIN..).err()));
 }
 
 /// Asks an array of few items for all that it can do.
@@ -121,8 +141,12 @@ fn ask_few<T: Item>(array: &Array) {
     let threes = array.compare(Op::Eq, 3).unwrap();
     assert_eq!(threes.null_count(), array.null_count().unwrap());
     assert_eq!(array.filter(threes.as_mask()).unwrap().len(), threes.count_true());
+    assert_eq!(array.count_where(Op::Eq, 3), Ok(threes.count_true()));
+    assert_eq!(array.filter_by(Op::Eq, 3).unwrap().len(), threes.count_true());
+    let known = || items.iter().flatten().copied();
+    assert_eq!(array.min_max(), Ok(known().min().zip(known().max())));
     let _ = (array.nbytes(), array.is_constant(), array.is_sorted(), array.to_blocked(), array.to_string());
-    let _ = array.encode("for(bitpacked)");
+    let _ = (array.encode("for(bitpacked)"), array.sum::<T>());
 }
 
 /// Asks the array of a container, if the bytes are one. Those in between might get their memory, and take long.

@@ -40,16 +40,7 @@ impl Array {
     /// # Errors
     /// `NotInteger`, `OutOfMemory`.
     pub fn between<C: Integer>(&self, range: impl RangeBounds<C>) -> Result<Answers, Error> {
-        let least = match range.start_bound() {
-            Bound::Included(bound) => bound.to_i128(),
-            Bound::Excluded(bound) => bound.to_i128().saturating_add(1),
-            Bound::Unbounded => i128::MIN,
-        };
-        let greatest = match range.end_bound() {
-            Bound::Included(bound) => bound.to_i128(),
-            Bound::Excluded(bound) => bound.to_i128().saturating_sub(1),
-            Bound::Unbounded => i128::MAX,
-        };
+        let (least, greatest) = ends(range);
         at_item_type!(self.items_between(least, greatest))
     }
 
@@ -88,18 +79,12 @@ impl Array {
     }
 
     fn compare_items<T: Item>(&self, op: Op, constant: i128) -> Result<Answers, Error> {
-        let (op, constant) = match T::narrowed(constant) {
-            Some(constant) => (op, constant),
-            None if holds_for_all(op, constant > 0) => (Op::Gte, T::MIN),
-            None => (Op::Lt, T::MIN),
-        };
+        let (op, constant) = comparison::<T>(op, constant);
         self.bits(|bits, len, valid| unsafe { T::COMPARE(self.word(), op as u8, constant, bits, len, valid, len) })
     }
 
     fn items_between<T: Item>(&self, least: i128, greatest: i128) -> Result<Answers, Error> {
-        let least = T::narrowed(least.max(T::MIN.to_i128()));
-        let greatest = T::narrowed(greatest.min(T::MAX.to_i128()));
-        let (least, greatest) = least.zip(greatest).unwrap_or((T::MAX, T::MIN));
+        let (least, greatest) = bounds::<T>(least, greatest);
         self.bits(|bits, len, valid| unsafe { T::BETWEEN(self.word(), least, greatest, 0, 0, bits, len, valid, len) })
     }
 
@@ -117,6 +102,37 @@ impl Array {
             false => Ok(Answers::without_nulls(bits, valid)),
         }
     }
+}
+
+/// A comparison with an integer as one with an item of the type, which the same items meet.
+pub(super) fn comparison<T: Item>(op: Op, constant: i128) -> (Op, T) {
+    match T::narrowed(constant) {
+        Some(constant) => (op, constant),
+        None if holds_for_all(op, constant > 0) => (Op::Gte, T::MIN),
+        None => (Op::Lt, T::MIN),
+    }
+}
+
+/// The least and the greatest integer of a range; in none the least one is above.
+pub(super) fn ends<C: Integer>(range: impl RangeBounds<C>) -> (i128, i128) {
+    let least = match range.start_bound() {
+        Bound::Included(bound) => bound.to_i128(),
+        Bound::Excluded(bound) => bound.to_i128().saturating_add(1),
+        Bound::Unbounded => i128::MIN,
+    };
+    let greatest = match range.end_bound() {
+        Bound::Included(bound) => bound.to_i128(),
+        Bound::Excluded(bound) => bound.to_i128().saturating_sub(1),
+        Bound::Unbounded => i128::MAX,
+    };
+    (least, greatest)
+}
+
+/// Two bounds as items of the type, between which the same items lie.
+pub(super) fn bounds<T: Item>(least: i128, greatest: i128) -> (T, T) {
+    let least = T::narrowed(least.max(T::MIN.to_i128()));
+    let greatest = T::narrowed(greatest.min(T::MAX.to_i128()));
+    least.zip(greatest).unwrap_or((T::MAX, T::MIN))
 }
 
 /// Whether a comparison holds for each item, with a constant that is above all items or below all.

@@ -1,5 +1,6 @@
 //! Arrays.
 
+mod aggregate;
 mod compare;
 mod make;
 mod read;
