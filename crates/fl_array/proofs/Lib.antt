@@ -28,3 +28,4 @@ pub mod NoNulls
 pub mod ReadPacked
 pub mod ReadReferences
 pub mod ReadDeltas
+pub mod ReadRuns

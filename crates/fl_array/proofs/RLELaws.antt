@@ -100,7 +100,7 @@ rle_validity a v h s =
     }
 
 -- ---- the column
-read_slots : (p : PrimitiveParts) (c : Column) → column_of_primitive p ≡ c → is_nullable c.dtype ≡ false → p.slots ≡ integers_in c
+pub read_slots : (p : PrimitiveParts) (c : Column) → column_of_primitive p ≡ c → is_nullable c.dtype ≡ false → p.slots ≡ integers_in c
 read_slots p c e h =
     let non_nullable : nullability_of p.validity ≡ NonNullable = non_nullable_is (nullability_of p.validity) (ap (λ (x : Column). is_nullable x.dtype) e ∙ h) in
     sym (non_nullable_slots p non_nullable) ∙ ap integers_in e

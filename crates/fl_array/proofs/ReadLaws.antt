@@ -1,5 +1,5 @@
 -- Integers that are read of a column.
-use Rattle.std.proofs.Common.{◌≡◌, ℕ, ℤ, pos, ◌+◌, ◌<◌, ◌≤◌, List, length, map, get_or, take, drop, Bool, true, false, Option, Some, None, IsTrue, cond, refl, ap, sym, ◌∙◌, arith}
+use Rattle.std.proofs.Common.{◌≡◌, ℕ, ℤ, pos, ◌+◌, ◌<◌, ◌≤◌, List, length, map, get_or, take, drop, Bool, true, false, Option, Some, None, Ok, IsTrue, cond, refl, ap, sym, ◌∙◌, arith}
 use Rattle.std.specs.Prelude.{IfSome, ◌+ℤ◌, is_some, unwrap_or, if◌then◌else◌}
 use Rattle.std.proofs.Math.ListN as list
 use Rattle.std.proofs.lemmas.List.{get_or-map, get_or-replicate, get_or_default, length-map, length-replicate, same_lists}
@@ -7,8 +7,9 @@ use Rattle.fl_types.specs.declared.dtype.PType.{PType}
 use Rattle.fl_types.specs.declared.dtype.DType.{DType}
 use Rattle.fl_types.specs.declared.dtype.DType.TheVariants as dtypes
 use Rattle.fl_types.specs.Integers.{wrap}
-use Rattle.fl_types.specs.Types.{has_ptype, integer_type}
-use Rattle.fl_types.specs.Validities.{covers, is_valid_at, items_of}
+use Rattle.fl_types.specs.declared.validity.Validity.{Validity}
+use Rattle.fl_types.specs.Types.{has_ptype, integer_type, is_integer, nullability_in}
+use Rattle.fl_types.specs.Validities.{covers, is_valid_at, items_of, nullability_of}
 use Rattle.fl_column.specs.Columns.{Column, ConstantParts, PrimitiveParts, column_of_constant, column_of_primitive, ptype_of_column}
 use Rattle.fl_column.proofs.ItemLaws.{get_or-items_of, length-items_of}
 use Rattle.fl_codec.specs.FoRColumns.{chunked_for, global_for, plus_reference}
@@ -19,7 +20,7 @@ use Rattle.fl_bitpacking.specs.Columns.{BitPackedParts, column_of_packed, packed
 use Rattle.fl_bitpacking.proofs.Tables.{get_or-table, length-table}
 use Rattle.fl_bitpacking.proofs.SoundParts.{same_ptype_is}
 use Rattle.fl_bitpacking.proofs.Slices.{value_part}
-use Rattle.fl_array.specs.Reads.{AreItemsOf}
+use Rattle.fl_array.specs.Reads.{AreItemsOf, IsValidityOf, integer_column}
 use Rattle.fl_array.specs.Readers.{AreItemsFrom}
 
 cond_some : (b : Bool) (x z : ℤ) → cond b (Some x) None ≡ Some z → x ≡ z
@@ -117,3 +118,20 @@ packed_shown parts blocks integer stored_at start n room each patched = λ i z h
     let item = sym (get_or-table (packed_item parts blocks) parts.len (start + i) None within) ∙ e in
     patched i h ∙ (ap (λ x. unwrap_or (patched_in parts.patches (start + i)) x) (each i h ∙ ap (item_of_blocks parts.ptype blocks parts.packed) place)
     ∙ packed_some (is_valid_at parts.validity (start + i)) _ z item)
+
+-- ---- whole columns
+same_dtype : (d : DType) (ptype : PType) (v : Validity) → has_ptype ptype d ≡ true → nullability_of v ≡ nullability_in d → dtypes.Primitive ptype (nullability_of v) ≡ d
+same_dtype (dtypes.Primitive other n) ptype v typed nullable = rw (same_ptype_is ptype other typed, nullable) refl
+same_dtype (dtypes.Bool n) ptype v typed nullable = cc
+
+-- a plain array of all integers that were read is the column
+pub column_read : {X : Type 0} (value : X → ℤ) (ptype : PType) (c : Column) (v : Validity) (xs : List X) (p : PrimitiveParts) → has_ptype ptype c.dtype ≡ true → IsValidityOf v c → AreItemsOf (map value xs) c → p ≡ record { ptype = ptype; slots = map value xs; validity = v } → column_of_primitive p ≡ c
+column_read value ptype c v xs p typed of shown made = rw (made, same_dtype c.dtype ptype v typed of.nullable, shown v of) refl
+
+integer_type_of : (d : DType) (ptype : PType) → has_ptype ptype d ≡ true → is_integer d ≡ true
+integer_type_of (dtypes.Primitive other n) ptype h = refl
+integer_type_of (dtypes.Bool n) ptype h = cc
+
+-- a column of a type of integers
+pub integers_of_type : (c : Column) (ptype : PType) → has_ptype ptype c.dtype ≡ true → integer_column c ≡ Ok c
+integers_of_type c ptype h = rw (integer_type_of c.dtype ptype h) refl

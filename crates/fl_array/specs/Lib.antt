@@ -29,3 +29,4 @@ pub mod NoNulls
 pub mod PackedSums
 pub mod Readers
 pub mod ReaderParts
+pub mod ReaderSources

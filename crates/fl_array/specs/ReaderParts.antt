@@ -9,8 +9,8 @@ use Rattle.fl_array.specs.PackedSums.{ArePackedSums, column_of_sums}
 use Rattle.fl_array.specs.PrimitiveCows.{primitive_of_cow}
 use Rattle.fl_array.specs.Readers.{Prepared}
 use Rattle.fl_array.specs.Trees.{column}
-use Rattle.fl_array.specs.declared.reader.Part.{Part}
-use Rattle.fl_array.specs.declared.reader.Part.TheVariants.{Constant, Decoded, Delta, FoR, FoRChunked, Packed, Primitive}
+use Rattle.fl_array.specs.declared.reader.direct.Part.{Part}
+use Rattle.fl_array.specs.declared.reader.direct.Part.TheVariants.{Constant, Decoded, Delta, FoR, FoRChunked, Packed, Primitive}
 
 -- the column that the parts stand for, by those of the readers in them
 abbrev pub column_of_part : Part → Column

@@ -32,6 +32,7 @@ use crate::bitpacking::{BitPackedArray, BitWidths, BitWidthsView};
 use crate::delta::DeltaArray;
 use crate::for_::{FoRArray, FoRReferences};
 use crate::proof_support::{prove_bools, prove_constant, prove_primitive};
+use crate::reader::Reader;
 use crate::rle::RLEArray;
 use crate::validities::{bool_validity, constant_validity, primitive_validity};
 use fastlanes::Work;
@@ -400,28 +401,14 @@ impl ArrayRef {
     pub fn to_primitive(&self, alloc: Global) -> Result<PrimitiveArray, FastLanesError>
         ensures { Answers column_of_primitive result (integer_column (column self.now)) }
     {
-        let mut work = Work::new();
         match &self.node {
             Node::Primitive(array) => array.try_clone(alloc),
             Node::Constant(array) => array.decode(alloc),
             Node::Bool(_) => Err(FastLanesError::NotInteger),
-            Node::BitPacked(array) => {
-                array.prove_integers();
-                array.prove_smaller();
-                array.decode(alloc, &mut work)
-            }
-            Node::FoR(array) => {
-                array.prove_integers();
-                array.prove_smaller();
-                array.to_primitive(alloc, &mut work)
-            }
-            Node::Delta(array) => {
-                array.prove_integers();
-                array.to_primitive(alloc)
-            }
-            Node::RLE(array) => {
-                array.prove_integers();
-                array.to_primitive(alloc)
+            _ => {
+                let reader = Reader::try_new(alloc, self)?;
+                let validity = self.validity(alloc)?;
+                reader.to_primitive(alloc, self.dtype(), validity)
             }
         }
     }

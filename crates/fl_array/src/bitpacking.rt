@@ -11,6 +11,7 @@ mod single_items;
 ghost use Rattle.std.specs.Prelude.{◌≡◌, ◌+◌, ◌*◌, ◌/◌, ◌^◌, ◌<◌, ◌≤◌, IfErr, IfOk, IsTrue, None, Ok, length, IfSome};
 ghost use Rattle.fl_types.specs.declared.error.FastLanesError.TheVariants.{OutOfMemory};
 ghost use Rattle.fl_types.specs.Refusals.{Answers};
+ghost use Rattle.fl_types.specs.Types.{has_ptype};
 ghost use Rattle.fl_types.specs.Values.{scalar_parts};
 ghost use Rattle.fl_column.specs.Columns.{column_of_primitive};
 ghost use Rattle.fl_column.specs.Queries.{scalar_in};
@@ -42,7 +43,9 @@ use fl_bitpacking::refusals::{
     block_offsets_refusal, blocked_refusal, constant_boundaries_refusal, global_refusal,
     positions_refusal,
 };
-use fl_column::{DType, FastLanesError, PType, PrimitiveArray, Scalar, Validity, chunk_count};
+use fl_column::{
+    DType, FastLanesError, NativePType, PType, PrimitiveArray, Scalar, Validity, chunk_count,
+};
 use fl_patches::Patches;
 use std::alloc::Global;
 use std::marker::Model;
@@ -469,8 +472,16 @@ impl BitPackedArray {
         self.prove_well_formed();
     }
 
+    /// The items have this type if the column does.
+    #[tactic(auto, using(crate::proofs::DecodedItems::bitpacked_typed))]
+    pub(crate) fn prove_typed<T: NativePType>(&self)
+        requires { IsTrue (has_ptype T.PTYPE (column (tree_of_bitpacked self.now)).dtype) }
+        ensures { self.now.parts.ptype ≡ T.PTYPE }
+    {
+        let _ = self.packed_data();
+    }
+
     /// The column in a primitive array. Each block is unpacked at most once.
-    #[cycle(decoding)]
     pub(crate) fn decode(
         &self,
         alloc: Global,

@@ -27,7 +27,7 @@ pub use crate::delta::delta_array_ext::{DeltaArrayExt, DeltaSlots};
 pub use crate::delta::delta_data::DeltaData;
 use fastlanes::FL_CHUNK_SIZE;
 use fl_codec::delta::children::{delta_children_refusal, lanes_of_dtype};
-use fl_codec::delta::{delta_compress, delta_decompress as decompress};
+use fl_codec::delta::delta_compress;
 use fl_codec::laws::deltas_and_back;
 use fl_column::{DType, FastLanesError, PrimitiveArray, Scalar, Validity, chunk_count};
 use std::alloc::Global;
@@ -256,23 +256,6 @@ impl DeltaArray {
         self.prove_well_formed();
     }
 
-    /// The column in a primitive array, from the decoded bases and deltas.
-    pub(crate) fn decompress(
-        &self,
-        alloc: Global,
-        bases: &PrimitiveArray,
-        deltas: &PrimitiveArray,
-    ) -> Result<PrimitiveArray, FastLanesError>
-        requires bases { column_of_primitive bases.now ≡ column self.now.bases }
-        requires deltas { column_of_primitive deltas.now ≡ column self.now.deltas }
-        ensures { Answers column_of_primitive result (integer_column (column (tree_of_delta self.now))) }
-    {
-        self.prove_well_formed();
-        let (_count, _total) = (bases.len(), deltas.len());
-        let (offset, len) = (self.offset(), self.len());
-        decompress(alloc, bases, deltas, self.validity(), offset, len)
-    }
-
     /// The lanes of a block.
     pub(crate) fn lanes(&self, bases: DType) -> usize
         requires { bases ≡ (column self.now.bases).dtype }
@@ -387,10 +370,7 @@ impl DeltaArray {
         requires { 0 < length (column (tree_of_delta self.now)).items }
         ensures { Answers scalar_parts result (Ok (scalar_in (column (tree_of_delta self.now)) 0)) }
     {
-        self.prove_integers();
-        let bases = self.bases().to_primitive(alloc)?;
-        let deltas = self.deltas().to_primitive(alloc)?;
-        let plain = self.decompress(alloc, &bases, &deltas)?;
+        let plain = self.to_primitive(alloc)?;
         Ok(plain.scalar_at(0))
     }
 

@@ -2,7 +2,6 @@
 //! of them or one for each chunk of 1024.
 
 mod compute;
-mod decode_into;
 mod for_array_ext;
 mod for_compare;
 mod for_compress;
@@ -33,8 +32,8 @@ pub use crate::for_::for_data::FoRData;
 pub use crate::for_::for_decompress::decompress;
 use fastlanes::FL_CHUNK_SIZE;
 use fl_bitpacking::refusals::positions_refusal;
+use fl_codec::for_::ItemOrder;
 use fl_codec::for_::single_items::plus_reference;
-use fl_codec::for_::{ItemOrder, decode, decode_chunked};
 use fl_column::{
     DType, FastLanesError, Nullability, PrimitiveArray, Scalar, Validity, chunk_count,
 };
@@ -481,42 +480,6 @@ impl FoRArray {
         ensures { integer_column (column references.now) ≡ Ok (column references.now) }
     {
         self.prove_well_formed();
-    }
-
-    /// The column in a primitive array, from the decoded `plain` items, if there is one reference.
-    pub(crate) fn decode_global(
-        &self,
-        alloc: Global,
-        plain: &PrimitiveArray,
-        reference: &Scalar,
-    ) -> Result<PrimitiveArray, FastLanesError>
-        requires same { GlobalReference (scalar_parts reference.now) ≡ self.now.references }
-        requires plain { Ok (column_of_primitive plain.now) ≡ integer_column (column self.now.encoded) }
-        ensures { Answers column_of_primitive result (integer_column (column (tree_of_for self.now))) }
-    {
-        self.prove_well_formed();
-        match reference.as_pvalue() {
-            Some(reference) => decode(alloc, plain, reference),
-            None => unreachable!(),
-        }
-    }
-
-    /// The column in a primitive array, from the decoded items and references.
-    pub(crate) fn decode_chunked(
-        &self,
-        alloc: Global,
-        plain: &PrimitiveArray,
-        references: &ArrayRef,
-        plain_references: &PrimitiveArray,
-    ) -> Result<PrimitiveArray, FastLanesError>
-        requires same { ChunkReferences references.now (offset_of_references self.now.references) ≡ self.now.references }
-        requires plain { Ok (column_of_primitive plain.now) ≡ integer_column (column self.now.encoded) }
-        requires plain_references { Ok (column_of_primitive plain_references.now) ≡ integer_column (column references.now) }
-        ensures { Answers column_of_primitive result (integer_column (column (tree_of_for self.now))) }
-    {
-        self.prove_well_formed();
-        let (_len, _count) = (plain.len(), plain_references.len());
-        decode_chunked(alloc, plain, plain_references, self.offset())
     }
 
     /// An index, which is in the range of the encoded array too.

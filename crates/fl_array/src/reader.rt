@@ -2,10 +2,13 @@
 //! the caller, without an allocation and without an error.
 
 mod deltas;
+pub(crate) mod direct;
 mod leaves;
 mod packed;
 mod preparing;
 mod references;
+mod runs;
+mod to_primitive;
 
 ghost use Rattle.std.specs.Prelude.{◌≡◌, ◌+◌, ◌-◌, ◌*◌, ◌^◌, ◌≤◌, ◌<◌, IsTrue, length, map, min};
 ghost use Rattle.fl_types.specs.Types.{has_ptype};
@@ -14,101 +17,61 @@ ghost use Rattle.fl_bitpacking.specs.Blocks.{value_at};
 ghost use Rattle.fl_array.specs.Readers.{AreItemsFrom, Prepared};
 ghost use Rattle.fl_array.specs.Reads.{AreItemsOf};
 
-use crate::array::primitive_cow::PrimitiveCow;
-use crate::delta::DeltaArray;
-use crate::reader::deltas::{offset_of_deltas, read_deltas};
-use crate::reader::leaves::{copy_items, fill_items};
-use crate::reader::packed::{PackedSums, len_of_sums, offset_of_sums, read_packed};
-use crate::reader::references::{add_reference, add_references};
+use crate::reader::direct::DirectReader;
+use crate::reader::runs::RunReader;
 use fastlanes::{FL_CHUNK_SIZE, Work};
 use fl_bitpacking::unpack_iter::BitPacked;
-use fl_column::{ConstantArray, PValue, PhysicalPType, PrimitiveArray, chunk_count};
+use fl_column::{PhysicalPType, chunk_count};
 use num_traits::WrappingAdd;
 use std::marker::Model;
 
 /// A reader of an array: what its encodings need beside the stored items is decoded, once. Contracts see the
 /// column, the position of its first item in its block, and how deep the reader is.
-#[cycle(reader)]
-pub struct Reader<'a> {
-    part: Part<'a>,
-}
-
-#[cycle(reader)]
 #[derive(Drop)]
-enum Part<'a> {
-    /// Integers, one by one.
-    Primitive(&'a PrimitiveArray),
-    /// One integer or null, repeated.
-    Constant(&'a ConstantArray),
-    /// Integers in packed blocks, with or without references.
-    Packed(PackedSums<'a>),
-    /// The items of a reader, each plus one reference.
-    FoR(PValue, Box<Reader<'a>>),
-    /// The items of a reader, each plus the reference of its chunk, where the first one is at an offset in its chunk.
-    FoRChunked(PrimitiveCow<'a>, usize, Box<Reader<'a>>),
-    /// The bases of a delta array, and the reader of its deltas.
-    Delta(&'a DeltaArray, PrimitiveCow<'a>, Box<Reader<'a>>),
-    /// Integers that were decoded when the reader was made.
-    Decoded(PrimitiveArray),
+pub struct Reader<'a> {
+    source: Source<'a>,
 }
 
-// Written out, so that letting one go is one call in each function that owns one.
-impl Drop for Reader<'_> {
-    #[cycle(reader)]
-    fn drop(self) {
-        let Reader { part: _ } = self;
-    }
+#[derive(Drop)]
+enum Source<'a> {
+    /// An array of any kind but run-length encoding.
+    Direct(DirectReader<'a>),
+    /// A run-length encoded array.
+    RLE(RunReader<'a>),
 }
 
 impl<'a> Model for Reader<'a> {
-    ghost use Rattle.std.proofs.Common.{arith};
     ghost use Rattle.fl_array.specs.Readers.{Prepared};
 
     ghost Value = { Prepared };
 
-    ghost use Rattle.fl_array.specs.ReaderParts.{IsPart, prepared};
+    ghost use Rattle.fl_array.specs.ReaderSources.{IsSource, prepared_source};
 
-    ghost view = { λ r. prepared r.part };
+    ghost view = { λ r. prepared_source r.source };
 
-    ghost invariant = { λ r. IsPart r.part };
-
-    ghost size = { λ p. p.depth };
-
-    ghost size_decreases = { λ r h. Prim.grind arith };
+    ghost invariant = { λ r. IsSource r.source };
 }
 
 impl Reader<'_> {
     /// The number of items.
-    #[tactic(auto, using(crate::proofs::ReadLaws::chunked_len))]
     pub fn len(&self) -> usize
         ensures { result ≡ length self.now.column.items }
     {
-        match &self.part {
-            Part::Primitive(plain) => plain.len(),
-            Part::Constant(constant) => constant.len(),
-            Part::Packed(packed) => len_of_sums(packed),
-            Part::FoR(_, encoded) => encoded.len(),
-            Part::FoRChunked(_, _, encoded) => encoded.len(),
-            Part::Delta(array, _, _) => array.len(),
-            Part::Decoded(plain) => plain.len(),
+        match &self.source {
+            Source::Direct(reader) => reader.len(),
+            Source::RLE(runs) => runs.len(),
         }
     }
 
     /// The position of the first item in its block of 1024.
-    #[tactic(auto, using(crate::proofs::ReadLaws::chunked_len))]
     fn offset(&self) -> usize
         ensures offset { result ≡ self.now.offset }
         ensures low { result < 1024 }
         ensures few { result + length self.now.column.items < 2 ^ 64 }
     {
-        // For the proof: there are fewer than 2 ^ 64 items.
-        let _len = self.len();
-        match &self.part {
-            Part::Packed(packed) => offset_of_sums(packed),
-            Part::FoR(_, encoded) => encoded.offset(),
-            Part::FoRChunked(_, _, encoded) => encoded.offset(),
-            Part::Delta(array, _, _) => offset_of_deltas(array),
-            _ => 0,
+        match &self.source {
+            Source::Direct(reader) => reader.offset(),
+            Source::RLE(runs) => runs.offset(),
         }
     }
 
@@ -136,8 +99,6 @@ impl Reader<'_> {
     }
 
     /// Writes the items from an index on, as many as the slice has.
-    #[tactic(auto, using(crate::proofs::ReadLaws::chunked_len))]
-    #[cycle(reads)]
     fn read_items<T: BitPacked + PhysicalPType + WrappingAdd>(
         &self,
         start: usize,
@@ -148,31 +109,17 @@ impl Reader<'_> {
         requires range { start + length items.old ≤ length self.now.column.items }
         ensures { AreItemsFrom start (length items.old) (value_at T.value items.new) self.now.column }
     {
-        match &self.part {
-            Part::Primitive(plain) => copy_items(plain, start, items),
-            Part::Constant(constant) => fill_items(constant, start, items),
-            Part::Packed(packed) => read_packed(packed, start, items, work),
-            Part::FoR(reference, encoded) => {
-                encoded.read_items(start, items, work);
-                add_reference(encoded, *reference, start, items)
-            }
-            Part::FoRChunked(references, offset, encoded) => {
-                encoded.read_items(start, items, work);
-                add_references(encoded, references.array(), *offset, start, items)
-            }
-            Part::Delta(array, bases, deltas) => {
-                read_deltas(array, bases.array(), deltas, start, items, work)
-            }
-            Part::Decoded(plain) => copy_items(plain, start, items),
+        match &self.source {
+            Source::Direct(reader) => reader.read_items(start, items, work),
+            Source::RLE(runs) => runs.read_items(start, items, work),
         }
     }
 
-    /// Writes the items from an index on, as many as the slice has, at most 1024: at each index where the column
-    /// has a null any integer. Nothing is allocated. Items of one block are read in one step.
+    /// Writes the items from an index on, as many as the slice has: at each index where the column has a null any
+    /// integer. Nothing is allocated. Items of one block are read in one step, and no block is read twice.
     pub fn read<T: BitPacked + PhysicalPType + WrappingAdd>(&self, start: usize, items: &mut [T])
         requires typed { IsTrue (has_ptype T.PTYPE self.now.column.dtype) }
         requires range { start + length items.old ≤ length self.now.column.items }
-        requires few { length items.old ≤ 1024 }
         ensures { AreItemsFrom start (length items.old) (value_at T.value items.new) self.now.column }
     {
         self.read_items(start, items, &mut Work::new());
@@ -180,15 +127,11 @@ impl Reader<'_> {
 
     /// Writes all items, each block once: at each index where the column has a null any integer. Nothing is allocated.
     #[tactic(auto, using(crate::proofs::ReadLaws::all_shown))]
-    pub(crate) fn decode_into<T: BitPacked + PhysicalPType + WrappingAdd>(
-        &self,
-        values: &mut [T],
-        work: &mut Work,
-    )
+    pub(crate) fn decode_into<T: BitPacked + PhysicalPType + WrappingAdd>(&self, values: &mut [T])
         requires typed { IsTrue (has_ptype T.PTYPE self.now.column.dtype) }
         requires long { length values.old ≡ length self.now.column.items }
         ensures { AreItemsOf (map T.value values.new) self.now.column }
     {
-        self.read_items(0, values, work);
+        self.read(0, values);
     }
 }

@@ -2,7 +2,6 @@
 //! its run value.
 
 mod compute;
-mod decode_into;
 mod decoding;
 mod dictionary;
 mod rle_array_ext;
@@ -37,7 +36,7 @@ use fastlanes::FL_CHUNK_SIZE;
 use fl_codec::laws::runs_and_back;
 use fl_codec::rle::children::rle_types_refusal;
 use fl_codec::rle::refusals::numbers_refusal;
-use fl_codec::rle::{Runs, decode, encode};
+use fl_codec::rle::{Runs, encode};
 use fl_column::{DType, FastLanesError, PrimitiveArray, Scalar, Validity, chunk_count};
 use std::alloc::Global;
 use std::marker::Model;
@@ -314,29 +313,6 @@ impl RLEArray {
         ensures offsets { integer_column (column self.now.offsets) ≡ Ok (column self.now.offsets) }
     {
         self.prove_well_formed();
-    }
-
-    /// The column in a primitive array, from the decoded run values, run indices and run offsets.
-    pub(crate) fn decompress(
-        &self,
-        alloc: Global,
-        values: &PrimitiveArray,
-        indices: &PrimitiveArray,
-        offsets: &PrimitiveArray,
-    ) -> Result<PrimitiveArray, FastLanesError>
-        requires values { column_of_primitive values.now ≡ column self.now.values }
-        requires indices { column_of_primitive indices.now ≡ column self.now.indices }
-        requires offsets { column_of_primitive offsets.now ≡ column self.now.offsets }
-        ensures { Answers column_of_primitive result (integer_column (column (tree_of_rle self.now))) }
-    {
-        self.prove_well_formed();
-        let (_values, _indices, _offsets) = (
-            values.validity(),
-            indices.validity(),
-            offsets.validity(),
-        );
-        let (offset, len) = (self.offset(), self.len());
-        decode(alloc, values, indices, offsets, offset, len)
     }
 
     /// The position of an item, and its chunk.

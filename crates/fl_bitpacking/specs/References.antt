@@ -5,8 +5,8 @@ use Rattle.fl_types.specs.Integers.{wrap}
 use Rattle.fl_types.specs.Values.{integer_of, ptype_of_value}
 use Rattle.fl_column.specs.Columns.{Column, PrimitiveParts}
 use Rattle.fl_codec.specs.FoRColumns.{chunked_for, global_for}
-use Rattle.fl_bitpacking.specs.declared.bitpack_decompress.unfor.References.{References}
-use Rattle.fl_bitpacking.specs.declared.bitpack_decompress.unfor.References.TheVariants.{Global, PerBlock}
+use Rattle.fl_bitpacking.specs.declared.references.References.{References}
+use Rattle.fl_bitpacking.specs.declared.references.References.TheVariants.{Global, PerBlock}
 
 -- the references are integers of this type, one for all or one for each of this many blocks
 abbrev pub AreReferencesOf : PType → ℕ → References → Type 0

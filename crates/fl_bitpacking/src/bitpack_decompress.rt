@@ -1,9 +1,7 @@
 //! Columns read back from their packed blocks.
 
 pub(crate) mod block_decoding;
-pub mod decode_into;
 pub mod read_into;
-pub mod unfor;
 
 ghost use Rattle.std.specs.Prelude.{◌≡◌, ◌+◌, ◌-◌, ◌*◌, ◌/◌, ◌<◌, ◌≤◌, ◌^◌, ℕ, IfOk, IfSome, Ok, OnOk, length, map, min, option_map, unwrap_or};
 ghost use Rattle.std.specs.Option.{option_copied};
@@ -13,7 +11,6 @@ ghost use Rattle.fl_types.specs.Refusals.{Answers};
 ghost use Rattle.fl_column.specs.Columns.{column_of_primitive};
 ghost use Rattle.fl_patches.specs.PatchMaps.{patched_in};
 ghost use Rattle.fl_bitpacking.specs.Blocks.{block_item, blocks_of, global_blocks, item_of_blocks, value_at};
-ghost use Rattle.fl_bitpacking.specs.BlockSums.{decoded_item, plus_block_reference};
 ghost use Rattle.fl_bitpacking.specs.Columns.{block_count, column_of_packed};
 ghost use Rattle.fl_bitpacking.specs.Parts.{AreReadable, Fit, blocks_in, blocks_to_read, parts_of};
 ghost use Rattle.fl_bitpacking.specs.ReadWidths.{AreWidthsOf};
@@ -84,7 +81,6 @@ pub fn unpack_single_primitive<T: PhysicalPType>(packed: &[u8], width: usize, i:
 /// lie in the first-level cache.
 fn push_block<T: BitPacked>(
     blocks: PackedBlocks,
-    references: &[T],
     j: usize,
     start: usize,
     items: &mut Vec<T>,
@@ -97,7 +93,7 @@ fn push_block<T: BitPacked>(
     requires begun { length items.old.items ≡ 1024 * j - blocks.offset }
     ensures long { OnOk result (length items.new.items ≡ min (1024 * (j + 1)) (blocks.entry.offset + blocks.entry.len) - blocks.entry.offset) }
     ensures before { OnOk result ((i : ℕ) → i < length items.old.items → value_at T.value items.new.items i ≡ value_at T.value items.old.items i) }
-    ensures part { OnOk result ((i : ℕ) → length items.old.items + i < length items.new.items → value_at T.value items.new.items (length items.old.items + i) ≡ decoded_item (plus_block_reference T.PTYPE (map T.value references.now)) T.PTYPE (blocks_of blocks.entry.widths) blocks.entry.packed.now (blocks.entry.offset + (length items.old.items + i))) }
+    ensures part { OnOk result ((i : ℕ) → length items.old.items + i < length items.new.items → value_at T.value items.new.items (length items.old.items + i) ≡ item_of_blocks T.PTYPE (blocks_of blocks.entry.widths) blocks.entry.packed.now (blocks.entry.offset + (length items.old.items + i))) }
     ensures next { IfOk result (λ next. next ≡ (blocks_of blocks.entry.widths).start (j + 1)) }
     ensures blocks { OnOk result (work.new.blocks ≡ min (work.old.blocks + 1) u64.MAX) }
     ensures most { work.new.blocks ≤ work.old.blocks + 1 }
@@ -106,20 +102,19 @@ fn push_block<T: BitPacked>(
     let (from, to) = blocks.places(j);
     items.resize(to, T::zero())?;
     let part = &mut items[from..];
-    let decoder = PlusReferences { references };
+    let decoder = PlusReferences { references: &[] };
     Ok(blocks.decode_block(&decoder, j, start, part, scratch, work))
 }
 
-/// The items of packed blocks, plus their references; each block is unpacked once.
-pub(crate) fn decode_blocks<T: BitPacked>(
+/// The items of packed blocks; each block is unpacked once.
+fn decode_blocks<T: BitPacked>(
     alloc: Global,
     blocks: PackedBlocks,
-    references: &[T],
     work: &mut Work,
 ) -> Result<Vec<T>, AllocError>
     requires { AreReadable (bits_of_type T.PTYPE) blocks }
     ensures long { IfOk result (λ v. length v.items ≡ blocks.entry.len) }
-    ensures items { IfOk result (λ v. (i : ℕ) → i < blocks.entry.len → value_at T.value v.items i ≡ decoded_item (plus_block_reference T.PTYPE (map T.value references.now)) T.PTYPE (blocks_of blocks.entry.widths) blocks.entry.packed.now (blocks.entry.offset + i)) }
+    ensures items { IfOk result (λ v. (i : ℕ) → i < blocks.entry.len → value_at T.value v.items i ≡ item_of_blocks T.PTYPE (blocks_of blocks.entry.widths) blocks.entry.packed.now (blocks.entry.offset + i)) }
     ensures blocks { OnOk result (work.new.blocks ≡ min (work.old.blocks + blocks_in blocks.entry) u64.MAX) }
     ensures most { work.new.blocks ≤ work.old.blocks + blocks_in blocks.entry }
     ensures words { work.new.words ≡ work.old.words }
@@ -129,7 +124,7 @@ pub(crate) fn decode_blocks<T: BitPacked>(
     let mut scratch = [T::zero(); FL_CHUNK_SIZE];
     let mut start = 0;
     for j in 0..blocks.count() {
-        start = push_block(blocks, references, j, start, &mut items, &mut scratch, work)?;
+        start = push_block(blocks, j, start, &mut items, &mut scratch, work)?;
     }
     Ok(items)
 }
@@ -161,32 +156,13 @@ pub(crate) fn unpack_values<T: BitPacked>(
             let items = zeros(alloc, blocks.len)?;
             Ok(items)
         }
-        _ => decode_blocks(alloc, blocks, &[], work),
+        _ => decode_blocks(alloc, blocks, work),
     }
-}
-
-/// These items, with the patches' values, plus the references of their blocks, at their indices, if there are
-/// patches. Item 0 is at `first` in its block.
-pub(crate) fn with_patches<T: NativePType + WrappingAdd>(
-    mut items: Vec<T>,
-    patches: Option<&Patches>,
-    references: &[T],
-    first: usize,
-) -> Vec<T>
-    requires patches { IfSome (option_copied patches) (λ p. (p.array_len ≡ length items.items) × (p.values.ptype ≡ T.PTYPE)) }
-    requires few { first + length items.items < 2 ^ 64 }
-    ensures long { length result.items ≡ length items.items }
-    ensures items { (i : ℕ) → i < length items.items → value_at T.value result.items i ≡ unwrap_or (option_map (plus_block_reference T.PTYPE (map T.value references.now) ((first + i) / 1024)) (patched_in (option_copied patches.entry) i)) (value_at T.value items.items i) }
-{
-    if let Some(patches) = patches {
-        write_patches(patches, references, first, &mut items);
-    }
-    items
 }
 
 /// These items, with the patches' values at their indices, if there are patches.
 pub(crate) fn with_values<T: NativePType + WrappingAdd>(
-    items: Vec<T>,
+    mut items: Vec<T>,
     patches: Option<&Patches>,
 ) -> Vec<T>
     requires { IfSome (option_copied patches) (λ p. (p.array_len ≡ length items.items) × (p.values.ptype ≡ T.PTYPE)) }
@@ -194,7 +170,10 @@ pub(crate) fn with_values<T: NativePType + WrappingAdd>(
     ensures items { (i : ℕ) → i < length items.items → value_at T.value result.items i ≡ unwrap_or (patched_in (option_copied patches.entry) i) (value_at T.value items.items i) }
 {
     let _len = items.len();
-    with_patches(items, patches, &[], 0)
+    if let Some(patches) = patches {
+        write_patches(patches, &[], 0, &mut items);
+    }
+    items
 }
 
 fn unpack_typed<T: BitPacked + WrappingAdd>(
@@ -217,7 +196,7 @@ fn unpack_typed<T: BitPacked + WrappingAdd>(
         len: column.len,
     };
     let values = unpack_values::<T>(alloc, blocks, work)?;
-    let items = with_patches(values, column.patches, &[], column.offset);
+    let items = with_values(values, column.patches);
     let validity = column.validity.try_clone(alloc)?;
     PrimitiveArray::new(items, validity)
 }

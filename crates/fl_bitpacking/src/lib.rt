@@ -13,6 +13,7 @@ pub mod laws;
 pub mod packed_data;
 mod patching;
 pub mod places;
+pub mod references;
 pub mod refusals;
 pub mod unpack_iter;
 pub mod words;

@@ -21,7 +21,6 @@ ghost use Rattle.fl_bitpacking.specs.References.{AreReferencesOf, plus_reference
 ghost use Rattle.fl_bitpacking.specs.Refusals.{AreConsistent, blocked_refusal, global_refusal};
 ghost use Rattle.fl_bitpacking.specs.SlicedParts.{HasEnds, IsBlockedSlice, end_block, first_block, sliced_parts};
 
-use crate::bitpack_decompress::unfor::{References, unfor_column};
 use crate::bitpack_decompress::{PackedColumn, unpack_column};
 use crate::boundaries::global_boundary_array;
 use crate::laws::parts_are_consistent;
@@ -217,24 +216,6 @@ impl PackedData {
         ensures words { work.new.words ≡ work.old.words }
     {
         unpack_column(alloc, &self.column(), widths, work)
-    }
-
-    /// The column of the items plus the references, whose blocks have these widths. Each block is unpacked once.
-    pub fn unfor<'a>(
-        &'a self,
-        alloc: Global,
-        widths: Widths<'a>,
-        references: References,
-        work: &mut Work,
-    ) -> Result<PrimitiveArray, FastLanesError>
-        requires references { AreReferencesOf self.now.ptype (block_count self.now) references }
-        requires widths { AreWidthsOf self.now widths }
-        ensures column { Answers column_of_primitive result (Ok (plus_references references.entry self.now.offset (column_of_packed self.now (blocks_of widths.entry)))) }
-        ensures blocks { OnOk result (work.new.blocks ≡ min (work.old.blocks + block_count self.now) u64.MAX) }
-        ensures most { work.new.blocks ≤ work.old.blocks + block_count self.now }
-        ensures words { work.new.words ≡ work.old.words }
-    {
-        unfor_column(alloc, &self.column(), widths, references, work)
     }
 
     /// The parts of the items of `start..end`, whose blocks are the bytes of `from..to`.

@@ -1,8 +1,5 @@
 //! Decoding of bit-packed arrays, and single items by their packed bits.
 
-mod decode_into;
-mod unfor;
-
 ghost use Rattle.std.specs.Prelude.{◌≡◌, ◌<◌, IfErr, Ok, false};
 ghost use Rattle.fl_types.specs.declared.error.FastLanesError.TheVariants.{NotGlobal};
 ghost use Rattle.fl_types.specs.Refusals.{Answers};

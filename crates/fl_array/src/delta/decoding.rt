@@ -7,6 +7,8 @@ ghost use Rattle.fl_array.specs.DeltaArrays.{tree_of_delta};
 ghost use Rattle.fl_array.specs.Trees.{column};
 
 use crate::delta::DeltaArray;
+use crate::reader::Reader;
+use crate::reader::direct::DirectReader;
 use fl_column::{FastLanesError, PrimitiveArray};
 use std::alloc::Global;
 
@@ -21,19 +23,14 @@ pub fn delta_decompress(alloc: Global, array: &DeltaArray) -> Result<PrimitiveAr
 }
 
 impl DeltaArray {
-    /// The column in a primitive array. Primitive deltas are read where they are.
-    #[cycle(decoding)]
+    /// The column in a primitive array.
     pub(crate) fn to_primitive(&self, alloc: Global) -> Result<PrimitiveArray, FastLanesError>
         ensures { Answers column_of_primitive result (Ok (column (tree_of_delta self.now))) }
     {
         self.prove_integers();
-        let bases = self.bases().to_primitive(alloc)?;
-        match self.deltas().as_primitive() {
-            Some(deltas) => self.decompress(alloc, &bases, deltas),
-            None => {
-                let deltas = self.deltas().to_primitive(alloc)?;
-                self.decompress(alloc, &bases, &deltas)
-            }
-        }
+        let reader = Reader::direct(DirectReader::of_deltas(alloc, self)?);
+        let validity = self.column_validity(alloc)?;
+        let dtype = self.dtype_from(self.bases().dtype());
+        reader.to_primitive(alloc, dtype, validity)
     }
 }

@@ -16,8 +16,8 @@ ghost use Rattle.fl_array.specs.Trees.{column};
 use crate::array::ArrayRef;
 use crate::bitpacking::BitPackedArray;
 use crate::for_::{FoRArray, FoRReferences};
-use fastlanes::Work;
-use fl_bitpacking::bitpack_decompress::unfor::References;
+use crate::reader::Reader;
+use crate::reader::direct::DirectReader;
 use fl_column::{FastLanesError, PValue, PrimitiveArray, Scalar};
 use std::alloc::Global;
 
@@ -32,7 +32,7 @@ use std::alloc::Global;
 pub fn decompress(alloc: Global, array: &FoRArray) -> Result<PrimitiveArray, FastLanesError>
     ensures { Answers column_of_primitive result (Ok (column (tree_of_for array.now))) }
 {
-    array.to_primitive(alloc, &mut Work::new())
+    array.to_primitive(alloc)
 }
 
 impl FoRArray {
@@ -83,42 +83,13 @@ impl FoRArray {
     }
 
     /// The column in a primitive array.
-    #[cycle(decoding)]
-    pub(crate) fn to_primitive(
-        &self,
-        alloc: Global,
-        work: &mut Work,
-    ) -> Result<PrimitiveArray, FastLanesError>
+    pub(crate) fn to_primitive(&self, alloc: Global) -> Result<PrimitiveArray, FastLanesError>
         ensures { Answers column_of_primitive result (Ok (column (tree_of_for self.now))) }
     {
         self.prove_integers();
-        match self.references() {
-            FoRReferences::Global(reference) => match self.encoded().as_bitpacked() {
-                Some(packed) => {
-                    packed.prove_smaller();
-                    let reference = self.reference_of_packed(packed, reference);
-                    packed.unfor(alloc, References::Global(reference), work)
-                }
-                None => {
-                    let plain = self.encoded().to_primitive(alloc)?;
-                    self.decode_global(alloc, &plain, reference)
-                }
-            },
-            FoRReferences::Blocked(references) => {
-                self.prove_references_are_integers(references);
-                let plain_references = references.to_primitive(alloc)?;
-                match self.packed_in_chunks() {
-                    Some(packed) => {
-                        packed.prove_smaller();
-                        self.prove_references_of_blocks(packed, references, &plain_references);
-                        packed.unfor(alloc, References::PerBlock(&plain_references), work)
-                    }
-                    None => {
-                        let plain = self.encoded().to_primitive(alloc)?;
-                        self.decode_chunked(alloc, &plain, references, &plain_references)
-                    }
-                }
-            }
-        }
+        let reader = Reader::direct(DirectReader::of_for(alloc, self)?);
+        let validity = self.column_validity(self.encoded().validity(alloc)?);
+        let dtype = self.dtype_from(self.encoded().dtype());
+        reader.to_primitive(alloc, dtype, validity)
     }
 }

@@ -9,7 +9,7 @@ ghost use Rattle.fl_array.specs.Readers.{AreItemsFrom};
 ghost use Rattle.fl_array.specs.Trees.{column};
 
 use crate::delta::DeltaArray;
-use crate::reader::Reader;
+use crate::reader::direct::DirectReader;
 use fastlanes::{FL_CHUNK_SIZE, FastLanes, Work};
 use fl_bitpacking::places::places_from;
 use fl_bitpacking::unpack_iter::BitPacked;
@@ -35,7 +35,7 @@ pub(crate) fn offset_of_deltas(array: &DeltaArray) -> usize
 pub(crate) fn read_deltas<T: BitPacked + PhysicalPType + WrappingAdd>(
     array: &DeltaArray,
     bases: &PrimitiveArray,
-    deltas: &Reader,
+    deltas: &DirectReader,
     start: usize,
     items: &mut [T],
     work: &mut Work,

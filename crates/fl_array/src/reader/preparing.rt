@@ -14,7 +14,9 @@ ghost use Rattle.fl_array.specs.FoRArrays.{ChunkReferences, GlobalReference, off
 ghost use Rattle.fl_array.specs.PackedSums.{AreHeldReferences, plus_held};
 ghost use Rattle.fl_array.specs.PrimitiveCows.{primitive_of_cow};
 ghost use Rattle.fl_array.specs.ReaderParts.{AreDeltaParts, AreReferences};
+ghost use Rattle.fl_array.specs.ReaderSources.{AreRunParts};
 ghost use Rattle.fl_array.specs.Reads.{integer_column};
+ghost use Rattle.fl_array.specs.RLEArrays.{tree_of_rle};
 ghost use Rattle.fl_array.specs.Trees.{column};
 
 use crate::array::primitive_cow::PrimitiveCow;
@@ -23,8 +25,11 @@ use crate::bitpacking::BitPackedArray;
 use crate::bitpacking::block_widths::BlockWidths;
 use crate::delta::DeltaArray;
 use crate::for_::{FoRArray, FoRReferences};
+use crate::reader::direct::{DirectReader, Part};
 use crate::reader::packed::{HeldReferences, PackedSums};
-use crate::reader::{Part, Reader};
+use crate::reader::runs::RunReader;
+use crate::reader::{Reader, Source};
+use crate::rle::RLEArray;
 use fl_column::{ConstantArray, FastLanesError, PValue, PrimitiveArray, Scalar};
 use std::alloc::Global;
 
@@ -62,7 +67,7 @@ fn prove_references(array: &FoRArray, references: &ArrayRef, plain: &PrimitiveAr
 }
 
 /// The decoded bases, and a reader of the deltas, are the parts of a reader of a delta array.
-fn prove_deltas(array: &DeltaArray, bases: &PrimitiveArray, deltas: &Reader)
+fn prove_deltas(array: &DeltaArray, bases: &PrimitiveArray, deltas: &DirectReader)
     requires bases { Ok (column_of_primitive bases.now) ≡ integer_column (column array.now.bases) }
     requires deltas { Ok deltas.now.column ≡ integer_column (column array.now.deltas) }
     ensures { AreDeltaParts array.now bases.now deltas.now.column }
@@ -71,18 +76,30 @@ fn prove_deltas(array: &DeltaArray, bases: &PrimitiveArray, deltas: &Reader)
     array.deltas().prove_no_nulls();
 }
 
-impl<'a> Reader<'a> {
+/// What is read of a run-length encoded array is made of it.
+fn prove_runs(runs: &RunReader)
+    requires values { Ok (column_of_primitive (primitive_of_cow runs.now.values)) ≡ integer_column (column runs.now.array.now.values) }
+    requires offsets { Ok (column_of_primitive (primitive_of_cow runs.now.offsets)) ≡ integer_column (column runs.now.array.now.offsets) }
+    requires indices { Ok runs.now.indices.column ≡ integer_column (column runs.now.array.now.indices) }
+    requires index_type { runs.now.index_type ≡ (column runs.now.array.now.indices).dtype }
+    ensures { AreRunParts runs.now }
+{
+    runs.array.prove_integers();
+    runs.array.indices().prove_no_nulls();
+}
+
+impl<'a> DirectReader<'a> {
     /// The reader of packed items, plus references, if there are any.
     fn packed(
         array: &'a BitPackedArray,
         widths: BlockWidths<'a>,
         references: HeldReferences<'a>,
-    ) -> Reader<'a>
+    ) -> DirectReader<'a>
         requires widths { AreBlockWidths array.now widths }
         requires references { AreHeldReferences array.now.parts.ptype (block_count array.now.parts) references }
         ensures { result.column ≡ plus_held references.entry array.now.parts.offset (column (tree_of_bitpacked array.now)) }
     {
-        Reader {
+        DirectReader {
             part: Part::Packed(PackedSums {
                 array,
                 widths,
@@ -94,14 +111,14 @@ impl<'a> Reader<'a> {
     /// The reader that adds a reference to the items of another one.
     fn plus(
         alloc: Global,
-        encoded: Reader<'a>,
+        encoded: DirectReader<'a>,
         reference: PValue,
-    ) -> Result<Reader<'a>, FastLanesError>
+    ) -> Result<DirectReader<'a>, FastLanesError>
         requires { ptype_of_value reference ≡ ptype_of_column encoded.column }
         ensures { Answers (λ r. r.column) result (Ok (global_for (integer_of reference) encoded.entry.column)) }
     {
         let encoded = Box::new(alloc, encoded)?;
-        Ok(Reader {
+        Ok(DirectReader {
             part: Part::FoR(reference, encoded),
         })
     }
@@ -109,15 +126,15 @@ impl<'a> Reader<'a> {
     /// The reader that adds the references of chunks to the items of another one.
     fn plus_chunked(
         alloc: Global,
-        encoded: Reader<'a>,
+        encoded: DirectReader<'a>,
         references: PrimitiveCow<'a>,
         offset: usize,
-    ) -> Result<Reader<'a>, FastLanesError>
+    ) -> Result<DirectReader<'a>, FastLanesError>
         requires { AreReferences (primitive_of_cow references) offset encoded.column }
         ensures { Answers (λ r. r.column) result (Ok (chunked_for (primitive_of_cow references.entry).slots offset encoded.entry.column)) }
     {
         let encoded = Box::new(alloc, encoded)?;
-        Ok(Reader {
+        Ok(DirectReader {
             part: Part::FoRChunked(references, offset, encoded),
         })
     }
@@ -127,109 +144,195 @@ impl<'a> Reader<'a> {
         alloc: Global,
         array: &'a DeltaArray,
         bases: PrimitiveCow<'a>,
-        deltas: Reader<'a>,
-    ) -> Result<Reader<'a>, FastLanesError>
+        deltas: DirectReader<'a>,
+    ) -> Result<DirectReader<'a>, FastLanesError>
         requires { AreDeltaParts array.now (primitive_of_cow bases) deltas.column }
         ensures { Answers (λ r. r.column) result (Ok (column (tree_of_delta array.now))) }
     {
         let deltas = Box::new(alloc, deltas)?;
-        Ok(Reader {
+        Ok(DirectReader {
             part: Part::Delta(array, bases, deltas),
         })
     }
 
-    /// The reader of a bit-packed array.
-    fn of_packed(alloc: Global, array: &'a BitPackedArray) -> Result<Reader<'a>, FastLanesError>
-        ensures { Answers (λ r. r.column) result (Ok (column (tree_of_bitpacked array.now))) }
-    {
-        let widths = array.widths(alloc)?;
-        Ok(Reader::packed(array, widths, HeldReferences::None))
-    }
-
     /// The reader of a bit-packed array, to whose items one reference is added.
-    fn of_packed_for(
-        alloc: Global,
+    fn packed_for(
         sums: &FoRArray,
         packed: &'a BitPackedArray,
+        widths: BlockWidths<'a>,
         reference: &Scalar,
-    ) -> Result<Reader<'a>, FastLanesError>
+    ) -> DirectReader<'a>
         requires same { GlobalReference (scalar_parts reference.now) ≡ sums.now.references }
         requires packed { tree_of_bitpacked packed.now ≡ sums.now.encoded }
-        ensures { Answers (λ r. r.column) result (Ok (column (tree_of_for sums.now))) }
+        requires widths { AreBlockWidths packed.now widths }
+        ensures { result.column ≡ column (tree_of_for sums.now) }
     {
         let reference = sums.reference_of_packed(packed, reference);
-        let widths = packed.widths(alloc)?;
-        Ok(Reader::packed(packed, widths, HeldReferences::Global(reference)))
+        DirectReader::packed(packed, widths, HeldReferences::Global(reference))
     }
 
-    /// The reader of a bit-packed array, to the items of whose blocks their references are added.
-    fn of_packed_chunks(
-        alloc: Global,
+    /// The reader of a bit-packed array, to the items of whose blocks their decoded references are added.
+    fn packed_chunks(
         sums: &FoRArray,
         packed: &'a BitPackedArray,
-        references: &'a ArrayRef,
-    ) -> Result<Reader<'a>, FastLanesError>
+        widths: BlockWidths<'a>,
+        references: &ArrayRef,
+        plain: PrimitiveCow<'a>,
+    ) -> DirectReader<'a>
         requires same { ChunkReferences references.now (offset_of_references sums.now.references) ≡ sums.now.references }
         requires packed { tree_of_bitpacked packed.now ≡ sums.now.encoded }
         requires offset { packed.now.parts.offset ≡ offset_of_references sums.now.references }
-        ensures { Answers (λ r. r.column) result (Ok (column (tree_of_for sums.now))) }
+        requires widths { AreBlockWidths packed.now widths }
+        requires plain { Ok (column_of_primitive (primitive_of_cow plain)) ≡ integer_column (column references.now) }
+        ensures { result.column ≡ column (tree_of_for sums.now) }
     {
-        sums.prove_references_are_integers(references);
-        let plain = references.primitive_cow(alloc)?;
         sums.prove_references_of_blocks(packed, references, plain.array());
-        let widths = packed.widths(alloc)?;
-        Ok(Reader::packed(packed, widths, HeldReferences::PerBlock(plain)))
+        DirectReader::packed(packed, widths, HeldReferences::PerBlock(plain))
     }
 
     /// The reader of a FoR array.
-    #[cycle(preparing)]
-    fn of_for(alloc: Global, sums: &'a FoRArray) -> Result<Reader<'a>, FastLanesError>
+    #[cycle(decoding)]
+    pub(crate) fn of_for(
+        alloc: Global,
+        sums: &'a FoRArray,
+    ) -> Result<DirectReader<'a>, FastLanesError>
         ensures { Answers (λ r. r.column) result (Ok (column (tree_of_for sums.now))) }
     {
         match sums.references() {
             FoRReferences::Global(reference) => match sums.encoded().as_bitpacked() {
-                Some(packed) => Reader::of_packed_for(alloc, sums, packed, reference),
+                Some(packed) => {
+                    packed.prove_smaller();
+                    let widths = packed.widths(alloc)?;
+                    Ok(DirectReader::packed_for(sums, packed, widths, reference))
+                }
                 None => {
                     let reference = reference_of(sums, reference);
-                    let encoded = Reader::try_new(alloc, sums.encoded())?;
-                    Reader::plus(alloc, encoded, reference)
+                    let encoded = DirectReader::try_new(alloc, sums.encoded())?;
+                    DirectReader::plus(alloc, encoded, reference)
                 }
             },
-            FoRReferences::Blocked(references) => match sums.packed_in_chunks() {
-                Some(packed) => Reader::of_packed_chunks(alloc, sums, packed, references),
-                None => {
-                    sums.prove_references_are_integers(references);
-                    let plain = references.primitive_cow(alloc)?;
-                    prove_references(sums, references, plain.array());
-                    let encoded = Reader::try_new(alloc, sums.encoded())?;
-                    Reader::plus_chunked(alloc, encoded, plain, sums.offset())
+            FoRReferences::Blocked(references) => {
+                sums.prove_references_are_integers(references);
+                let plain = references.primitive_cow(alloc)?;
+                match sums.packed_in_chunks() {
+                    Some(packed) => {
+                        packed.prove_smaller();
+                        let widths = packed.widths(alloc)?;
+                        Ok(DirectReader::packed_chunks(sums, packed, widths, references, plain))
+                    }
+                    None => {
+                        prove_references(sums, references, plain.array());
+                        let encoded = DirectReader::try_new(alloc, sums.encoded())?;
+                        DirectReader::plus_chunked(alloc, encoded, plain, sums.offset())
+                    }
                 }
-            },
+            }
         }
     }
 
     /// The reader of a delta array: its bases are decoded, and its deltas have a reader.
-    #[cycle(preparing)]
+    #[cycle(decoding)]
     pub(crate) fn of_deltas(
         alloc: Global,
         array: &'a DeltaArray,
-    ) -> Result<Reader<'a>, FastLanesError>
+    ) -> Result<DirectReader<'a>, FastLanesError>
         ensures { Answers (λ r. r.column) result (Ok (column (tree_of_delta array.now))) }
     {
         array.prove_integers();
         let bases = array.bases().primitive_cow(alloc)?;
-        let deltas = Reader::try_new(alloc, array.deltas())?;
+        let deltas = DirectReader::try_new(alloc, array.deltas())?;
         prove_deltas(array, bases.array(), &deltas);
-        Reader::summed(alloc, array, bases, deltas)
+        DirectReader::summed(alloc, array, bases, deltas)
     }
 
-    /// The reader of decoded items.
-    fn decoded(alloc: Global, array: &ArrayRef) -> Result<Reader<'a>, FastLanesError>
+    /// The reader of the decoded items of a run-length encoded array.
+    #[cycle(decoding)]
+    fn decoded(alloc: Global, runs: &RLEArray) -> Result<DirectReader<'a>, FastLanesError>
+        ensures { Answers (λ r. r.column) result (Ok (column (tree_of_rle runs.now))) }
+    {
+        let reader = Reader::of_runs(alloc, runs)?;
+        let plain = runs.read_all(alloc, &reader)?;
+        Ok(DirectReader {
+            part: Part::Decoded(plain),
+        })
+    }
+
+    /// A reader of an array of integers.
+    ///
+    /// # Errors
+    /// `NotInteger` if the array is of booleans.
+    #[cycle(decoding)]
+    pub(crate) fn try_new(
+        alloc: Global,
+        array: &'a ArrayRef,
+    ) -> Result<DirectReader<'a>, FastLanesError>
         ensures { Answers (λ r. r.column) result (integer_column (column array.now)) }
     {
-        let plain = array.to_primitive(alloc)?;
+        match array.node() {
+            Node::Primitive(plain) => Ok(DirectReader {
+                part: Part::Primitive(plain),
+            }),
+            Node::Constant(constant) => {
+                prove_integers(constant);
+                Ok(DirectReader {
+                    part: Part::Constant(constant),
+                })
+            }
+            Node::Bool(_) => Err(FastLanesError::NotInteger),
+            Node::BitPacked(packed) => {
+                packed.prove_integers();
+                packed.prove_smaller();
+                let widths = packed.widths(alloc)?;
+                Ok(DirectReader::packed(packed, widths, HeldReferences::None))
+            }
+            Node::FoR(sums) => {
+                sums.prove_integers();
+                sums.prove_smaller();
+                DirectReader::of_for(alloc, sums)
+            }
+            Node::Delta(deltas) => {
+                deltas.prove_integers();
+                DirectReader::of_deltas(alloc, deltas)
+            }
+            Node::RLE(runs) => {
+                runs.prove_integers();
+                DirectReader::decoded(alloc, runs)
+            }
+        }
+    }
+}
+
+impl<'a> Reader<'a> {
+    /// The reader of an array that is not run-length encoded.
+    pub(crate) fn direct(reader: DirectReader<'a>) -> Reader<'a>
+        ensures { result ≡ reader.entry }
+    {
+        Reader {
+            source: Source::Direct(reader),
+        }
+    }
+
+    /// The reader of a run-length encoded array: its run values and run offsets are decoded, and its run indices have a
+    /// reader.
+    #[cycle(decoding)]
+    pub(crate) fn of_runs(alloc: Global, array: &'a RLEArray) -> Result<Reader<'a>, FastLanesError>
+        ensures { Answers (λ r. r.column) result (Ok (column (tree_of_rle array.now))) }
+    {
+        array.prove_integers();
+        let values = array.values().primitive_cow(alloc)?;
+        let offsets = array.offsets().primitive_cow(alloc)?;
+        let indices = DirectReader::try_new(alloc, array.indices())?;
+        let index_type = array.indices().dtype();
+        let runs = RunReader {
+            array,
+            values,
+            offsets,
+            indices,
+            index_type,
+        };
+        prove_runs(&runs);
         Ok(Reader {
-            part: Part::Decoded(plain),
+            source: Source::RLE(runs),
         })
     }
 
@@ -237,34 +340,16 @@ impl<'a> Reader<'a> {
     ///
     /// # Errors
     /// `NotInteger` if the array is of booleans.
-    #[cycle(preparing)]
+    #[cycle(decoding)]
     pub fn try_new(alloc: Global, array: &'a ArrayRef) -> Result<Reader<'a>, FastLanesError>
         ensures { Answers (λ r. r.column) result (integer_column (column array.now)) }
     {
         match array.node() {
-            Node::Primitive(plain) => Ok(Reader {
-                part: Part::Primitive(plain),
-            }),
-            Node::Constant(constant) => {
-                prove_integers(constant);
-                Ok(Reader {
-                    part: Part::Constant(constant),
-                })
+            Node::RLE(runs) => {
+                runs.prove_integers();
+                Reader::of_runs(alloc, runs)
             }
-            Node::BitPacked(packed) => {
-                packed.prove_integers();
-                Reader::of_packed(alloc, packed)
-            }
-            Node::FoR(sums) => {
-                sums.prove_integers();
-                sums.prove_smaller();
-                Reader::of_for(alloc, sums)
-            }
-            Node::Delta(deltas) => {
-                deltas.prove_integers();
-                Reader::of_deltas(alloc, deltas)
-            }
-            _ => Reader::decoded(alloc, array),
+            _ => Ok(Reader::direct(DirectReader::try_new(alloc, array)?)),
         }
     }
 }

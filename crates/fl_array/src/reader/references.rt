@@ -9,7 +9,7 @@ ghost use Rattle.fl_bitpacking.specs.Blocks.{value_at};
 ghost use Rattle.fl_array.specs.ReaderParts.{AreReferences};
 ghost use Rattle.fl_array.specs.Readers.{AreItemsFrom};
 
-use crate::reader::Reader;
+use crate::reader::direct::DirectReader;
 use fastlanes::FL_CHUNK_SIZE;
 use fl_codec::for_::in_place::{add_in_place, add_references_in_place};
 use fl_column::{NativePType, PValue, PrimitiveArray};
@@ -17,7 +17,7 @@ use num_traits::WrappingAdd;
 
 /// Adds the reference to items that were read.
 pub(crate) fn add_reference<T: NativePType + WrappingAdd>(
-    encoded: &Reader,
+    encoded: &DirectReader,
     reference: PValue,
     start: usize,
     items: &mut [T],
@@ -56,7 +56,7 @@ fn add_chunk_references<T: NativePType + WrappingAdd>(
 /// Adds the references of the chunks to items that were read.
 #[tactic(auto, using(crate::proofs::ReadLaws::type_of_column))]
 pub(crate) fn add_references<T: NativePType + WrappingAdd>(
-    encoded: &Reader,
+    encoded: &DirectReader,
     references: &PrimitiveArray,
     offset: usize,
     start: usize,

@@ -1,13 +1,12 @@
-//! Columns that are decoded from runs, into a new array or into a slice of the caller.
+//! Columns that are decoded from runs, and the items of one chunk of them.
 
-ghost use Rattle.std.specs.Prelude.{◌≡◌, ◌+◌, ◌*◌, ◌<◌, ◌≤◌, ◌^◌, ℕ, IfOk, IfSome, IsTrue, None, Ok, length, map, pos, slice_index_or, unsigned_abs};
+ghost use Rattle.std.specs.Prelude.{◌≡◌, ◌+◌, ◌*◌, ◌<◌, ◌≤◌, ◌^◌, ℕ, IfOk, IfSome, IsTrue, None, Ok, length, map, pos, slice_index_or, true, unsigned_abs};
 ghost use Rattle.fl_types.specs.Integers.{is_unsigned};
 ghost use Rattle.fl_types.specs.Refusals.{Answers};
-ghost use Rattle.fl_types.specs.Validities.{validity_between};
 ghost use Rattle.fl_column.specs.Columns.{column_of_primitive, numbers_of};
 ghost use Rattle.fl_codec.specs.Chunks.{chunks_of};
 ghost use Rattle.fl_codec.specs.Parts.{items_of_primitive};
-ghost use Rattle.fl_codec.specs.RunColumns.{HoldsRunItems, IsRunChunk, is_run_index_type, run_column, run_item, runs_refusal};
+ghost use Rattle.fl_codec.specs.RunColumns.{HoldsRunItems, IsRunChunk, chunk_end, chunk_start, is_run_index_type, run_column, run_count, run_item, runs_refusal};
 
 use crate::block_items::places_of_block;
 use crate::chunks::chunk_count;
@@ -46,6 +45,44 @@ fn write_named_or_last<T: NativePType, I: NativePType>(values: &[T], indices: &[
     }
 }
 
+/// The run values of chunk `k`.
+pub fn values_of_chunk<'a, T: NativePType>(
+    values: &'a [T],
+    offsets: &PrimitiveArray,
+    k: usize,
+) -> &'a [T]
+    requires unsigned { IsTrue (is_unsigned offsets.now.ptype) }
+    requires range { k < length offsets.now.slots }
+    requires order { chunk_start (numbers_of (column_of_primitive offsets.now)) k ≤ chunk_end (numbers_of (column_of_primitive offsets.now)) (length values.now) k }
+    requires within { chunk_end (numbers_of (column_of_primitive offsets.now)) (length values.now) k ≤ length values.now }
+    ensures count { length result.now ≡ run_count (numbers_of (column_of_primitive offsets.now)) (length values.now) k }
+    ensures values { (i : ℕ) → i < length result.now → slice_index_or (map T.value result.now) i (pos 0) ≡ slice_index_or (map T.value values.now) (chunk_start (numbers_of (column_of_primitive offsets.now)) k + i) (pos 0) }
+{
+    let start = start_of_chunk(offsets, k);
+    let end = end_of_chunk(offsets, values.len(), k);
+    &values[start..end]
+}
+
+/// Writes the value that its index names at each place, among the run values of one chunk, of which there is one at
+/// least. Unless all indices name one, an index that names none writes any of them.
+pub fn write_run_items<T: NativePType, I: NativePType>(
+    values: &[T],
+    indices: &[I],
+    all_named: bool,
+    items: &mut [T],
+)
+    requires long { length indices.now ≡ length items.old }
+    requires some { 0 < length values.now }
+    requires named { all_named ≡ true → (i : ℕ) → i < length items.old → unsigned_abs (slice_index_or (map I.value indices.now) i (pos 0)) < length values.now }
+    ensures { (i : ℕ) → i < length items.old → unsigned_abs (slice_index_or (map I.value indices.now) i (pos 0)) < length values.now → slice_index_or (map T.value items.new) i (pos 0) ≡ slice_index_or (map T.value values.now) (unsigned_abs (slice_index_or (map I.value indices.now) i (pos 0))) (pos 0) }
+{
+    if all_named {
+        write_named(values, indices, items)
+    } else {
+        write_named_or_last(values, indices, items)
+    }
+}
+
 /// Writes items of chunk `k`, from position `low` on. What a null leaves at its place is not specified.
 fn write_chunk<T: NativePType, I: NativePType>(
     values: &[T],
@@ -60,37 +97,13 @@ fn write_chunk<T: NativePType, I: NativePType>(
     requires within { low + length items.old ≤ 1024 }
     ensures { (i : ℕ) → i < length items.old → IfSome (run_item (map T.value values.now) (items_of_primitive indices.now) (numbers_of (column_of_primitive offsets.now)) (1024 * k + (low + i))) (λ z. slice_index_or (map T.value items.new) i (pos 0) ≡ z) }
 {
-    let start = start_of_chunk(offsets, k);
-    let end = end_of_chunk(offsets, values.len(), k);
-    let values = &values[start..end];
+    let own = values_of_chunk(values, offsets, k);
     let named = indices.as_slice::<I>();
     let first = FL_CHUNK_SIZE * k + low;
     let named = &named[first..first + items.len()];
     match indices.validity() {
-        Validity::NonNullable | Validity::AllValid => write_named(values, named, items),
-        _ => write_named_or_last(values, named, items),
-    }
-}
-
-/// Writes the items from `offset` on.
-fn write_items<T: NativePType, I: NativePType>(
-    values: &[T],
-    indices: &PrimitiveArray,
-    offsets: &PrimitiveArray,
-    offset: usize,
-    items: &mut [T],
-)
-    requires typed { indices.now.ptype ≡ I.PTYPE }
-    requires offset { offset < 1024 }
-    requires few { offset + length items.old < 2 ^ 64 }
-    requires sound { (k : ℕ) → k < chunks_of (offset + length items.old) → IsRunChunk (length values.now) indices.now offsets.now k }
-    ensures { HoldsRunItems (map T.value values.now) (items_of_primitive indices.now) (numbers_of (column_of_primitive offsets.now)) offset (length items.old) (map T.value items.new) }
-{
-    let len = items.len();
-    for k in 0..chunk_count(offset + len) {
-        let (from, to) = places_of_block(k, offset, len);
-        let low = offset.saturating_sub(FL_CHUNK_SIZE * k);
-        write_chunk::<T, I>(values, indices, offsets, k, low, &mut items[from..to]);
+        Validity::NonNullable | Validity::AllValid => write_run_items(own, named, true, items),
+        _ => write_run_items(own, named, false, items),
     }
 }
 
@@ -198,27 +211,4 @@ pub fn decode(
             &mut [0; FL_CHUNK_SIZE]
         )
     )
-}
-
-/// Writes the items of the same column, as many as the slice has. What a null leaves at its place is not specified;
-/// the nulls are those of the indices. Nothing is allocated.
-pub fn decode_into<T: NativePType>(
-    values: &PrimitiveArray,
-    indices: &PrimitiveArray,
-    offsets: &PrimitiveArray,
-    offset: usize,
-    items: &mut [T],
-)
-    requires typed { values.now.ptype ≡ T.PTYPE }
-    requires sound { runs_refusal (record { values = values.now; indices = indices.now; offsets = offsets.now }) offset (length items.old) ≡ None }
-    ensures { column_of_primitive (record { ptype = T.PTYPE; slots = map T.value items.new; validity = validity_between offset (offset + length items.old) indices.now.validity }) ≡ run_column (record { values = values.now; indices = indices.now; offsets = offsets.now }) offset (length items.old) }
-{
-    let (_validity, _shown) = (offsets.validity(), indices.validity());
-    let _total = indices.len();
-    let values = values.as_slice::<T>();
-    match indices.ptype() {
-        PType::U8 => write_items::<T, u8>(values, indices, offsets, offset, items),
-        PType::U16 => write_items::<T, u16>(values, indices, offsets, offset, items),
-        _ => unreachable!(),
-    }
 }

@@ -4,8 +4,8 @@ use Rattle.fl_codec.specs.Deltas.{block_integer}
 use Rattle.fl_bitpacking.specs.Blocks.{value_at}
 use Rattle.fl_array.proofs.reader.+reads.Given as goal
 
-abbrev pub decreases-Reader::read_items : goal.decreases-Reader::read_items
-decreases-Reader::read_items g l = 2 * l.self.now.depth + 1
+abbrev pub decreases-direct::DirectReader::read_items : goal.decreases-direct::DirectReader::read_items
+decreases-direct::DirectReader::read_items g l = 2 * l.self.now.depth + 1
 
 abbrev pub decreases-deltas::read_deltas : goal.decreases-deltas::read_deltas
 decreases-deltas::read_deltas g l = 2 * l.deltas.now.depth + 2

@@ -1,7 +1,5 @@
 use Rattle.std.proofs.Common.{◌≡◌, ◌∙◌, ◌+◌, ◌/◌, ap}
 use Rattle.fl_bitpacking.specs.Blocks.{blocks_of}
-use Rattle.fl_codec.proofs.WithoutNulls.{if_made}
-use Rattle.fl_bitpacking.proofs.BlockSums.{item_plus_none}
 use Rattle.fl_bitpacking.proofs.Joined.{item_of_none}
 use Rattle.fl_bitpacking.proofs.bitpack_decompress.unpack_values.Goals as goal
 
@@ -10,8 +8,3 @@ returns-in_ok-items-in-Global-clause-items g c i h =
     let place = (c.args.blocks.offset + i) / 1024 in
     let none : (blocks_of c.args.blocks.widths).width place ≡ 0 = ap (λ w. (blocks_of w).width place) c.in-Global.is ∙ c.if-width-eq0.true in
     c.in_ok-items-in-Global.ensures.items i h ∙ item_of_none g.T.NativePType.PTYPE (blocks_of c.args.blocks.widths) c.args.blocks.packed.now (c.args.blocks.offset + i) none
-
-pub returns-in_default-clause-items : goal.returns-in_default-clause-items
-returns-in_default-clause-items g c =
-    let blocks = c.args.blocks in
-    if_made _ _ c.decode_blocks.result c.decode_blocks.ensures.items (λ v h i l. h i l ∙ item_plus_none g.T.NativePType.PTYPE (blocks_of blocks.widths) blocks.packed.now (blocks.offset + i))
