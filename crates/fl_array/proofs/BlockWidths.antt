@@ -1,5 +1,5 @@
 -- Widths by which the blocks of an array are read.
-use Rattle.std.proofs.Common.{◌≡◌, ℕ, ◌∙◌, Bor, Bool, length, true, false, None, refl, ap, sym, arith}
+use Rattle.std.proofs.Common.{◌≡◌, ◌∙◌, Bor, length, true, None, refl, ap, sym, arith}
 use Rattle.std.specs.Prelude.{unsigned_abs}
 use Rattle.std.proofs.lemmas.List.{length-map}
 use Rattle.fl_types.specs.Types.{is_index_type}
@@ -11,8 +11,7 @@ use Rattle.fl_bitpacking.specs.Columns.{column_of_packed}
 use Rattle.fl_bitpacking.proofs.BoundaryLaws.{length-numbers_of}
 use Rattle.fl_bitpacking.proofs.EqualBoundaries.{equal_blocks}
 use Rattle.fl_bitpacking.proofs.IndexNumbers.{numbers_of_index}
-use Rattle.fl_bitpacking.proofs.SoundParts.{are_global}
-use Rattle.fl_array.specs.BitPackedArrays.{BitPackedArrayParts, BitWidthsParts, BlockBoundaries, GlobalWidth, bit_widths_refusal, blocks_of_widths, is_global, refusal_of_bitpacked, tree_of_bitpacked}
+use Rattle.fl_array.specs.BitPackedArrays.{BitPackedArrayParts, BlockBoundaries, blocks_of_widths, refusal_of_bitpacked, tree_of_bitpacked}
 use Rattle.fl_array.specs.BlockWidths.{AreBlockWidths, AreReadBy}
 use Rattle.fl_array.specs.PrimitiveCows.{primitive_of_cow}
 use Rattle.fl_array.specs.Trees.{Tree, column}
@@ -24,26 +23,7 @@ use Rattle.fl_array.proofs.BlockedLaws.{blocked_by, blocks_read, numbers_read}
 -- the column, by the widths
 pub read_column : (a : BitPackedArrayParts) (widths : Widths) → AreReadBy a widths → column_of_packed a.parts (blocks_of widths) ≡ column (tree_of_bitpacked a)
 read_column a widths of = ap (column_of_packed a.parts) of.same ∙ sym (bitpacked_column a)
-
 -- ---- one width
-not_global : (width : ℕ) (widths : BitWidthsParts) (b : Bool) → GlobalWidth width ≡ widths → is_global widths ≡ false → b ≡ true
-not_global width widths b same h =
-    let global : true ≡ is_global widths = ap is_global same in
-    let never : true ≡ false = global ∙ h in
-    cc
-
-pub held_global : (a : BitPackedArrayParts) (width held_width : ℕ) → held_width ≡ width → refusal_of_bitpacked a ≡ None → GlobalWidth width ≡ a.widths → AreBlockWidths a (held.Global held_width)
-held_global a width held_width is h same (Global w) view =
-    let here : w ≡ width = view ∙ is in
-    let parts = are_global a.parts width (ap (bit_widths_refusal a.parts) same ∙ h) in
-    let size = parts.size in
-    rw here (record {
-      sound = (parts.narrow, omega arith);
-      same = ap blocks_of_widths same;
-      own = λ blocked. not_global width a.widths _ same blocked;
-    })
-held_global a width held_width is h same (Boundaries boundaries) view = absurd view
-held_global a width held_width is h same (PerBlock widths) view = absurd view
 
 -- ---- boundaries that are all equal
 pub held_constant : (a : BitPackedArrayParts) (b : Tree) (c : ConstantParts) → BlockBoundaries b ≡ a.widths → column b ≡ column_of_constant c → AreBlockWidths a (held.Global 0)

@@ -59,10 +59,6 @@ number_read c k scalar n h e is =
     let at : get_or (numbers_of c) k 0 ≡ unsigned_abs (unwrap_or (get_or c.items k None) (pos 0)) = get_or-map unsigned_abs (integers_in c) k (pos 0) 0 (omega arith) ∙ ap unsigned_abs (get_or-map (λ item. unwrap_or item (pos 0)) c.items k None (pos 0) h) in
     is ∙ ap (λ (x : ScalarParts). unsigned_abs (unwrap_or x.value (pos 0))) e ∙ sym at
 
--- the type of an item is that of the column
-pub item_type : (c : Column) (k : ℕ) (scalar : ScalarParts) → scalar ≡ scalar_in c k → is_integer c.dtype ≡ true → is_integer scalar.dtype ≡ true
-item_type c k scalar e h = ap (λ (x : ScalarParts). is_integer x.dtype) e ∙ h
-
 -- the boundaries of a block, as they were read
 pub record ReadBlock (a : BitPackedArrayParts) (i first start end : ℕ) : Type 0 where
   pub low : first ≤ start
@@ -143,6 +139,3 @@ early_column p c q h e =
     let is : integer_column c ≡ Ok c = rw typed refl in
     let same : (let left : Result Column FastLanesError = Ok (column_of_primitive q) in left) ≡ Ok c = e ∙ is in
     cc
-
-pub early_answer : (p : BitPackedParts) (c : Column) → refusal_before_boundaries p c ≡ None → integer_column c ≡ Ok c
-early_answer p c h = let typed = early_integer p c h in rw typed refl

@@ -1,6 +1,6 @@
 -- FoR arrays: what is known of their parts, their items and slices.
-use Rattle.std.proofs.Common.{◌≡◌, ◌==◌, ◌&&◌, ℕ, ℤ, pos, ◌+◌, ◌*◌, ◌/◌, ◌%◌, ◌<◌, ◌≤◌, ◌^◌, not, Bool, length, get_or, refl, ap, sym, ◌∙◌, true, false, None, Some, Ok, Option, List, arith}
-use Rattle.std.specs.Prelude.{Result, option_map, unwrap_or, is_some, is_none, if◌then◌else◌}
+use Rattle.std.proofs.Common.{◌≡◌, ◌==◌, ◌&&◌, ℕ, ℤ, pos, ◌+◌, ◌*◌, ◌/◌, ◌%◌, ◌<◌, ◌≤◌, ◌^◌, not, Bool, length, get_or, refl, ap, sym, ◌∙◌, true, false, None, Some, Ok, Option, arith}
+use Rattle.std.specs.Prelude.{Result, option_map, unwrap_or, is_none, if◌then◌else◌}
 use Rattle.std.proofs.lemmas.Bool.{eqb-true}
 use Rattle.std.proofs.lemmas.List.{get_or-map}
 use Rattle.fl_types.specs.declared.error.FastLanesError.{FastLanesError}
@@ -12,14 +12,13 @@ use Rattle.fl_types.specs.declared.dtype.Nullability.{Nullability}
 use Rattle.fl_types.specs.declared.dtype.Nullability.TheVariants.{NonNullable, Nullable}
 use Rattle.fl_types.specs.Types.{can_be_null, integer_type, is_integer, is_nullable, same_type}
 use Rattle.fl_types.specs.Values.{ScalarParts}
-use Rattle.fl_types.specs.Validities.{nullability_of}
 use Rattle.fl_column.specs.Columns.{Column, ConstantParts, PrimitiveParts, column_of_primitive, integers_in, ptype_of_column}
 use Rattle.fl_column.specs.Operations.{slice_of}
 use Rattle.fl_column.specs.Queries.{scalar_in}
 use Rattle.fl_column.specs.Chunks.{chunk_count}
 use Rattle.fl_codec.specs.FoRColumns.{chunked_for, global_for, plus_reference}
 use Rattle.fl_bitpacking.proofs.SoundParts.{neither, positions, same_ptype_is}
-use Rattle.fl_codec.proofs.FoRSlices.{scalar_plus, integers_of-slice, item_of_chunked, item_of_global, slice_of_chunked, slice_of_global, non_nullable_slots}
+use Rattle.fl_codec.proofs.FoRSlices.{scalar_plus, integers_of-slice, item_of_chunked, item_of_global, slice_of_chunked, slice_of_global}
 use Rattle.fl_bitpacking.specs.Refusals.{otherwise, positions_refusal}
 use Rattle.fl_codec.specs.ChunkSlices.{end_chunk, first_chunk}
 use Rattle.fl_array.proofs.FoRLaws.{for_dtype}
@@ -108,25 +107,7 @@ answered_column c p h e =
 pub non_nullable_is : (n : Nullability) → can_be_null n ≡ false → n ≡ NonNullable
 non_nullable_is NonNullable h = refl
 non_nullable_is Nullable h = cc
-
-pub chunked_decoded : (a : FoRArrayParts) (references : Tree) (offset : ℕ) (p q : PrimitiveParts) → refusal_of_for a ≡ None → ChunkReferences references offset ≡ a.references → Ok (column_of_primitive p) ≡ integer_column (column a.encoded) → Ok (column_of_primitive q) ≡ integer_column (column references)
-    → Ok (chunked_for q.slots offset (column_of_primitive p)) ≡ integer_column (column (tree_of_for a))
-chunked_decoded a references offset p q h same e f =
-    let s = has_references a references offset h same in
-    let encoded = answered_column (column a.encoded) p s.integer e in
-    let integer : is_integer (column references).dtype ≡ true = ap (λ t. is_some t) s.typed ∙ s.integer in
-    let others = answered_column (column references) q integer f in
-    let non_nullable : nullability_of q.validity ≡ NonNullable = non_nullable_is (nullability_of q.validity) (ap (λ (c : Column). is_nullable c.dtype) others ∙ s.non_nullable) in
-    let slots : q.slots ≡ integers_in (column references) = sym (non_nullable_slots q non_nullable) ∙ ap integers_in others in
-    let summed : is_integer (column a.encoded).dtype ≡ true = s.integer in
-    let ok : Column → Result Column FastLanesError = λ c. Ok c in
-    let parts : chunked_for q.slots offset (column_of_primitive p) ≡ chunked_for (integers_in (column references)) offset (column a.encoded) = ap (λ (r : List ℤ). chunked_for r offset (column_of_primitive p)) slots ∙ ap (chunked_for (integers_in (column references)) offset) encoded in
-    let answer : integer_column (column (tree_of_for a)) ≡ Ok (chunked_for (integers_in (column references)) offset (column a.encoded)) = rw (chunked_column a references offset same, summed) refl in
-    ap ok parts ∙ sym answer
-
 -- ---- items
-ptype_of_integer : (d : DType) (p : PType) → integer_type d ≡ Some p → unwrap_or (integer_type d) p ≡ p
-ptype_of_integer d p h = ap (λ t. unwrap_or t p) h
 
 pub global_item : (a : FoRArrayParts) (reference : ScalarParts) (i : ℕ) (item : ScalarParts) → GlobalReference reference ≡ a.references → i < length (column a.encoded).items → item ≡ scalar_in (column a.encoded) i
     → scalar_in (column (tree_of_for a)) i ≡ scalar_plus (unwrap_or reference.value (pos 0)) (ptype_of_column (column a.encoded)) item

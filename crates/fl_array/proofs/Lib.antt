@@ -20,7 +20,7 @@ pub mod FoREncoding
 pub mod DeltaEncoding
 pub mod EmptyChunks
 pub mod PackedFoR
-pub mod DecodedItems
+pub mod ItemTypes
 mod TypedItems
 pub mod BlockWidths
 pub mod ReadLaws

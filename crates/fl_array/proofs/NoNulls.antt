@@ -1,8 +1,5 @@
 -- Columns that may have no nulls, and have none.
-use Rattle.std.proofs.Common.{◌≡◌, ℕ, ◌+◌, ◌<◌, ◌∙◌, true, false, length, get_or, None, IsTrue, refl, ap, sym}
-use Rattle.std.specs.Prelude.{is_some}
-use Rattle.fl_types.specs.declared.dtype.Nullability.{Nullability}
-use Rattle.fl_types.specs.declared.dtype.Nullability.TheVariants.{NonNullable, Nullable}
+use Rattle.std.proofs.Common.{◌≡◌, ℕ, ◌+◌, ◌∙◌, true, false, length, None, IsTrue, refl, ap, sym}
 use Rattle.fl_types.specs.declared.validity.Validity.{Validity}
 use Rattle.fl_types.specs.declared.validity.Validity.TheVariants as valid
 use Rattle.fl_types.specs.Types.{can_be_null, is_nullable, nullability_in}

@@ -23,13 +23,13 @@ use Rattle.fl_column.specs.Operations.{slice_of}
 use Rattle.fl_column.specs.Queries.{scalar_in}
 use Rattle.fl_column.proofs.ItemLaws.{nullability_of-between}
 use Rattle.fl_codec.specs.Parts.{RunParts}
-use Rattle.fl_codec.specs.RunColumns.{chunk_start, run_column, run_item, runs_refusal}
+use Rattle.fl_codec.specs.RunColumns.{chunk_start, run_column, run_item}
 use Rattle.fl_codec.specs.RunRefusals.{rle_refusal, rle_types_refusal, kept_values_start, kept_values_end}
 use Rattle.fl_codec.specs.ChunkSlices.{end_chunk, first_chunk}
 use Rattle.fl_codec.proofs.DeltaSlices.{covers_part}
 use Rattle.fl_codec.proofs.FoRSlices.{non_nullable_slots}
 use Rattle.fl_codec.proofs.ColumnParts.{length-numbers_of, unsigned_positions, valid-between}
-use Rattle.fl_codec.proofs.RunTypes.{HaveRunTypes, have_types, judged}
+use Rattle.fl_codec.proofs.RunTypes.{HaveRunTypes, have_types}
 use Rattle.fl_codec.proofs.RunSlices.{AreRunNumbers, numbers_sound, place_within, run_slice_items, run_slice_sound, values_in_order, values_within}
 use Rattle.fl_codec.proofs.FirstRefusals.{neither}
 use Rattle.fl_codec.proofs.Tables.{get_or-table, length-table}
@@ -107,13 +107,6 @@ read_slots p c e h =
 
 same_refusal : (v w i j o p : Column) (offset len : ℕ) → v ≡ w → i ≡ j → o ≡ p → rle_refusal w j p offset len ≡ None → rle_refusal v i o offset len ≡ None
 same_refusal v w i j o p offset len e f g h = rw (e, f, g) h
-
-pub decoded_refusal : (a : RLEArrayParts) (parts : RunParts) → refusal_of_rle a ≡ None → column_of_primitive parts.values ≡ column a.values → column_of_primitive parts.indices ≡ column a.indices → column_of_primitive parts.offsets ≡ column a.offsets
-    → IsTrue (covers parts.values.validity (length parts.values.slots)) → IsTrue (covers parts.indices.validity (length parts.indices.slots)) → IsTrue (covers parts.offsets.validity (length parts.offsets.slots)) → runs_refusal parts a.window.offset a.window.len ≡ None
-decoded_refusal a parts h e f g v i o =
-    let whole : rle_refusal (column_of_primitive parts.values) (column_of_primitive parts.indices) (column_of_primitive parts.offsets) a.window.offset a.window.len ≡ None = same_refusal _ _ _ _ _ _ a.window.offset a.window.len e f g h in
-    let types = (neither (rle_types_refusal (column_of_primitive parts.values).dtype (column_of_primitive parts.indices).dtype (column_of_primitive parts.offsets).dtype (length (column_of_primitive parts.indices).items) (length (column_of_primitive parts.offsets).items) a.window.offset a.window.len) _ whole).0 in
-    judged parts a.window.offset a.window.len v i o types ∙ whole
 
 pub decoded_column : (a : RLEArrayParts) (parts : RunParts) → refusal_of_rle a ≡ None → column_of_primitive parts.values ≡ column a.values → column_of_primitive parts.indices ≡ column a.indices → column_of_primitive parts.offsets ≡ column a.offsets
     → run_column parts a.window.offset a.window.len ≡ column_of_rle (column a.values) (column a.indices) (column a.offsets) a.window

@@ -1,5 +1,5 @@
 -- Items of delta arrays that are read block by block.
-use Rattle.std.proofs.Common.{◌≡◌, ℕ, ℤ, pos, zero, suc, ◌+◌, ◌*◌, ◌/◌, ◌%◌, ◌<◌, ◌≤◌, ◌+ℤ◌, Bool, true, false, ◌-◌, List, length, map, get_or, take, drop, Option, Some, None, cond, refl, ap, sym, ◌∙◌, arith}
+use Rattle.std.proofs.Common.{◌≡◌, ℕ, ℤ, pos, zero, suc, ◌+◌, ◌*◌, ◌/◌, ◌%◌, ◌<◌, ◌≤◌, Bool, true, false, ◌-◌, List, length, map, get_or, take, drop, Option, Some, None, refl, ap, sym, ◌∙◌, arith}
 use Rattle.std.specs.Prelude.{is_some, unwrap_or, if◌then◌else◌}
 use Rattle.std.proofs.lemmas.List.{get_or-map, length-map}
 use Rattle.std.proofs.Math.Nat.{mul-le-mul_left}
@@ -7,13 +7,9 @@ use Rattle.fastlanes.specs.Layout.{place, segment_lane, segment_row}
 use Rattle.fastlanes.proofs.Bijection.{segment_placed}
 use Rattle.fastlanes.proofs.Places.{place_below}
 use Rattle.fl_types.specs.declared.dtype.PType.{PType}
-use Rattle.fl_types.specs.Integers.{bits_of_type, lanes_of_type, wrap}
-use Rattle.fl_types.specs.declared.dtype.DType.{DType}
-use Rattle.fl_types.specs.declared.dtype.DType.TheVariants as dtypes
-use Rattle.fl_types.specs.declared.dtype.Nullability.{Nullability}
-use Rattle.fl_types.specs.declared.dtype.PType.TheVariants.{U8}
-use Rattle.fl_types.specs.Types.{has_ptype, integer_type, is_integer, is_nullable, same_type}
-use Rattle.fl_types.specs.Validities.{is_valid_at, nullability_of}
+use Rattle.fl_types.specs.Integers.{bits_of_type, lanes_of_type}
+use Rattle.fl_types.specs.Types.{has_ptype, is_nullable}
+use Rattle.fl_types.specs.Validities.{is_valid_at}
 use Rattle.fl_column.specs.Chunks.{chunk_count}
 use Rattle.fl_column.specs.Columns.{Column, PrimitiveParts, column_of_primitive, integers_in, ptype_of_column}
 use Rattle.fl_codec.specs.DeltaRefusals.{lanes_of_dtype}
@@ -21,14 +17,13 @@ use Rattle.fl_codec.specs.Deltas.{block_integer, delta_integer, lane_sum}
 use Rattle.fl_codec.proofs.DeltaRoundTrips.{width_of}
 use Rattle.fl_bitpacking.specs.Blocks.{value_at}
 use Rattle.fl_bitpacking.proofs.Slices.{value_part}
-use Rattle.fl_bitpacking.proofs.SoundParts.{same_ptype_is}
 use Rattle.fl_bitpacking.proofs.Tables.{get_or-table}
 use Rattle.fl_array.specs.DeltaArrays.{DeltaArrayParts, refusal_of_delta, tree_of_delta}
 use Rattle.fl_array.specs.NoNulls.{HasNoNulls}
 use Rattle.fl_array.specs.ReaderParts.{AreDeltaParts}
 use Rattle.fl_array.specs.Readers.{AreItemsFrom}
 use Rattle.fl_array.specs.Trees.{column}
-use Rattle.fl_array.proofs.DecodedItems.{delta_typed}
+use Rattle.fl_array.proofs.ItemTypes.{delta_typed}
 use Rattle.fl_array.proofs.DeltaLaws.{delta_len, item_of_deltas, read_slots, sound_deltas}
 
 -- ---- one block
@@ -134,17 +129,6 @@ summed_at value ptype bases row read new c lanes j low k p row_is same s never s
 pub slot_at : {X : Type 0} (value : X → ℤ) (xs : List X) (slots : List ℤ) (k : ℕ) → map value xs ≡ slots → value_at value xs k ≡ get_or slots k (pos 0)
 unfolding value_at
 slot_at value xs slots k e = ap (λ ys. get_or ys k (pos 0)) e
-
-typed_as : (d e : DType) (ptype : PType) (n : Nullability) → same_type d e ≡ true → is_integer d ≡ true → has_ptype ptype (dtypes.Primitive (unwrap_or (integer_type d) U8) n) ≡ true → has_ptype ptype e ≡ true
-typed_as (dtypes.Primitive p m) (dtypes.Primitive q o) ptype n same integer h = rw (← same_ptype_is p q same) h
-typed_as (dtypes.Primitive p m) (dtypes.Bool o) ptype n same integer h = cc
-typed_as (dtypes.Bool m) e ptype n same integer h = cc
-
--- the deltas have the type of the column
-pub deltas_typed : (a : DeltaArrayParts) (ptype : PType) → refusal_of_delta a ≡ None → has_ptype ptype (column (tree_of_delta a)).dtype ≡ true → has_ptype ptype (column a.deltas).dtype ≡ true
-deltas_typed a ptype h typed =
-    let s = sound_deltas a h in
-    typed_as (column a.bases).dtype (column a.deltas).dtype ptype (nullability_of a.parts.validity) s.same s.integer typed
 
 -- the same by the parts of a reader
 pub block_room : {X : Type 0} (value : X → ℤ) (a : DeltaArrayParts) (p : PrimitiveParts) (d : Column) (ptype : PType) (bases : List X) (lanes j at start n count : ℕ) → refusal_of_delta a ≡ None → AreDeltaParts a p d → has_ptype ptype (column (tree_of_delta a)).dtype ≡ true

@@ -1,6 +1,6 @@
 -- Integers that are read of a column.
 use Rattle.std.proofs.Common.{◌≡◌, ℕ, ℤ, pos, ◌+◌, ◌<◌, ◌≤◌, List, length, map, get_or, take, drop, Bool, true, false, Option, Some, None, Ok, IsTrue, cond, refl, ap, sym, ◌∙◌, arith}
-use Rattle.std.specs.Prelude.{IfSome, ◌+ℤ◌, is_some, unwrap_or, if◌then◌else◌}
+use Rattle.std.specs.Prelude.{IfSome, ◌+ℤ◌, is_some, if◌then◌else◌}
 use Rattle.std.proofs.Math.ListN as list
 use Rattle.std.proofs.lemmas.List.{get_or-map, get_or-replicate, get_or_default, length-map, length-replicate, same_lists}
 use Rattle.fl_types.specs.declared.dtype.PType.{PType}
@@ -14,10 +14,9 @@ use Rattle.fl_column.specs.Columns.{Column, ConstantParts, PrimitiveParts, colum
 use Rattle.fl_column.proofs.ItemLaws.{get_or-items_of, length-items_of}
 use Rattle.fl_codec.specs.FoRColumns.{chunked_for, global_for, plus_reference}
 use Rattle.fl_codec.proofs.FoRSlices.{length-chunked}
-use Rattle.fl_patches.specs.PatchMaps.{patched_in}
-use Rattle.fl_bitpacking.specs.Blocks.{Blocks, item_of_blocks, value_at}
+use Rattle.fl_bitpacking.specs.Blocks.{Blocks, value_at}
 use Rattle.fl_bitpacking.specs.Columns.{BitPackedParts, column_of_packed, packed_item}
-use Rattle.fl_bitpacking.proofs.Tables.{get_or-table, length-table}
+use Rattle.fl_bitpacking.proofs.Tables.{length-table}
 use Rattle.fl_bitpacking.proofs.SoundParts.{same_ptype_is}
 use Rattle.fl_bitpacking.proofs.Slices.{value_part}
 use Rattle.fl_array.specs.Reads.{AreItemsOf, IsValidityOf, integer_column}
@@ -107,17 +106,6 @@ chunked_len references offset c = length-chunked references offset c
 
 pub packed_len : (parts : BitPackedParts) (blocks : Blocks) → length (column_of_packed parts blocks).items ≡ parts.len
 packed_len parts blocks = length-table (packed_item parts blocks) parts.len
-
--- the stored integers, or their patches, are the items of a packed column
-pub packed_shown : (parts : BitPackedParts) (blocks : Blocks) (integer stored_at : ℕ → ℤ) (start n : ℕ) → start + n ≤ parts.len
-    → ((i : ℕ) → i < n → stored_at i ≡ item_of_blocks parts.ptype blocks parts.packed (parts.offset + start + i)) → ((i : ℕ) → i < n → integer i ≡ unwrap_or (patched_in parts.patches (start + i)) (stored_at i)) → AreItemsFrom start n integer (column_of_packed parts blocks)
-unfolding packed_item
-packed_shown parts blocks integer stored_at start n room each patched = λ i z h e.
-    let within : start + i < parts.len = omega arith in
-    let place : parts.offset + start + i ≡ parts.offset + (start + i) = omega arith in
-    let item = sym (get_or-table (packed_item parts blocks) parts.len (start + i) None within) ∙ e in
-    patched i h ∙ (ap (λ x. unwrap_or (patched_in parts.patches (start + i)) x) (each i h ∙ ap (item_of_blocks parts.ptype blocks parts.packed) place)
-    ∙ packed_some (is_valid_at parts.validity (start + i)) _ z item)
 
 -- ---- whole columns
 same_dtype : (d : DType) (ptype : PType) (v : Validity) → has_ptype ptype d ≡ true → nullability_of v ≡ nullability_in d → dtypes.Primitive ptype (nullability_of v) ≡ d

@@ -1,7 +1,6 @@
 -- Items of packed arrays with references.
-use Rattle.std.proofs.Common.{◌≡◌, ℕ, ◌+◌, ◌≤◌, ◌∙◌, length, true, ap, refl, sym}
+use Rattle.std.proofs.Common.{◌≡◌, ℕ, ◌∙◌, length, true, ap, refl, sym}
 use Rattle.std.proofs.lemmas.List.{length-map}
-use Rattle.fl_types.specs.declared.dtype.DType.{DType}
 use Rattle.fl_types.specs.declared.dtype.PType.{PType}
 use Rattle.fl_types.specs.Types.{has_ptype}
 use Rattle.fl_types.specs.Values.{integer_of}
@@ -15,7 +14,7 @@ use Rattle.fl_array.specs.Trees.{column}
 use Rattle.fl_array.specs.declared.reader.packed.HeldReferences.{HeldReferences}
 use Rattle.fl_array.specs.declared.reader.packed.HeldReferences.TheVariants as held
 use Rattle.fl_array.specs.declared.reader.packed.PackedSums.{PackedSums}
-use Rattle.fl_array.proofs.DecodedItems.{bitpacked_typed}
+use Rattle.fl_array.proofs.ItemTypes.{bitpacked_typed}
 
 len_plus : (references : HeldReferences) (offset : ℕ) (c : Column) → length (plus_held references offset c).items ≡ length c.items
 len_plus held.None offset c = refl

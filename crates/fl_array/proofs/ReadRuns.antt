@@ -1,13 +1,11 @@
 -- Items of run-length encoded arrays that are read chunk by chunk.
-use Rattle.std.proofs.Common.{◌≡◌, ℕ, ℤ, pos, ◌+◌, ◌-◌, ◌*◌, ◌/◌, ◌%◌, ◌<◌, ◌≤◌, Bool, true, false, List, ◌++◌, length, map, get_or, take, Option, Some, None, IsTrue, option_map, unsigned_abs, inl, inr, refl, ap, sym, subst, ◌∙◌, arith}
+use Rattle.std.proofs.Common.{◌≡◌, ℕ, ℤ, pos, ◌+◌, ◌-◌, ◌*◌, ◌/◌, ◌%◌, ◌<◌, ◌≤◌, true, false, List, ◌++◌, length, map, get_or, take, Option, Some, None, IsTrue, option_map, unsigned_abs, inl, inr, refl, ap, sym, subst, ◌∙◌, arith}
 use Rattle.std.specs.Prelude.{IfSome, is_some, unwrap_or}
 use Rattle.std.proofs.lemmas.Bool.{cases_lt, ltb-true}
 use Rattle.std.proofs.lemmas.List.{length-map}
-use Rattle.fl_types.specs.declared.dtype.PType.{PType}
 use Rattle.fl_types.specs.Integers.{is_unsigned}
-use Rattle.fl_types.specs.Types.{has_ptype, is_nullable}
-use Rattle.fl_column.specs.Chunks.{chunk_count}
-use Rattle.fl_column.specs.Columns.{Column, PrimitiveParts, column_of_primitive, integers_in, numbers_of, ptype_of_column}
+use Rattle.fl_types.specs.Types.{is_nullable}
+use Rattle.fl_column.specs.Columns.{Column, PrimitiveParts, column_of_primitive, integers_in, numbers_of}
 use Rattle.fl_column.proofs.ListLaws.{all_at}
 use Rattle.fl_codec.specs.Chunks.{chunk}
 use Rattle.fl_codec.specs.RunColumns.{chunk_end, chunk_start, is_run_index, run_count, run_item}
@@ -17,7 +15,6 @@ use Rattle.fl_codec.proofs.RunSlices.{end_within}
 use Rattle.fl_codec.proofs.SliceParts.{integer_before, integer_inside}
 use Rattle.fl_codec.proofs.Tables.{get_or-table}
 use Rattle.fl_bitpacking.specs.Blocks.{value_at}
-use Rattle.fl_bitpacking.proofs.SoundParts.{same_ptype_is}
 use Rattle.fl_array.specs.NoNulls.{HasNoNulls}
 use Rattle.fl_array.specs.Readers.{AreItemsFrom}
 use Rattle.fl_array.specs.RLEArrays.{RLEArrayParts, refusal_of_rle, tree_of_rle}
@@ -27,10 +24,6 @@ use Rattle.fl_array.proofs.RLELaws.{item_of_rle, offsets_unsigned, read_slots, r
 -- the items lie among the run indices
 pub window_within : (a : RLEArrayParts) → refusal_of_rle a ≡ None → (a.window.offset < 1024) × (a.window.offset + length (column (tree_of_rle a)).items ≤ length (column a.indices).items)
 window_within a h = let types = (sound_rle a h).types in let len = rle_len a in let range = types.range in (types.low, omega arith)
-
--- the run values have the type of the column
-pub value_type : (a : RLEArrayParts) (p : PrimitiveParts) (ptype : PType) → column_of_primitive p ≡ column a.values → has_ptype ptype (column (tree_of_rle a)).dtype ≡ true → p.ptype ≡ ptype
-value_type a p ptype own h = ap (λ (c : Column). ptype_of_column c) own ∙ sym (same_ptype_is ptype (ptype_of_column (column a.values)) h)
 
 -- the chunk of a run index has run values, and they lie among all
 pub record IsThere (a : RLEArrayParts) (p : ℕ) : Type 0 where

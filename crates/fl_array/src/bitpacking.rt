@@ -473,7 +473,7 @@ impl BitPackedArray {
     }
 
     /// The items have this type if the column does.
-    #[tactic(auto, using(crate::proofs::DecodedItems::bitpacked_typed))]
+    #[tactic(auto, using(crate::proofs::ItemTypes::bitpacked_typed))]
     pub(crate) fn prove_typed<T: NativePType>(&self)
         requires { IsTrue (has_ptype T.PTYPE (column (tree_of_bitpacked self.now)).dtype) }
         ensures { self.now.parts.ptype ≡ T.PTYPE }

@@ -1,7 +1,7 @@
 -- Answers that are appended word by word.
-use Rattle.std.proofs.Common.{◌≡◌, ℕ, ℤ, pos, ◌+◌, ◌-◌, ◌<◌, ◌≤◌, Bool, false, List, [], ◌++◌, length, map, get_or, take, drop, ap, sym, ◌∙◌, arith, append_assoc, length-drop, length-take}
+use Rattle.std.proofs.Common.{◌≡◌, ℕ, ℤ, pos, ◌+◌, ◌<◌, ◌≤◌, Bool, List, ◌++◌, length, map, get_or, take, drop, ap, sym, ◌∙◌, arith, append_assoc, length-drop, length-take}
 use Rattle.std.proofs.Math.Seq.{take-add}
-use Rattle.std.proofs.lemmas.List.{append-nil, drop-map, get_or-drop, get_or-map, get_or-take, get_or_default, length-map, map-append, same_lists, take-map, take_all}
+use Rattle.std.proofs.lemmas.List.{append-nil, get_or-drop, get_or-map, get_or-take, length-map, map-append, same_lists, take_all}
 use Rattle.fl_types.specs.Bits.{bit_of_word, tabulate}
 use Rattle.fl_bitpacking.proofs.Tables.{get_or-table, length-table}
 

@@ -1,5 +1,5 @@
 -- Items that are made of the integers in packed blocks.
-use Rattle.std.proofs.Common.{◌≡◌, ℕ, ℤ, pos, ◌+◌, ◌*◌, ◌/◌, ◌%◌, ◌^◌, ◌<◌, ◌≤◌, ◌+ℤ◌, ◌-◌, Bool, true, false, List, [], ◌∷◌, length, map, min, get_or, slice_get, Option, Some, None, option_map, unwrap_or, cond, IsTrue, Result, Ok, refl, ap, sym, subst, ◌∙◌, arith}
+use Rattle.std.proofs.Common.{◌≡◌, ℕ, ℤ, pos, ◌+◌, ◌*◌, ◌/◌, ◌%◌, ◌^◌, ◌<◌, ◌≤◌, ◌+ℤ◌, ◌-◌, Bool, true, false, List, [], ◌∷◌, length, map, min, get_or, slice_get, Option, Some, None, option_map, unwrap_or, cond, IsTrue, refl, ap, sym, subst, ◌∙◌, arith}
 use Rattle.std.specs.Prelude.{if◌then◌else◌}
 use Rattle.std.proofs.Math.Pow.{pow_mono}
 use Rattle.std.proofs.lemmas.Nat.{mod_below, pow_pos}
@@ -9,14 +9,12 @@ use Rattle.std.proofs.lemmas.List.FromFn.{fill_by_all}
 use Rattle.fastlanes.specs.Layout.{IsWordWidth, pattern_at, unpacked_item, word_at}
 use Rattle.fastlanes.proofs.Patterns.{pattern_at_read}
 use Rattle.fl_types.specs.declared.dtype.PType.{PType}
-use Rattle.fl_types.specs.declared.error.FastLanesError.{FastLanesError}
 use Rattle.fl_types.specs.Bits.{between, tabulate}
 use Rattle.fl_types.specs.Integers.{bits_of_type, is_unsigned, pattern_of, read_as, wrap}
-use Rattle.fl_types.specs.Refusals.{Answers}
 use Rattle.fl_types.specs.Validities.{covers, is_valid_at, items_of}
 use Rattle.fl_types.proofs.BitLists.{same_tables}
 use Rattle.fl_types.proofs.Patterns.{pattern_read}
-use Rattle.fl_column.specs.Columns.{Column, PrimitiveParts, column_of_primitive, new_primitive}
+use Rattle.fl_column.specs.Columns.{Column}
 use Rattle.fl_column.proofs.ItemLaws.{get_or-items_of, length-items_of}
 use Rattle.fl_codec.specs.FoRColumns.{chunked_for, global_for, plus_reference}
 use Rattle.fl_codec.proofs.Congruence.{IsPattern, IsPattern-add, IsPattern-mod, pattern_is, read_as-IsPattern}
@@ -24,7 +22,6 @@ use Rattle.fl_patches.specs.PatchMaps.{patched_in}
 use Rattle.fl_bitpacking.specs.Blocks.{Blocks, block_item, item_of_blocks, value_at}
 use Rattle.fl_bitpacking.specs.BlockSums.{block_reference, decoded_column, decoded_item, plus_block_reference, plus_if_some}
 use Rattle.fl_bitpacking.specs.Columns.{BitPackedParts, block_count, column_of_packed, packed_item, stored}
-use Rattle.fl_bitpacking.specs.Parts.{Fit, written}
 use Rattle.fl_bitpacking.proofs.Joined.{item_read}
 use Rattle.fl_bitpacking.proofs.Natives.{block_item_is, unpacked_small, unsigned_pattern, unsigned_read}
 use Rattle.fl_bitpacking.proofs.Tables.{get_or-table, length-table}
@@ -82,11 +79,6 @@ decoded_read item ptype blocks packed block j start width q p z start_is width_i
     read ∙ (ap (item j) (item_read ptype blocks packed block j start width q p (block_item ptype width block q) start_is width_is bytes_is h is refl)
     ∙ ap (λ n. item n (item_of_blocks ptype blocks packed p)) place)
 
--- an item to which nothing is added
-pub item_as_stored : (ptype : PType) (blocks : Blocks) (packed : List ℕ) (p : ℕ) → decoded_item (λ j z. z) ptype blocks packed p ≡ item_of_blocks ptype blocks packed p
-unfolding decoded_item
-item_as_stored ptype blocks packed p = refl
-
 -- what is added to an integer of a block
 pub plus_some : (ptype : PType) (references : List ℤ) (j : ℕ) (r z : ℤ) → (let some : Option ℤ = Some r in some) ≡ block_reference references j → wrap ptype (z +ℤ r) ≡ plus_block_reference ptype references j z
 unfolding plus_block_reference
@@ -136,16 +128,6 @@ items_decoded value item parts blocks items covered long each =
     fill_by_all (λ i. option_map (item ((parts.offset + i) / 1024)) (packed_item parts blocks i)) (items_of parts.validity (map value items)) parts.len None (length-items_of parts.validity (map value items) covered_too ∙ size)
     (λ i h. get_or-items_of parts.validity (map value items) i (pos 0) covered_too (rw size h) ∙ decoded_at (is_valid_at parts.validity i) (item ((parts.offset + i) / 1024)) (patched_in parts.patches i) (stored parts blocks i) _ (each i h))
 
--- a plain array of the items is the column
-pub column_decoded : {X : Type 0} (value : X → ℤ) (item : ℕ → ℤ → ℤ) (parts : BitPackedParts) (blocks : Blocks) (items : List X) (r : Result PrimitiveParts FastLanesError) → Fit parts → length items ≡ parts.len
-    → ((i : ℕ) → i < parts.len → value_at value items i ≡ unwrap_or (option_map (item ((parts.offset + i) / 1024)) (patched_in parts.patches i)) (item ((parts.offset + i) / 1024) (stored parts blocks i)))
-    → r ≡ new_primitive parts.ptype (map value items) parts.validity → Answers column_of_primitive r (Ok (decoded_column item parts blocks))
-column_decoded value item parts blocks items r fit long each is =
-    let size : length (map value items) ≡ parts.len = length-map items value ∙ long in
-    let covered : covers parts.validity (length (map value items)) ≡ true = rw size fit.covers in
-    let made : r ≡ Ok (record { ptype = parts.ptype; slots = map value items; validity = parts.validity }) = is ∙ (rw covered refl) in
-    rw (made, items_decoded value item parts blocks items fit.covers long each) refl
-
 -- an item that was read from the blocks, whose type is that of the parts
 pub stored_by_type : (item : ℕ → ℤ → ℤ) (ptype : PType) (parts : BitPackedParts) (blocks : Blocks) (i : ℕ) → parts.ptype ≡ ptype → decoded_item item ptype blocks parts.packed (parts.offset + i) ≡ item ((parts.offset + i) / 1024) (stored parts blocks i)
 unfolding decoded_item
@@ -193,11 +175,3 @@ none_sums ptype parts blocks =
     let same = same_tables (λ i. option_map (plus_block_reference ptype [] ((parts.offset + i) / 1024)) (items i)) items parts.len (λ i h. patch_plus_none ptype ((parts.offset + i) / 1024) (items i)) in
     let with : List (Option ℤ) → Column = λ xs. record { dtype = (column_of_packed parts blocks).dtype; items = xs } in
     ap with same
-
--- the items that are written are the column
-pub column_written : {X : Type 0} (value : X → ℤ) (item : ℕ → ℤ → ℤ) (parts : BitPackedParts) (blocks : Blocks) (items : List X) → Fit parts → length items ≡ parts.len
-    → ((i : ℕ) → i < parts.len → value_at value items i ≡ unwrap_or (option_map (item ((parts.offset + i) / 1024)) (patched_in parts.patches i)) (item ((parts.offset + i) / 1024) (stored parts blocks i)))
-    → column_of_primitive (written (map value items) parts) ≡ decoded_column item parts blocks
-column_written value item parts blocks items fit long each =
-    let with : List (Option ℤ) → Column = λ xs. record { dtype = (column_of_packed parts blocks).dtype; items = xs } in
-    ap with (items_decoded value item parts blocks items fit.covers long each)

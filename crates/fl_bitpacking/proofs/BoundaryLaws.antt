@@ -114,14 +114,6 @@ pub record LiesIn (bits size : ℕ) (bs : List ℕ) (j : ℕ) : Type 0 where
   pub room : (boundary_blocks bs).start j + 128 * (boundary_blocks bs).width j ≤ size
   pub narrow : (boundary_blocks bs).width j ≤ bits
 
-pub lies_in : (bits size : ℕ) (bs : List ℕ) (j : ℕ) → are_blocks bits size bs ≡ true → j + 1 < length bs → LiesIn bits size bs j
-lies_in bits size bs j h k =
-    let here = ends_at bits size bs j h k in
-    let low = here.low in
-    let order = here.order in
-    let room = here.room in
-    record { room = omega arith; narrow = here.narrow }
-
 -- no boundary is further from the first one than there are bytes
 pub within_bytes : (bits size : ℕ) (bs : List ℕ) (j : ℕ) → are_blocks bits size bs ≡ true → j < length bs → get_or bs j 0 - get_or bs 0 0 ≤ size
 within_bytes bits size bs zero h k = omega arith

@@ -32,17 +32,6 @@ word_width I16 = bits_16
 word_width I32 = bits_32
 word_width I64 = bits_64
 
--- a type has 8 to 64 bits
-pub bits_range : (ptype : PType) → (8 ≤ bits_of_type ptype) × (bits_of_type ptype ≤ 64)
-bits_range U8 = (omega arith, omega arith)
-bits_range U16 = (omega arith, omega arith)
-bits_range U32 = (omega arith, omega arith)
-bits_range U64 = (omega arith, omega arith)
-bits_range I8 = (omega arith, omega arith)
-bits_range I16 = (omega arith, omega arith)
-bits_range I32 = (omega arith, omega arith)
-bits_range I64 = (omega arith, omega arith)
-
 -- the pattern 0 is the integer 0
 pub zero_read : (ptype : PType) → read_as ptype 0 ≡ pos 0
 zero_read U8 = refl
@@ -67,13 +56,6 @@ few_words _ _ width bits_8 h = omega arith
 few_words _ _ width bits_16 h = omega arith
 few_words _ _ width bits_32 h = omega arith
 few_words _ _ width bits_64 h = omega arith
-
--- a block's bytes as words
-pub block_words : (T lanes width : ℕ) → IsWordWidth T lanes → 1024 * width / T * (T / 8) ≡ 128 * width
-block_words _ _ width bits_8 = omega arith
-block_words _ _ width bits_16 = omega arith
-block_words _ _ width bits_32 = omega arith
-block_words _ _ width bits_64 = omega arith
 
 -- fewer blocks have no more bytes
 pub fewer_blocks : (width count fewer len : ℕ) → len ≡ 128 * width * count → 128 * width * (count - fewer) ≤ len
@@ -179,10 +161,6 @@ pattern_of-zero I8 = refl
 pattern_of-zero I16 = refl
 pattern_of-zero I32 = refl
 pattern_of-zero I64 = refl
-
-pub pattern_in_read : {X : Type 0} (value : X → ℤ) (ptype : PType) (xs : List X) (i : ℕ) (x : X) → i < length xs → x ≡ get_or xs i x → pattern_in ptype (map value xs) i ≡ pattern_of ptype (value x)
-unfolding pattern_in
-pattern_in_read value ptype xs i x h e = ap (pattern_of ptype) (get_or-map value xs i x (pos 0) h ∙ sym (ap value e))
 
 pub pattern_in_past : {X : Type 0} (value : X → ℤ) (ptype : PType) (xs : List X) (i : ℕ) → length xs ≤ i → pattern_in ptype (map value xs) i ≡ 0
 unfolding pattern_in

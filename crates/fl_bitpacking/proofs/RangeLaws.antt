@@ -1,7 +1,6 @@
 -- Ranges of integers, and the wrapped test of their patterns.
-use Rattle.std.proofs.Common.{◌≡◌, ℕ, ℤ, pos, negsuc, suc, ◌+◌, ◌-◌, ◌%◌, ◌^◌, ◌<◌, ◌≤◌, Bool, true, false, cond, nat_lt, nat_le, int_le, int_lt, not, refl, ap, sym, ◌∙◌, inl, inr, arith}
+use Rattle.std.proofs.Common.{◌≡◌, ℕ, ℤ, pos, negsuc, suc, ◌+◌, ◌-◌, ◌%◌, ◌^◌, ◌<◌, ◌≤◌, Bool, true, false, cond, nat_lt, nat_le, int_le, not, refl, ap, sym, ◌∙◌, inl, inr, arith}
 use Rattle.std.specs.Prelude.{◌&&◌, Option, Some, None, ◌+ℤ◌, ◌-ℤ◌, ◌≤ℤ◌, ◌<ℤ◌, ◌⊎◌}
-use Rattle.std.specs.Ordering.{int_eq}
 use Rattle.std.proofs.Math.Nat.{mod-eq_of_lt, add-mod_right}
 use Rattle.std.proofs.lemmas.Bool.{cases_lt, le-leb, lt-ltb, le-ltb, lt-leb}
 use Rattle.std.proofs.lemmas.Int.{ints, by_lt_z}
@@ -25,16 +24,7 @@ true_le a b h = grind (arith, ints)
 
 pub false_le : (a b : ℤ) → b <ℤ a → int_le a b ≡ false
 false_le a b h = grind (arith, ints)
-
 -- ---- ends of ranges
-pub next_from : (a z : ℤ) → int_le (a +ℤ pos 1) z ≡ int_lt a z
-next_from a z = grind (arith, ints)
-
-pub last_below : (b z : ℤ) → int_le z (b -ℤ pos 1) ≡ int_lt z b
-last_below b z = grind (arith, ints)
-
-pub both_ends : (c z : ℤ) → (int_le c z && int_le z c) ≡ int_eq z c
-both_ends c z = grind (arith, ints)
 
 -- ---- patterns
 -- what is left of a number below twice m

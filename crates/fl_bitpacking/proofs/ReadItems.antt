@@ -1,5 +1,5 @@
 -- Items of a packed column from an index on.
-use Rattle.std.proofs.Common.{◌≡◌, ℕ, ℤ, ◌+◌, ◌/◌, ◌<◌, ◌≤◌, Bool, true, false, Option, Some, None, cond, option_map, unwrap_or, sym, ◌∙◌, arith}
+use Rattle.std.proofs.Common.{◌≡◌, ℕ, ℤ, ◌+◌, ◌/◌, ◌<◌, ◌≤◌, Bool, true, false, Some, None, cond, option_map, unwrap_or, sym, ◌∙◌, arith}
 use Rattle.fl_types.specs.Validities.{is_valid_at}
 use Rattle.fl_patches.specs.PatchMaps.{patched_in}
 use Rattle.fl_bitpacking.specs.Blocks.{Blocks}

@@ -1,5 +1,5 @@
 -- Parts of lists.
-use Rattle.std.proofs.Common.{◌≡◌, ℕ, zero, suc, ◌+◌, ◌-◌, ◌<◌, ◌≤◌, ℤ, pos, List, [], ◌∷◌, ◌++◌, length, map, take, drop, get_or, min, replicate, refl, ap, sym, ◌∙◌, arith, inl, inr, append_assoc, length-append, length-take, length-drop}
+use Rattle.std.proofs.Common.{◌≡◌, ℕ, zero, suc, ◌+◌, ◌-◌, ◌<◌, ◌≤◌, ℤ, pos, List, [], ◌∷◌, ◌++◌, length, map, take, drop, get_or, replicate, refl, ap, sym, ◌∙◌, arith, inl, inr, append_assoc, length-append, length-take, length-drop}
 use Rattle.std.proofs.lemmas.Bool.{cases_lt}
 use Rattle.std.proofs.lemmas.List.{take-map, drop-map, get_or-take, get_or-drop, take_all, take-append-le, length-map, get_or-map, length-replicate, map-append, get_or_append_left, get_or-append_right, get_or-append-add}
 use Rattle.std.proofs.Math.Seq.{take-append_seam}
@@ -38,16 +38,6 @@ part_read s e xs new rest h long =
 pub grown_front : {X : Type 0} (a b n : ℕ) (xs ys : List X) → b ≤ length xs → length xs ≤ n → take (b - a) (drop a (take n xs ++ ys)) ≡ take (b - a) (drop a xs)
 grown_front a b n xs ys h k =
     ap (λ zs. take (b - a) (drop a (zs ++ ys))) (take_all n xs k ∙ sym (take_all (length xs) xs (omega arith))) ∙ between_front a b (length xs) xs ys h (omega arith)
-
--- at most so many elements from a place on
-pub chunk_taken : {X : Type 0} (n a m : ℕ) (xs : List X) → m ≡ min (length xs - a) n → take (a + m - a) (drop a xs) ≡ take n (drop a xs)
-chunk_taken n a m xs is =
-    let size : a + m - a ≡ m = omega arith in
-    let rest = length-drop a xs in
-    rw size (elim (cases_lt n (length xs - a)) [
-      | inl more ↦ (let whole : m ≡ n = omega arith in rw whole refl)
-      | inr few ↦ take_all m (drop a xs) (omega arith) ∙ sym (take_all n (drop a xs) (omega arith))
-    ])
 
 -- the patterns of a chunk are those of the whole
 pub chunk_pattern : {X : Type 0} (value : X → ℤ) (ptype : PType) (xs : List X) (a q : ℕ) → q < 1024 → pattern_in ptype (map value (take 1024 (drop a xs))) q ≡ pattern_in ptype (map value xs) (a + q)

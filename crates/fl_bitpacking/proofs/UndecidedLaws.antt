@@ -12,8 +12,6 @@ use Rattle.fl_types.specs.Bits.{tabulate, true_count}
 use Rattle.fl_types.specs.Integers.{bits_of_type}
 use Rattle.fl_types.specs.Values.{bool_number}
 use Rattle.fl_types.proofs.BitLists.{same_tables}
-use Rattle.fl_column.specs.Columns.{Column}
-use Rattle.fl_column.specs.Queries.{tested}
 use Rattle.fl_bitpacking.specs.Blocks.{Blocks, global_blocks}
 use Rattle.fl_bitpacking.specs.Columns.{BitPackedParts, block_count}
 use Rattle.fl_bitpacking.specs.Decided.{is_decided, undecided_below, undecided_blocks, undecided_by_block, undecided_of_one_width}
@@ -23,9 +21,6 @@ items_alike : (f g : ℤ → Bool) → ((z : ℤ) → f z ≡ g z) → (xs : Lis
 items_alike f g same [] = refl
 items_alike f g same (None ∷ xs) = ap (λ ys. None ∷ ys) (items_alike f g same xs)
 items_alike f g same (Some z ∷ xs) = rw (same z) (ap (λ ys. Some (bool_number (g z)) ∷ ys) (items_alike f g same xs))
-
-pub tested_alike : (f g : ℤ → Bool) (c : Column) → ((z : ℤ) → f z ≡ g z) → tested f c ≡ tested g c
-tested_alike f g c same = rw (items_alike f g same c.items) refl
 
 all_alike : (p q : ℕ → Bool) → ((x : ℕ) → p x ≡ q x) → (xs : List ℕ) → list_all p xs ≡ list_all q xs
 all_alike p q same [] = refl

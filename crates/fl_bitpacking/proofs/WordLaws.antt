@@ -22,13 +22,6 @@ front_words T lanes width n words front shape narrow named long is =
     let taken = length-take (width * n) words in
     omega arith
 
--- the words of one more block have room
-pub block_fits : (size j count n room : ℕ) → n ≡ size * j → size * count ≤ room → j < count → n + size ≤ room
-block_fits size j count n room is all h =
-    let within : size * (j + 1) ≤ size * count = mul-le-mul_left size (omega arith) in
-    let next : size * (j + 1) ≡ size * j + size = grind arith in
-    omega arith
-
 -- ---- words that are added
 -- one more word, as an integer
 pub word_pushed : {W X : Type 0} (value : X → ℤ) (read : W → ℤ) (before : List ℤ) (old new : List X) (x : X) (words : List W) (i : ℕ) (w : W) → new ≡ old ++ x ∷ [] → value x ≡ read w → i < length words → w ≡ get_or words i w

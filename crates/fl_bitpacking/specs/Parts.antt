@@ -1,5 +1,5 @@
 -- The parts of a packed column, and the blocks that are read, as the code holds them.
-use Rattle.std.specs.Prelude.{◌≡◌, ◌+◌, ◌^◌, ◌<◌, ℕ, ℤ, List, IfSome, IsTrue, length}
+use Rattle.std.specs.Prelude.{◌≡◌, ◌+◌, ◌^◌, ◌<◌, ℕ, IfSome, IsTrue, length}
 use Rattle.std.specs.Option.{option_copied}
 use Rattle.fl_types.specs.Validities.{covers}
 use Rattle.fl_bitpacking.specs.Columns.{BitPackedParts}
@@ -9,7 +9,6 @@ use Rattle.fl_bitpacking.specs.Blocks.{AreJoined, AreWithin, blocks_of}
 use Rattle.fl_patches.specs.Widths.{NamesAll}
 use Rattle.fl_patches.specs.declared.widths.Widths.{Widths}
 use Rattle.fl_column.specs.Chunks.{chunk_count}
-use Rattle.fl_column.specs.Columns.{PrimitiveParts}
 
 -- the parts that are held
 abbrev pub parts_of : PackedColumn → BitPackedParts
@@ -21,10 +20,6 @@ pub record Fit (parts : BitPackedParts) : Type 0 where
   pub few : parts.offset + parts.len < 2 ^ 64
   pub covers : IsTrue (covers parts.validity parts.len)
   pub patched : IfSome parts.patches (λ p. (p.array_len ≡ parts.len) × (p.values.ptype ≡ parts.ptype))
-
--- the plain array of integers that are written for the items of these parts, which has their type and validity
-abbrev pub written : List ℤ → BitPackedParts → PrimitiveParts
-written integers parts = record { ptype = parts.ptype; slots = integers; validity = parts.validity }
 
 -- the blocks of these parts, at these widths, and all items
 abbrev pub blocks_to_read : PackedColumn → Widths → PackedBlocks

@@ -137,14 +137,6 @@ delta_slice ptype bases ds v offset len start end order range =
     rw (valid-between v start end i h, integer, block, place_in) refl) in
     rw (nullability_of-between, part) (ap (λ (xs : List (Option ℤ)). record { dtype = dtypes.Primitive ptype (nullability_of v); items = xs }) same)
 
--- the item of a block that is cut out
-pub delta_single : (ptype : PType) (bases ds : List ℤ) (p : ℕ) → delta_integer ptype (between (lanes_of_type ptype * (p / 1024)) (lanes_of_type ptype * (p / 1024 + 1)) bases) (between (1024 * (p / 1024)) (1024 * (p / 1024 + 1)) ds) (p % 1024) ≡ delta_integer ptype bases ds p
-delta_single ptype bases ds p =
-    let zero_block : p % 1024 / 1024 ≡ 0 = omega arith in
-    let same : p % 1024 % 1024 ≡ p % 1024 = omega arith in
-    let here : p / 1024 + 0 ≡ p / 1024 = omega arith in
-    rw (zero_block, same) (rw here at (block_same ptype bases ds (p / 1024) (p / 1024 + 1) 0 (p % 1024) (omega arith) (omega arith)))
-
 -- ---- what a slice keeps
 times_more : (m a b : ℕ) → a ≤ b → m * a ≤ m * b
 times_more m a b h =
@@ -156,9 +148,6 @@ times_more m a b h =
 
 pub kept_in_deltas : (offset len total end : ℕ) → offset + len ≤ total → total % 1024 ≡ 0 → end ≤ len → end_chunk offset end ≤ total / 1024
 kept_in_deltas offset len total end a b c = omega arith
-
-pub kept_order_times : (m offset start end : ℕ) → start ≤ end → m * first_chunk offset start ≤ m * end_chunk offset end
-kept_order_times m offset start end h = times_more m (first_chunk offset start) (end_chunk offset end) (omega arith)
 
 pub kept_bases : (bases ds : Column) (validity : Validity) (offset len end : ℕ) → AreDeltas bases ds validity offset len → end ≤ len → lanes_of_dtype bases.dtype * end_chunk offset end ≤ length bases.items
 kept_bases bases ds validity offset len end s h =

@@ -125,12 +125,6 @@ table_push value f new old x n pushed before here = rw (pushed, map-append, befo
 pub map_push : {A B C : Type 0} (value : A → B) (f : C → B) (xs : List C) (new old : List A) (x : A) (n : ℕ) (d : C) → n < length xs → new ≡ old ++ x ∷ [] → map value old ≡ map f (take n xs) → value x ≡ f (get_or xs n d) → map value new ≡ map f (take (n + 1) xs)
 map_push value f xs new old x n d h pushed before here = rw (pushed, map-append, before, here) (sym (map_more f xs n d h))
 
--- one more value of elements that are read, each mapped
-pub read_push : {A B : Type 0} (value : A → B) (f : B → B) (xs new old : List A) (x y : A) (n : ℕ) → n < length xs → y ≡ get_or xs n y → new ≡ old ++ x ∷ [] → map value old ≡ map f (map value (take n xs)) → value x ≡ f (value y)
-    → map value new ≡ map f (map value (take (n + 1) xs))
-read_push value f xs new old x y n h is pushed before here =
-    rw (pushed, map-append, before, here) (sym (ap (map f) (map_more value xs n y h ∙ ap (λ v. map value (take n xs) ++ value v ∷ []) (sym is)) ∙ map-append f (map value (take n xs)) (value y ∷ [])))
-
 -- the first least item from chunk k on
 pub first_least_at : (read : ℤ → ℤ) (items : List (Option ℤ)) (k : ℕ) (x : Option ℤ) → k < chunks_of (length items) → least_by read (chunk k items) ≡ x → first_some (drop k (chunk_leasts read items)) ≡ either x (first_some (drop (k + 1) (chunk_leasts read items)))
 first_least_at read items k x h e =

@@ -1,9 +1,8 @@
 -- Tests of runs, chunk by chunk.
-use Rattle.std.proofs.Common.{◌≡◌, ℕ, ℤ, pos, ◌+◌, ◌*◌, ◌<◌, Bool, true, false, List, length, map, get_or, Option, None, unwrap_or, unsigned_abs, IsTrue, refl, ap, sym, ◌∙◌, arith, set, inl, inr}
+use Rattle.std.proofs.Common.{◌≡◌, ℕ, ℤ, pos, ◌+◌, ◌*◌, ◌<◌, Bool, true, false, List, length, map, get_or, Option, None, unwrap_or, unsigned_abs, IsTrue, refl, ap, sym, ◌∙◌, arith}
 use Rattle.std.specs.List.{list_all, range_with_len}
 use Rattle.std.specs.Prelude.{nat_lt, ◌&&◌, ◌||◌, ◌==◌}
-use Rattle.std.proofs.lemmas.Bool.{cases_eq}
-use Rattle.std.proofs.lemmas.List.{get_or-set_other, get_or-set_same, length-map}
+use Rattle.std.proofs.lemmas.List.{length-map}
 use Rattle.std.proofs.lemmas.List.FromFn.{get_or-range_with_len, length-range_with_len}
 use Rattle.fl_types.specs.declared.validity.Validity.{Validity}
 use Rattle.fl_types.specs.Validities.{covers, items_of}
@@ -54,10 +53,3 @@ indices_pass indices offsets count each = range_all (λ n. list_all (is_run_inde
 pub chunk_item : {A : Type 0} (value : A → ℤ) (p : PrimitiveParts) (v : Validity) (xs : List A) (k q : ℕ) (x : Option ℤ) → v ≡ p.validity → map value xs ≡ p.slots → q < 1024 → x ≡ get_or (items_of v (map value xs)) (1024 * k + q) None
     → x ≡ get_or (chunk k (items_of_primitive p)) q None
 chunk_item value p v xs k q x same slots h e = e ∙ (ap (λ ys. get_or ys (1024 * k + q) None) (same_items value p v xs same slots) ∙ sym (get_or-chunk (items_of_primitive p) k q None h))
-
--- one more number of a list that a loop fills
-pub number_filled : (f : ℕ → ℕ) (xs : List ℕ) (i x : ℕ) → i < length xs → ((j : ℕ) → j < i → get_or xs j 0 ≡ f j) → x ≡ f i → (j : ℕ) → j < i + 1 → get_or (set xs i x) j 0 ≡ f j
-number_filled f xs i x h done e j below = elim (cases_eq j i) [
-  | inl same ↦ rw same (get_or-set_same xs i x 0 h ∙ e)
-  | inr other ↦ get_or-set_other xs i j x 0 other ∙ done j (omega arith)
-]

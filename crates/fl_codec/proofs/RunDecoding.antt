@@ -31,14 +31,6 @@ numbers_at c i x h e =
     let long : i < length (integers_in c) = rw length-map h in
     sym (get_or-map unsigned_abs (integers_in c) i (pos 0) 0 long ∙ ap unsigned_abs (get_or-map (λ (item : Option ℤ). unwrap_or item (pos 0)) c.items i None (pos 0) h ∙ ap (λ y. unwrap_or y (pos 0)) (sym e)))
 
-pub index_below : (m : ℕ) (index : Option ℤ) → 0 < m → IsTrue (is_run_index m index) → unsigned_abs (unwrap_or index (pos 0)) < m
-index_below m None some h = some
-index_below m (Some z) some h = ltb-true (unsigned_abs z) m h
-
-pub index_more : (m n : ℕ) (index : Option ℤ) → m ≤ n → IsTrue (is_run_index m index) → IsTrue (is_run_index n index)
-index_more m n None le h = refl
-index_more m n (Some z) le h = lt-ltb (unsigned_abs z) n (let below = ltb-true (unsigned_abs z) m h in omega arith)
-
 -- ---- parts that nothing speaks against
 pub record AreRuns (parts : RunParts) (offset len : ℕ) : Type 0 where
   pub start : offset < 1024

@@ -50,10 +50,6 @@ least_found value xs least i e found =
     let whole = between_whole all i long in
     sym (find-least (Some least) (valid_items all) (rw whole at found))
 
-pub least_of_none : {X : Type 0} (value : X → ℤ) (xs : List X) → length xs ≡ 0 → least_valid (all_valid (map value xs)) ≡ None
-least_of_none value [] e = refl
-least_of_none value (x ∷ xs) e = absurd (omega arith)
-
 -- the least of a part
 pub all_turned : {X : Type 0} (value : X → ℤ) (f : ℤ → ℤ) (xs : List X) → all_valid (map (λ x. f (value x)) xs) ≡ map (option_map f) (all_valid (map value xs))
 all_turned value f [] = refl

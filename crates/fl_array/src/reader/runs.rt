@@ -32,7 +32,7 @@ pub(crate) struct RunReader<'a> {
 }
 
 /// Writes items of one chunk, that at index `at` of the run indices first.
-#[tactic(auto, using(crate::proofs::ReadRuns::value_type))]
+#[tactic(auto, using(crate::proofs::ItemTypes::rle_typed))]
 fn read_chunk<T: NativePType, I: BitPacked + PhysicalPType + WrappingAdd>(
     runs: &RunReader,
     all_named: bool,

@@ -1,4 +1,4 @@
-use Rattle.std.proofs.Common.{◌≡◌, ℕ, ℤ, pos, ◌+◌, ◌-◌, ◌*◌, ◌/◌, ◌%◌, ◌<◌, ◌≤◌, ◌∙◌, ap, false, drop, get_or, length, length-drop, length-take, refl, rules, sym, take, arith}
+use Rattle.std.proofs.Common.{◌≡◌, ℕ, pos, ◌+◌, ◌-◌, ◌*◌, ◌/◌, ◌%◌, ◌≤◌, ◌∙◌, ap, false, drop, get_or, length, length-drop, length-take, refl, rules, take, arith}
 use Rattle.fl_types.specs.Integers.{lanes_of_type}
 use Rattle.fl_types.specs.Types.{is_nullable}
 use Rattle.fl_column.specs.Columns.{Column, integers_in}

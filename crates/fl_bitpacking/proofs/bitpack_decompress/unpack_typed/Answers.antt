@@ -1,4 +1,4 @@
-use Rattle.std.proofs.Common.{◌+◌, ◌/◌, ◌∙◌, ap, sym, arith, map, unwrap_or}
+use Rattle.std.proofs.Common.{◌+◌, ◌∙◌, ap, sym, arith, map, unwrap_or}
 use Rattle.fl_patches.specs.PatchMaps.{patched_in}
 use Rattle.fl_patches.proofs.Parts.{ok_same}
 use Rattle.fl_column.specs.Columns.{new_primitive}

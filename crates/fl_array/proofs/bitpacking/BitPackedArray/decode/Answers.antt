@@ -1,4 +1,3 @@
-use Rattle.std.proofs.Common.{◌≡◌}
 use Rattle.fl_array.proofs.BlockWidths.{read_column}
 use Rattle.fl_array.proofs.bitpacking.BitPackedArray.decode.Goals as goal
 

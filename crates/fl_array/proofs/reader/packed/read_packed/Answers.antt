@@ -1,4 +1,4 @@
-use Rattle.std.proofs.Common.{◌≡◌, ◌+◌, ◌≤◌, ◌∙◌, ap, length, subst, sym, arith}
+use Rattle.std.proofs.Common.{◌≡◌, ◌∙◌, ap, length, subst, arith}
 use Rattle.fl_column.specs.Columns.{Column}
 use Rattle.fl_bitpacking.specs.Blocks.{blocks_of, value_at}
 use Rattle.fl_bitpacking.specs.Columns.{BitPackedParts, column_of_packed}

@@ -1,6 +1,6 @@
-use Rattle.std.proofs.Common.{◌≡◌, ◌∙◌, ap, sym, subst}
+use Rattle.std.proofs.Common.{◌≡◌, ◌∙◌, sym, subst}
 use Rattle.fl_patches.proofs.Parts.{ok_same}
-use Rattle.fl_column.specs.Columns.{Column, column_of_primitive}
+use Rattle.fl_column.specs.Columns.{Column}
 use Rattle.fl_array.specs.NoNulls.{HasNoNulls}
 use Rattle.fl_array.specs.Trees.{Tree, column}
 use Rattle.fl_array.proofs.reader.preparing.prove_deltas.Goals as goal

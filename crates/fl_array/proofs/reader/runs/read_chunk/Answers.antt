@@ -1,8 +1,8 @@
-use Rattle.std.proofs.Common.{◌≡◌, ◌+◌, ◌/◌, ◌%◌, ◌<◌, ◌≤◌, ◌∙◌, ap, length, map, refl, sym, true, arith}
+use Rattle.std.proofs.Common.{◌≡◌, ◌/◌, ◌∙◌, ap, length, refl, arith}
 use Rattle.fl_column.specs.Columns.{Column, column_of_primitive, numbers_of}
 use Rattle.fl_codec.specs.RunColumns.{run_count}
 use Rattle.fl_array.specs.Trees.{column}
-use Rattle.fl_array.proofs.ReadRuns.{IsOwn, chunk_shown, names_below, own_chunk, stored_values}
+use Rattle.fl_array.proofs.ReadRuns.{chunk_shown, names_below, own_chunk, stored_values}
 use Rattle.fl_array.proofs.reader.runs.read_chunk.Goals as goal
 
 pub values_of_chunk-own-requires : goal.values_of_chunk-own-requires

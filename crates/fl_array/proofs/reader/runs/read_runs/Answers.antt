@@ -1,4 +1,4 @@
-use Rattle.std.proofs.Common.{◌≡◌, ℕ, ◌+◌, ◌-◌, ◌*◌, ◌/◌, ◌<◌, ◌≤◌, drop, length, length-drop, length-take, take, ap, subst, arith}
+use Rattle.std.proofs.Common.{◌≡◌, ℕ, ◌+◌, ◌-◌, drop, length, length-drop, length-take, ap, subst, arith}
 use Rattle.std.specs.Prelude.{IfSome}
 use Rattle.fl_column.specs.Columns.{integers_in, numbers_of}
 use Rattle.fl_codec.specs.RunColumns.{run_item}

@@ -1,4 +1,4 @@
-use Rattle.std.proofs.Common.{◌≡◌, ◌≤◌, ◌<◌, ◌+◌, ◌-◌, ◌++◌, ◌∙◌, None, Some, get_or, length, drop, ap, arith, length-append, length-take, length-drop}
+use Rattle.std.proofs.Common.{◌≡◌, ◌≤◌, ◌+◌, ◌-◌, ◌∙◌, None, Some, get_or, length, drop, ap, arith, length-append, length-take, length-drop}
 use Rattle.fl_bitpacking.specs.Blocks.{value_at}
 use Rattle.fl_bitpacking.proofs.Slices.{value_added, value_before, vec_grown}
 use Rattle.fl_array.proofs.reader.to_primitive.push_items.Goals as goal

@@ -1,4 +1,4 @@
-use Rattle.std.proofs.Common.{◌≡◌, Ok, ap, sym}
+use Rattle.std.proofs.Common.{Ok, ap, sym}
 use Rattle.fl_column.specs.Columns.{Column}
 use Rattle.fl_array.proofs.ReadLaws.{column_read}
 use Rattle.fl_array.proofs.reader.to_primitive.to_primitive_typed.Goals as goal

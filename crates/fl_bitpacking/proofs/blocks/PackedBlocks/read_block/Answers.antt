@@ -1,4 +1,4 @@
-use Rattle.std.proofs.Common.{◌+◌, ◌-◌, ◌*◌, ◌∙◌, sym, arith}
+use Rattle.std.proofs.Common.{◌+◌, ◌*◌, ◌∙◌, sym, arith}
 use Rattle.fl_bitpacking.specs.Blocks.{blocks_of}
 use Rattle.fl_bitpacking.proofs.Bounds.{width_named}
 use Rattle.fl_bitpacking.proofs.BlockSums.{decoded_read}

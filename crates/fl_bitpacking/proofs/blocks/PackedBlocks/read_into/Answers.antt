@@ -1,4 +1,4 @@
-use Rattle.std.proofs.Common.{◌≡◌, ◌<◌, ◌+◌, ◌-◌, ◌*◌, ◌/◌, ℕ, length, take, drop, sym, arith, length-take, length-drop}
+use Rattle.std.proofs.Common.{◌≡◌, ◌<◌, ◌+◌, ◌-◌, ◌*◌, ℕ, length, take, drop, arith, length-take, length-drop}
 use Rattle.fl_bitpacking.specs.Blocks.{blocks_of, value_at}
 use Rattle.fl_bitpacking.specs.BlockSums.{decoded_item}
 use Rattle.fl_bitpacking.proofs.Slices.{part_written}

@@ -1,4 +1,4 @@
-use Rattle.std.proofs.Common.{rules, ◌≡◌, ◌+◌, ◌-◌, ◌*◌, ◌<◌, ◌≤◌, ℕ, pos, get_or, length, map, drop, arith, ap, sym, ◌∙◌, length-drop, length-take}
+use Rattle.std.proofs.Common.{rules, ◌≡◌, ◌+◌, ◌*◌, ℕ, pos, get_or, map, drop, arith, ap, sym, ◌∙◌}
 use Rattle.fastlanes.specs.Layout.{pattern_at}
 use Rattle.fastlanes.proofs.Patterns.{pattern_at_drop, pattern_at_take}
 use Rattle.fl_types.specs.Integers.{lanes_of_type, pattern_of, read_as}

@@ -1,7 +1,5 @@
-use Rattle.std.proofs.Common.{◌≡◌, List, take, length, sym, arith, subst, ◌∙◌}
+use Rattle.std.proofs.Common.{◌≡◌, arith, ◌∙◌}
 use Rattle.std.proofs.lemmas.List.{take_all}
-use Rattle.fastlanes.specs.Delta.{delta_item}
-use Rattle.fastlanes.specs.Layout.{pattern_at}
 use Rattle.fl_codec.proofs.delta.block_sums.sum_patterns.Goals as goal
 
 pub returns-clause-items : goal.returns-clause-items

@@ -1,6 +1,4 @@
-use Rattle.std.proofs.Common.{◌≡◌, ◌+◌, ◌-◌, ◌∙◌, ap, arith, drop, get_or, length, length-drop, length-take, map, pos, take}
-use Rattle.fl_column.specs.Columns.{column_of_primitive, numbers_of}
-use Rattle.fl_codec.specs.RunColumns.{chunk_end, chunk_start}
+use Rattle.std.proofs.Common.{◌+◌, ◌-◌, ◌∙◌, ap, arith, drop, get_or, length-drop, length-take, map, pos}
 use Rattle.fl_codec.proofs.SliceParts.{integer_of_part}
 use Rattle.fl_codec.proofs.rle.decoding.values_of_chunk.Goals as goal
 

@@ -1,5 +1,5 @@
 use Rattle.std.specs.Prelude.{IfSome}
-use Rattle.std.proofs.Common.{◌≡◌, ◌+◌, ◌-◌, ◌*◌, ◌/◌, ◌<◌, ◌≤◌, ℕ, ℤ, Bool, IsTrue, List, Option, None, Some, cond, option_map, ap, drop, get_or, length, map, pos, refl, take, unsigned_abs, arith, ◌∙◌}
+use Rattle.std.proofs.Common.{◌≡◌, ◌+◌, ◌-◌, ◌*◌, ◌/◌, ◌<◌, ℕ, ℤ, Bool, IsTrue, List, Option, None, Some, cond, option_map, ap, drop, get_or, length, map, pos, refl, take, unsigned_abs, arith, ◌∙◌}
 use Rattle.fl_types.specs.Validities.{is_valid_at}
 use Rattle.fl_column.specs.Columns.{column_of_primitive, numbers_of}
 use Rattle.fl_column.proofs.ItemLaws.{get_or-items_of}

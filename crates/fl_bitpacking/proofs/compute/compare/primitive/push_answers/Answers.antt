@@ -1,4 +1,4 @@
-use Rattle.std.proofs.Common.{◌≡◌, ◌+◌, ◌*◌, ◌≤◌, length, map, min, arith, rules}
+use Rattle.std.proofs.Common.{◌≡◌, ◌+◌, ◌*◌, length, map, min, arith, rules}
 use Rattle.std.proofs.lemmas.List.{length-map}
 use Rattle.fl_bitpacking.specs.RangeTests.{passes}
 use Rattle.fl_bitpacking.proofs.AnswerWords.{all_answered, none_answered, word_answered}
