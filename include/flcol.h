@@ -195,9 +195,9 @@ int32_t flcol_deserialize(const uint8_t *bytes, size_t len, flcol_array *out);
 /* ---- Encode ---- */
 
 /* The same column by a scheme, such as `for(bitpacked)`; the text needs no 0 behind it. The words are `primitive`,
-   `constant`, `bitpacked`, `bitpacked:7`, `blocked`, `for`, `forc`, `forw`, `forcw`, `delta`, `rle`, in parentheses the
-   schemes of the children, `_` for a plain one. At most fourteen words stand in one another, so that what
-   is made has a container.
+   `constant`, `bitpacked`, `bitpacked:7`, `blocked`, `for`, `forc`, `forw`, `forcw`, `delta`, `rle`, `dict`, in parentheses
+   the schemes of the children, `_` for a plain one. At most fourteen words stand in one another, so that what
+   is made has a container. What `dict` makes shows as `rle`.
    FLCOL_NO_ARRAY. FLCOL_BAD_SCHEME. FLCOL_NOT_INTEGER: an array of booleans. Then the encoding's own refusal. */
 int32_t flcol_encode(flcol_array *array, const char *scheme, size_t scheme_len, flcol_array *out);
 

@@ -195,7 +195,8 @@ class Column:
         """The same column by a scheme such as ``for(bitpacked)``. Booleans have none.
 
         The words are ``primitive``, ``constant``, ``bitpacked``, ``bitpacked:7``, ``blocked``, ``for``, ``forc``,
-        ``forw``, ``forcw``, ``delta`` and ``rle``; in parentheses stand the schemes of the children, ``_`` for a plain one.
+        ``forw``, ``forcw``, ``delta``, ``rle`` and ``dict``; in parentheses stand the schemes of the children, ``_`` for
+        a plain one. What ``dict`` makes shows as ``rle``.
         """
         if not isinstance(scheme, str):
             raise TypeError(f"a scheme is a text such as 'for(bitpacked)', and not {scheme!r}")

@@ -10,7 +10,7 @@ use Rattle.fl_types.proofs.RefusalLaws.{Refuses_cases}
 use Rattle.fl_column.specs.Columns.{Column, ConstantParts, PrimitiveParts, column_of_primitive, integers_in}
 use Rattle.fl_codec.specs.DeltaRefusals.{delta_refusal}
 use Rattle.fl_codec.specs.FoRColumns.{chunked_for, global_for}
-use Rattle.fl_codec.specs.Parts.{ByChunk, FoRParts, Nulls, OneReference, RunParts, Whole, compress_deltas, encode_chunked_by, encode_global_by, encode_runs}
+use Rattle.fl_codec.specs.Parts.{ByChunk, FoRParts, Nulls, OneReference, RunParts, Whole, compress_deltas, encode_chunked_by, encode_global_by}
 use Rattle.fl_codec.specs.declared.for_.ItemOrder.{ItemOrder}
 use Rattle.fl_codec.specs.RunRefusals.{rle_refusal}
 use Rattle.fl_bitpacking.specs.Encoders.{AnswersUnless}
@@ -21,8 +21,8 @@ use Rattle.fl_array.specs.Trees.{DeltaParts, OffsetLen, Tree, column, column_of_
 use Rattle.fl_array.specs.Trees as tree
 use Rattle.fl_array.proofs.EncodedRLE.{ok_is}
 use Rattle.fl_array.proofs.FoRSound.{no_constant}
-use Rattle.fl_encode.specs.Encodings.{EncodesAs, HasChunkReferences, HasDeltas, HasOneReference, HasReference, HasReferences, HasRuns, IsEncodedAs, Makes, encode_refusal, one_reference_refusal, references_refusal}
-use Rattle.fl_encode.specs.Shapes.{Delta, FoR, FoRChunked, RLE, Shape}
+use Rattle.fl_encode.specs.Encodings.{EncodesAs, HasChunkReferences, HasDeltas, HasOneReference, HasReference, HasReferences, HasRuns, IsEncodedAs, Makes, encode_refusal, one_reference_refusal, references_refusal, run_children_refusal, runs_by}
+use Rattle.fl_encode.specs.Shapes.{Delta, FoR, FoRChunked, RLE, RunValues, Shape}
 
 -- ---- refusals
 -- memory ran out
@@ -58,11 +58,6 @@ only_memory e t h = elim (Refuses_cases e (Ok t) h) [
 
 pub refused : (refusal : Option FastLanesError) (Is : Tree → Type 0) (c : Column) (e : FastLanesError) → AnswersUnless {X = Tree} refusal (Err e) → Makes refusal Is c (Err e)
 refused refusal Is c e h = record { refused = h; form = tt; stands_for = tt }
-
--- the same of a call that passes a refusal on
-pub passed_on : (scheme : Shape) (p : PrimitiveParts) (r : Result Tree FastLanesError) (e : FastLanesError) → IsErrAnd r (λ f. f ≡ e) → EncodesAs scheme p (Err e) → EncodesAs scheme p r
-passed_on scheme p (Ok t) e h made = absurd h
-passed_on scheme p (Err f) e h made = subst (λ (g : FastLanesError). EncodesAs scheme p (Err g)) (sym h) made
 
 -- ---- what is made
 pub made : (refusal : Option FastLanesError) (Is : Tree → Type 0) (c : Column) (t : Tree) (r : Result Tree FastLanesError) → refusal ≡ None → Is t → column t ≡ c → Answers (λ (s : Tree). s) r (Ok t) → Makes refusal Is c r
@@ -194,44 +189,54 @@ deltas_refused first other p b d t e is h k =
     (by_second (encode_refusal first b) (encode_refusal other d) e (none_of (encode_refusal first b) t h.refused) k.refused))
 
 -- ---- runs
+-- what encoding the children of these runs answers
+abbrev pub MakesRuns : (first second third : Shape) → RunParts → ℕ → Result Tree FastLanesError → Type 0
+MakesRuns first second third runs n r =
+    Makes (run_children_refusal (encode_refusal first) (encode_refusal second) (encode_refusal third) runs) (HasRuns (IsEncodedAs first) (IsEncodedAs second) (IsEncodedAs third) runs (record { offset = 0; len = n }))
+    (column (tree.RLE (tree.Primitive runs.values) (tree.Primitive runs.indices) (tree.Primitive runs.offsets) (record { offset = 0; len = n }))) r
+
+-- the same of a call that passes a refusal on
+pub runs_passed_on : (first second third : Shape) (runs : RunParts) (n : ℕ) (r : Result Tree FastLanesError) (e : FastLanesError) → IsErrAnd r (λ f. f ≡ e) → MakesRuns first second third runs n (Err e) → MakesRuns first second third runs n r
+runs_passed_on first second third runs n (Ok t) e h made = absurd h
+runs_passed_on first second third runs n (Err f) e h made = subst (λ (g : FastLanesError). MakesRuns first second third runs n (Err g)) (sym h) made
+
 -- what a primitive array's runs make, by those that were made
-runs_of : (first second third : Shape) (p : PrimitiveParts) (runs : RunParts) (n : ℕ) (r : Result Tree FastLanesError) → runs ≡ encode_runs p → n ≡ length p.slots
-    → Makes (otherwise (encode_refusal first runs.values) (otherwise (encode_refusal second runs.indices) (encode_refusal third runs.offsets))) (HasRuns (IsEncodedAs first) (IsEncodedAs second) (IsEncodedAs third) runs (record { offset = 0; len = n })) (column_of_primitive p) r
-    → EncodesAs (RLE first second third) p r
-runs_of first second third p runs n r e g h =
-    let whole = subst (λ (m : ℕ). Makes (otherwise (encode_refusal first runs.values) (otherwise (encode_refusal second runs.indices) (encode_refusal third runs.offsets))) (HasRuns (IsEncodedAs first) (IsEncodedAs second) (IsEncodedAs third) runs (record { offset = 0; len = m })) (column_of_primitive p) r) g h in
-    subst (λ (x : RunParts). Makes (otherwise (encode_refusal first x.values) (otherwise (encode_refusal second x.indices) (encode_refusal third x.offsets))) (HasRuns (IsEncodedAs first) (IsEncodedAs second) (IsEncodedAs third) x (record { offset = 0; len = length p.slots })) (column_of_primitive p) r) e whole
+pub runs_encoded : (run_values : RunValues) (first second third : Shape) (p : PrimitiveParts) (runs : RunParts) (n : ℕ) (r : Result Tree FastLanesError) → runs ≡ runs_by run_values p → n ≡ length p.slots
+    → column_of_rle (column_of_primitive runs.values) (column_of_primitive runs.indices) (column_of_primitive runs.offsets) (record { offset = 0; len = n }) ≡ column_of_primitive p
+    → MakesRuns first second third runs n r → EncodesAs (RLE run_values first second third) p r
+runs_encoded run_values first second third p runs n r e g back h =
+    let refusal : RunParts → Option FastLanesError = run_children_refusal (encode_refusal first) (encode_refusal second) (encode_refusal third) in
+    let Is : RunParts → OffsetLen → Tree → Type 0 = HasRuns (IsEncodedAs first) (IsEncodedAs second) (IsEncodedAs third) in
+    let there = subst (λ (c : Column). Makes (refusal runs) (Is runs (record { offset = 0; len = n })) c r) back h in
+    let whole = subst (λ (m : ℕ). Makes (refusal runs) (Is runs (record { offset = 0; len = m })) (column_of_primitive p) r) g there in
+    subst (λ (x : RunParts). Makes (refusal x) (Is x (record { offset = 0; len = length p.slots })) (column_of_primitive p) r) e whole
 
 pub runs_accepted : (v i o : PrimitiveParts) (n : ℕ) (s t u : Tree) → column s ≡ column_of_primitive v → column t ≡ column_of_primitive i → column u ≡ column_of_primitive o → rle_refusal (column_of_primitive v) (column_of_primitive i) (column_of_primitive o) 0 n ≡ None → rle_refusal (column s) (column t) (column u) 0 n ≡ None
 runs_accepted v i o n s t u same also last h =
     ap (λ (c : Column). rle_refusal c (column t) (column u) 0 n) same ∙ (ap (λ (c : Column). rle_refusal (column_of_primitive v) c (column u) 0 n) also ∙ (ap (λ (c : Column). rle_refusal (column_of_primitive v) (column_of_primitive i) c 0 n) last ∙ h))
 
-pub runs_made : (first second third : Shape) (p : PrimitiveParts) (runs : RunParts) (n : ℕ) (s t u : Tree) (r : Result Tree FastLanesError) → runs ≡ encode_runs p → n ≡ length p.slots
-    → column_of_rle (column_of_primitive runs.values) (column_of_primitive runs.indices) (column_of_primitive runs.offsets) (record { offset = 0; len = n }) ≡ column_of_primitive p
-    → EncodesAs first runs.values (Ok s) → EncodesAs second runs.indices (Ok t) → EncodesAs third runs.offsets (Ok u) → Answers (λ (x : Tree). x) r (Ok (tree.RLE s t u (record { offset = 0; len = n })))
-    → EncodesAs (RLE first second third) p r
-runs_made first second third p runs n s t u r e g back h k l a =
+pub runs_made : (first second third : Shape) (runs : RunParts) (n : ℕ) (s t u : Tree) (r : Result Tree FastLanesError) → EncodesAs first runs.values (Ok s) → EncodesAs second runs.indices (Ok t) → EncodesAs third runs.offsets (Ok u)
+    → Answers (λ (x : Tree). x) r (Ok (tree.RLE s t u (record { offset = 0; len = n }))) → MakesRuns first second third runs n r
+runs_made first second third runs n s t u r h k l a =
     let window : OffsetLen = record { offset = 0; len = n } in
-    let refusal = otherwise (encode_refusal first runs.values) (otherwise (encode_refusal second runs.indices) (encode_refusal third runs.offsets)) in
-    let all : column (tree.RLE s t u window) ≡ column_of_primitive p =
-    ap (λ (c : Column). column_of_rle c (column t) (column u) window) h.stands_for ∙ (ap (λ (c : Column). column_of_rle (column_of_primitive runs.values) c (column u) window) k.stands_for ∙ (ap (λ (c : Column). column_of_rle (column_of_primitive runs.values) (column_of_primitive runs.indices) c window) l.stands_for ∙ back)) in
+    let plain = tree.RLE (tree.Primitive runs.values) (tree.Primitive runs.indices) (tree.Primitive runs.offsets) window in
+    let all : column (tree.RLE s t u window) ≡ column plain =
+    ap (λ (c : Column). column_of_rle c (column t) (column u) window) h.stands_for ∙ (ap (λ (c : Column). column_of_rle (column_of_primitive runs.values) c (column u) window) k.stands_for ∙ ap (λ (c : Column). column_of_rle (column_of_primitive runs.values) (column_of_primitive runs.indices) c window) l.stands_for) in
     let none = neither_of (encode_refusal first runs.values) (otherwise (encode_refusal second runs.indices) (encode_refusal third runs.offsets)) (none_of (encode_refusal first runs.values) s h.refused)
     (neither_of (encode_refusal second runs.indices) (encode_refusal third runs.offsets) (none_of (encode_refusal second runs.indices) t k.refused) (none_of (encode_refusal third runs.offsets) u l.refused)) in
-    runs_of first second third p runs n r e g
-    (made refusal (HasRuns (IsEncodedAs first) (IsEncodedAs second) (IsEncodedAs third) runs window) (column_of_primitive p) (tree.RLE s t u window) r none (s, t, u, h.form, k.form, l.form, refl) all a)
+    made (run_children_refusal (encode_refusal first) (encode_refusal second) (encode_refusal third) runs) (HasRuns (IsEncodedAs first) (IsEncodedAs second) (IsEncodedAs third) runs window) (column plain) (tree.RLE s t u window) r none (s, t, u, h.form, k.form, l.form, refl) all a
 
 -- a refusal of the runs
-runs_refused : (first second third : Shape) (p : PrimitiveParts) (runs : RunParts) (e : FastLanesError) → runs ≡ encode_runs p
-    → AnswersUnless {X = Tree} (otherwise (encode_refusal first runs.values) (otherwise (encode_refusal second runs.indices) (encode_refusal third runs.offsets))) (Err e) → EncodesAs (RLE first second third) p (Err e)
-runs_refused first second third p runs e is h =
-    runs_of first second third p runs (length p.slots) (Err e) is refl
-    (refused (otherwise (encode_refusal first runs.values) (otherwise (encode_refusal second runs.indices) (encode_refusal third runs.offsets))) (HasRuns (IsEncodedAs first) (IsEncodedAs second) (IsEncodedAs third) runs (record { offset = 0; len = length p.slots })) (column_of_primitive p) e h)
+runs_refused : (first second third : Shape) (runs : RunParts) (n : ℕ) (e : FastLanesError) → AnswersUnless {X = Tree} (run_children_refusal (encode_refusal first) (encode_refusal second) (encode_refusal third) runs) (Err e) → MakesRuns first second third runs n (Err e)
+runs_refused first second third runs n e h =
+    refused (run_children_refusal (encode_refusal first) (encode_refusal second) (encode_refusal third) runs) (HasRuns (IsEncodedAs first) (IsEncodedAs second) (IsEncodedAs third) runs (record { offset = 0; len = n }))
+    (column (tree.RLE (tree.Primitive runs.values) (tree.Primitive runs.indices) (tree.Primitive runs.offsets) (record { offset = 0; len = n }))) e h
 
-pub values_refused : (first second third : Shape) (p : PrimitiveParts) (runs : RunParts) (e : FastLanesError) → runs ≡ encode_runs p → EncodesAs first runs.values (Err e) → EncodesAs (RLE first second third) p (Err e)
-values_refused first second third p runs e is h = runs_refused first second third p runs e is (by_first (encode_refusal first runs.values) (otherwise (encode_refusal second runs.indices) (encode_refusal third runs.offsets)) e h.refused)
+pub values_refused : (first second third : Shape) (runs : RunParts) (n : ℕ) (e : FastLanesError) → EncodesAs first runs.values (Err e) → MakesRuns first second third runs n (Err e)
+values_refused first second third runs n e h = runs_refused first second third runs n e (by_first (encode_refusal first runs.values) (otherwise (encode_refusal second runs.indices) (encode_refusal third runs.offsets)) e h.refused)
 
-pub indices_refused : (first second third : Shape) (p : PrimitiveParts) (runs : RunParts) (s : Tree) (e : FastLanesError) → runs ≡ encode_runs p → EncodesAs first runs.values (Ok s) → EncodesAs second runs.indices (Err e) → EncodesAs (RLE first second third) p (Err e)
-indices_refused first second third p runs s e is h k = runs_refused first second third p runs e is (by_second (encode_refusal first runs.values) (otherwise (encode_refusal second runs.indices) (encode_refusal third runs.offsets)) e (none_of (encode_refusal first runs.values) s h.refused) (by_first (encode_refusal second runs.indices) (encode_refusal third runs.offsets) e k.refused))
+pub indices_refused : (first second third : Shape) (runs : RunParts) (n : ℕ) (s : Tree) (e : FastLanesError) → EncodesAs first runs.values (Ok s) → EncodesAs second runs.indices (Err e) → MakesRuns first second third runs n (Err e)
+indices_refused first second third runs n s e h k = runs_refused first second third runs n e (by_second (encode_refusal first runs.values) (otherwise (encode_refusal second runs.indices) (encode_refusal third runs.offsets)) e (none_of (encode_refusal first runs.values) s h.refused) (by_first (encode_refusal second runs.indices) (encode_refusal third runs.offsets) e k.refused))
 
-pub offsets_refused : (first second third : Shape) (p : PrimitiveParts) (runs : RunParts) (s t : Tree) (e : FastLanesError) → runs ≡ encode_runs p → EncodesAs first runs.values (Ok s) → EncodesAs second runs.indices (Ok t) → EncodesAs third runs.offsets (Err e) → EncodesAs (RLE first second third) p (Err e)
-offsets_refused first second third p runs s t e is h k l = runs_refused first second third p runs e is (by_second (encode_refusal first runs.values) (otherwise (encode_refusal second runs.indices) (encode_refusal third runs.offsets)) e (none_of (encode_refusal first runs.values) s h.refused) (by_second (encode_refusal second runs.indices) (encode_refusal third runs.offsets) e (none_of (encode_refusal second runs.indices) t k.refused) l.refused))
+pub offsets_refused : (first second third : Shape) (runs : RunParts) (n : ℕ) (s t : Tree) (e : FastLanesError) → EncodesAs first runs.values (Ok s) → EncodesAs second runs.indices (Ok t) → EncodesAs third runs.offsets (Err e) → MakesRuns first second third runs n (Err e)
+offsets_refused first second third runs n s t e h k l = runs_refused first second third runs n e (by_second (encode_refusal first runs.values) (otherwise (encode_refusal second runs.indices) (encode_refusal third runs.offsets)) e (none_of (encode_refusal first runs.values) s h.refused) (by_second (encode_refusal second runs.indices) (encode_refusal third runs.offsets) e (none_of (encode_refusal second runs.indices) t k.refused) l.refused))

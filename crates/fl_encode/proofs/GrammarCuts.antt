@@ -9,7 +9,7 @@ use Rattle.fl_encode.specs.declared.scheme.Packing.TheVariants.{BestWidth, BestW
 use Rattle.fl_encode.specs.declared.text.reading.Head.{Head}
 use Rattle.fl_encode.specs.declared.text.reading.Head.TheVariants as heads
 use Rattle.fl_encode.specs.Grammar.{AreThreeChildren, AreTwoChildren, BeginsScheme, IsOneChild, IsTextOf, IsWidthText}
-use Rattle.fl_encode.specs.Shapes.{BitPacked, Constant, Delta, FoR, FoRChunked, Plain, Primitive, RLE, Shape, is_plain, levels, max_levels, order_text}
+use Rattle.fl_encode.specs.Shapes.{BitPacked, Constant, Delta, Dictionary, FoR, FoRChunked, Plain, Primitive, RLE, RunValues, Runs, Shape, is_plain, levels, max_levels, order_text, run_word}
 use Rattle.fl_encode.specs.Texts.{after, child_by, common, expected, frame_in, furthest, goes_on, head_in, one_by, packing_behind, positioned, rest_behind, scheme_by, scheme_in, scheme_of_text, tail_behind, three_by, two_by, whole, width_in}
 use Rattle.fl_encode.proofs.GrammarLaws.{IsHead, Reader, Sound, above, both_low, child_said, equal_bytes, expected_is, forget, head_said, rest_is, scheme_said, tail_is}
 
@@ -108,7 +108,9 @@ furthest_cut n text =
     (larger (suc n) text _ _ (word_cut (suc n) (BitPacked BestWidth) (codes "bitpacked") text refl refl (omega arith)) (word_cut (suc n) (BitPacked BestWidths) (codes "blocked") text refl refl (omega arith))))
     (larger (suc n) text _ _
     (larger (suc n) text _ _ (word_cut (suc n) (FoRChunked Signed Plain Plain) (codes "forcw") text ([], inl (refl, refl), refl) refl (omega arith)) (word_cut (suc n) (FoR Signed Plain) (codes "forw") text ([], inl (refl, refl), refl) refl (omega arith)))
-    (larger (suc n) text _ _ (word_cut (suc n) (Delta Plain Plain) (codes "delta") text ([], inl (refl, refl), refl) refl (omega arith)) (word_cut (suc n) (RLE Plain Plain Plain) (codes "rle") text ([], inl (refl, refl), refl) refl (omega arith))))
+    (larger (suc n) text _ _
+    (larger (suc n) text _ _ (word_cut (suc n) (Delta Plain Plain) (codes "delta") text ([], inl (refl, refl), refl) refl (omega arith)) (word_cut (suc n) (RLE Dictionary Plain Plain Plain) (codes "dict") text ([], inl (refl, refl), refl) refl (omega arith)))
+    (word_cut (suc n) (RLE Runs Plain Plain Plain) (codes "rle") text ([], inl (refl, refl), refl) refl (omega arith))))
 
 from_begun : (high : ℕ) (text : List ℕ) (n left : ℕ) → Begun high text n → length text - n ≡ left → Cut (SomeScheme high) text left
 from_begun high text n left (done, more, rest, is, size, holds) e =
@@ -163,8 +165,8 @@ packed_cut n text left d others e = elim (option_err (λ (rest : List ℕ). afte
 
 head_cut : (n : ℕ) (text : List ℕ) (left : ℕ) → head_in text ≡ Err left → Cut (SomeScheme (suc n)) text left
 head_cut n text left e =
-    words_cut n text left heads.Primitive (codes "primitive") _ (words_cut n text left heads.Constant (codes "constant") _ (packed_cut n text left _ (words_cut n text left (heads.BitPacked BestWidths) (codes "blocked") _ (frames_cut n text left _ (words_cut n text left heads.Delta (codes "delta") _ (words_cut n text left heads.RLE (codes "rle") (Err (length text - furthest text))
-    (λ missing. from_begun (suc n) text (furthest text) left (furthest_cut n text) (same_err (length text - furthest text) left missing)))))))) e
+    words_cut n text left heads.Primitive (codes "primitive") _ (words_cut n text left heads.Constant (codes "constant") _ (packed_cut n text left _ (words_cut n text left (heads.BitPacked BestWidths) (codes "blocked") _ (frames_cut n text left _ (words_cut n text left heads.Delta (codes "delta") _ (words_cut n text left heads.Dict (codes "dict") _ (words_cut n text left heads.RLE (codes "rle") (Err (length text - furthest text))
+    (λ missing. from_begun (suc n) text (furthest text) left (furthest_cut n text) (same_err (length text - furthest text) left missing))))))))) e
 
 -- ---- children
 abbrev SomeOne : ℕ → List ℕ → Type 0
@@ -262,6 +264,11 @@ only_first : {A B : Type 0} (r : Result A ℕ) (f : A → B) (left : ℕ) → af
 only_first (Ok x) f left e = ok_err (f x) left e
 only_first (Err other) f left e = ap (λ (n : ℕ). Err n) (same_err other left e)
 
+runs_cut : (n : ℕ) (read : Reader) → Sound n read → Cuts n read → (run_values : RunValues) (word text : List ℕ) (left : ℕ) → word ≡ run_word run_values → after {B = Shape × List ℕ} (three_by read text) (λ a. Ok (RLE run_values a.0 a.1 a.2, a.3)) ≡ Err left → Cut (SomeScheme (suc n)) (word ++ text) left
+runs_cut n read sound cuts run_values word text left is e =
+    let cut = cut_word (suc n) (SomeThree n) (run_word run_values) text left (λ own some. (RLE run_values some.0 some.1 some.2, (own, some.3, refl), refl, above some.4)) (three_cut n read sound cuts text left (only_first (three_by read text) (λ a. (RLE run_values a.0 a.1 a.2, a.3)) left e)) in
+    subst (λ (t : List ℕ). Cut (SomeScheme (suc n)) (t ++ text) left) (sym is) cut
+
 scheme_by_cut : (n : ℕ) (read : Reader) → Sound n read → Cuts n read → (head : Head) (word text : List ℕ) (left : ℕ) → IsHead head word → scheme_by read head text ≡ Err left → Cut (SomeScheme (suc n)) (word ++ text) left
 scheme_by_cut n read sound cuts heads.Primitive word text left is e = ok_err (Primitive, text) left e
 scheme_by_cut n read sound cuts heads.Constant word text left is e = ok_err (Constant, text) left e
@@ -275,9 +282,8 @@ scheme_by_cut n read sound cuts (heads.FoRChunked order) word text left is e =
 scheme_by_cut n read sound cuts heads.Delta word text left is e =
     let cut = cut_word (suc n) (SomeTwo n) (codes "delta") text left (λ own some. (Delta some.0 some.1, (own, some.2, refl), refl, above some.3)) (two_cut n read sound cuts text left (only_first (two_by read text) (λ a. (Delta a.0 a.1, a.2)) left e)) in
     subst (λ (t : List ℕ). Cut (SomeScheme (suc n)) (t ++ text) left) (sym is) cut
-scheme_by_cut n read sound cuts heads.RLE word text left is e =
-    let cut = cut_word (suc n) (SomeThree n) (codes "rle") text left (λ own some. (RLE some.0 some.1 some.2, (own, some.3, refl), refl, above some.4)) (three_cut n read sound cuts text left (only_first (three_by read text) (λ a. (RLE a.0 a.1 a.2, a.3)) left e)) in
-    subst (λ (t : List ℕ). Cut (SomeScheme (suc n)) (t ++ text) left) (sym is) cut
+scheme_by_cut n read sound cuts heads.RLE word text left is e = runs_cut n read sound cuts Runs word text left is e
+scheme_by_cut n read sound cuts heads.Dict word text left is e = runs_cut n read sound cuts Dictionary word text left is e
 
 -- the same of a scheme, whose children are read so
 level_cut : (n : ℕ) → Cuts n (scheme_in n) → (text : List ℕ) (left : ℕ) → scheme_in (suc n) text ≡ Err left → Cut (SomeScheme (suc n)) text left

@@ -12,7 +12,7 @@ use Rattle.fl_encode.specs.declared.scheme.Packing.TheVariants.{BestWidth, BestW
 use Rattle.fl_encode.specs.declared.text.reading.Head.{Head}
 use Rattle.fl_encode.specs.declared.text.reading.Head.TheVariants as heads
 use Rattle.fl_encode.specs.Grammar.{AreThreeChildren, AreTwoChildren, IsOneChild, IsPackingText, IsSchemeText, IsTextOf, IsWidthText, is_digit, number_of}
-use Rattle.fl_encode.specs.Shapes.{BitPacked, Constant, Delta, FoR, FoRChunked, Plain, Primitive, RLE, Shape, is_plain, levels, max_levels, order_text}
+use Rattle.fl_encode.specs.Shapes.{BitPacked, Constant, Delta, Dictionary, FoR, FoRChunked, Plain, Primitive, RLE, RunValues, Runs, Shape, is_plain, levels, max_levels, order_text, run_word}
 use Rattle.fl_encode.specs.Texts.{after, child_by, digits_behind, expected, frame_in, furthest, goes_on, head_in, one_by, order_in, packing_behind, positioned, rest_behind, scheme_by, scheme_in, scheme_of_text, tail_behind, three_by, two_by, whole, width_in}
 
 -- ---- steps of a reader
@@ -130,6 +130,7 @@ IsHead (heads.FoR order) word = word ≡ codes "for" ++ order_text order
 IsHead (heads.FoRChunked order) word = word ≡ codes "forc" ++ order_text order
 IsHead heads.Delta word = word ≡ codes "delta"
 IsHead heads.RLE word = word ≡ codes "rle"
+IsHead heads.Dict word = word ≡ codes "dict"
 
 order_said : (text : List ℕ) → text ≡ order_text (order_in text).0 ++ (order_in text).1
 order_said [] = refl
@@ -186,7 +187,8 @@ head_said text x e =
     head_step (heads.BitPacked BestWidths) (codes "blocked") text _ x refl (
     frame_step text _ x (
     head_step heads.Delta (codes "delta") text _ x refl (
-    head_step heads.RLE (codes "rle") text (Err (length text - furthest text)) x refl (err_ok (length text - furthest text) x))))))) e
+    head_step heads.Dict (codes "dict") text _ x refl (
+    head_step heads.RLE (codes "rle") text (Err (length text - furthest text)) x refl (err_ok (length text - furthest text) x)))))))) e
 
 -- ---- children
 abbrev pub Reader : Type 0
@@ -290,6 +292,15 @@ above {m = m} {n = n} h = omega arith
 ordered : (word : List ℕ) (order : ItemOrder) (own rest : List ℕ) → (word ++ order_text order) ++ (own ++ rest) ≡ (word ++ (order_text order ++ own)) ++ rest
 ordered word order own rest = sym (append_assoc (word ++ order_text order) own rest) ∙ ap (λ (t : List ℕ). t ++ rest) (append_assoc word (order_text order) own)
 
+runs_said : (n : ℕ) (read : Reader) → Sound n read → (run_values : RunValues) (word text : List ℕ) (x : Shape × List ℕ) → word ≡ run_word run_values → after (three_by read text) (λ a. Ok (RLE run_values a.0 a.1 a.2, a.3)) ≡ Ok x → SaysScheme (suc n) (word ++ text) x
+runs_said n read sound run_values word text x is e =
+    let r = after_ok (three_by read text) (λ a. Ok (RLE run_values a.0 a.1 a.2, a.3)) x e in
+    let said = three_said n read sound text r.0 r.1 in
+    let word_is = run_word run_values in
+    let here : SaysScheme (suc n) (word_is ++ text) (RLE run_values r.0.0 r.0.1 r.0.2, r.0.3) =
+    (word_is ++ said.0, (said.0, said.1, refl), ap (λ (t : List ℕ). word_is ++ t) said.2 ∙ sym (append_assoc word_is said.0 r.0.3), refl, above said.3) in
+    subst (λ (t : List ℕ). SaysScheme (suc n) (t ++ text) x) (sym is) (subst (SaysScheme (suc n) (word_is ++ text)) (same_ok (RLE run_values r.0.0 r.0.1 r.0.2, r.0.3) x r.2) here)
+
 scheme_by_said : (n : ℕ) (read : Reader) → Sound n read → (head : Head) (word text : List ℕ) (x : Shape × List ℕ) → IsHead head word → scheme_by read head text ≡ Ok x → SaysScheme (suc n) (word ++ text) x
 scheme_by_said n read sound heads.Primitive word text x is e =
     let here : SaysScheme (suc n) (word ++ text) (Primitive, text) = (word, is, refl, refl, omega arith) in
@@ -317,11 +328,8 @@ scheme_by_said n read sound heads.Delta word text x is e =
     let said = two_said n read sound text r.0 r.1 in
     let here : SaysScheme (suc n) (codes "delta" ++ text) (Delta r.0.0 r.0.1, r.0.2) = (codes "delta" ++ said.0, (said.0, said.1, refl), ap (λ (t : List ℕ). codes "delta" ++ t) said.2, refl, above said.3) in
     subst (λ (t : List ℕ). SaysScheme (suc n) (t ++ text) x) (sym is) (subst (SaysScheme (suc n) (codes "delta" ++ text)) (same_ok (Delta r.0.0 r.0.1, r.0.2) x r.2) here)
-scheme_by_said n read sound heads.RLE word text x is e =
-    let r = after_ok (three_by read text) (λ a. Ok (RLE a.0 a.1 a.2, a.3)) x e in
-    let said = three_said n read sound text r.0 r.1 in
-    let here : SaysScheme (suc n) (codes "rle" ++ text) (RLE r.0.0 r.0.1 r.0.2, r.0.3) = (codes "rle" ++ said.0, (said.0, said.1, refl), ap (λ (t : List ℕ). codes "rle" ++ t) said.2, refl, above said.3) in
-    subst (λ (t : List ℕ). SaysScheme (suc n) (t ++ text) x) (sym is) (subst (SaysScheme (suc n) (codes "rle" ++ text)) (same_ok (RLE r.0.0 r.0.1 r.0.2, r.0.3) x r.2) here)
+scheme_by_said n read sound heads.RLE word text x is e = runs_said n read sound Runs word text x is e
+scheme_by_said n read sound heads.Dict word text x is e = runs_said n read sound Dictionary word text x is e
 
 pub forget : (n : ℕ) (text : List ℕ) (x : Shape × List ℕ) → SaysScheme n text x → Says n text x
 forget n text x said = (said.0, said.1, said.2, said.4)

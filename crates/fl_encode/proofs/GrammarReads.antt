@@ -7,12 +7,12 @@ use Rattle.fl_column.proofs.ListLaws.{and_first, and_second}
 use Rattle.fl_encode.specs.declared.scheme.Packing.TheVariants.{BestWidth, BestWidths, Width}
 use Rattle.fl_encode.specs.declared.text.reading.Head.TheVariants as heads
 use Rattle.fl_encode.specs.Grammar.{AreThreeChildren, AreTwoChildren, IsOneChild, IsSchemeText, IsTextOf, IsWidthText, is_digit, number_of}
-use Rattle.fl_encode.specs.Shapes.{BitPacked, Constant, Delta, FoR, FoRChunked, Plain, Primitive, RLE, Shape, is_plain, levels, max_levels, order_text, scheme_text}
+use Rattle.fl_encode.specs.Shapes.{BitPacked, Constant, Delta, Dictionary, FoR, FoRChunked, Plain, Primitive, RLE, Runs, Shape, is_plain, levels, max_levels, order_text, run_word, scheme_text}
 use Rattle.fl_encode.specs.SchemeShapes.{shape}
 use Rattle.fl_encode.specs.Texts.{after, child_by, digits_behind, expected, has_widths, one_by, positioned, scheme_in, scheme_of_text, three_by, two_by, whole, width_in}
 use Rattle.fl_encode.specs.declared.scheme.Scheme.{Scheme}
 use Rattle.fl_encode.proofs.GrammarLaws.{read_by_grammar, same_ok}
-use Rattle.fl_encode.proofs.TextLaws.{NoLetter, Reader, follows, for_read, forc_read, goes, headed, no_children, no_letters, plain_is, reads, shape_some, stops, widened}
+use Rattle.fl_encode.proofs.TextLaws.{NoLetter, Reader, follows, for_read, forc_read, goes, headed, no_children, no_letters, plain_is, reads, runs_read, shape_some, stops, widened}
 
 -- ---- widths
 pub grows : (n : ℕ) (digits : List ℕ) → n ≤ number_of n digits
@@ -63,7 +63,8 @@ child_read (BitPacked BestWidths) read text rest is h = no_underscore read 98 _ 
 child_read (FoR order a) read text rest is h = no_underscore read 102 _ text rest refl is.2 ∙ h refl
 child_read (FoRChunked order a b) read text rest is h = no_underscore read 102 _ text rest refl is.2 ∙ h refl
 child_read (Delta a b) read text rest is h = no_underscore read 100 _ text rest refl is.2 ∙ h refl
-child_read (RLE a b c) read text rest is h = no_underscore read 114 _ text rest refl is.2 ∙ h refl
+child_read (RLE Runs a b c) read text rest is h = no_underscore read 114 _ text rest refl is.2 ∙ h refl
+child_read (RLE Dictionary a b c) read text rest is h = no_underscore read 100 _ text rest refl is.2 ∙ h refl
 
 one_read : (a : Shape) (read : Reader) (own rest : List ℕ) → follows rest ≡ true → IsOneChild (is_plain a) (IsTextOf a) own → Back read a → one_by read (own ++ rest) ≡ Ok (a, rest)
 one_read a read own rest f (inl (plain, e)) back = rw (e, plain_is a plain, no_children rest f) refl
@@ -146,11 +147,12 @@ read_any (Delta a b) zero rest text is p h f = absurd (omega arith)
 read_any (Delta a b) (suc n) rest text is p h f =
     let back = two_read a b (scheme_in n) is.0 rest f is.1 (λ child more c g. child_read a (scheme_in n) child more c (λ q. read_any a n more child c q (omega arith) g)) (λ child more c g. child_read b (scheme_in n) child more c (λ q. read_any b n more child c q (omega arith) g)) in
     ap (λ (t : List ℕ). scheme_in (suc n) (t ++ rest)) is.2 ∙ ap (λ (o : Result (Shape × Shape × List ℕ) ℕ). after o (λ x. Ok (Delta x.0 x.1, x.2))) back
-read_any (RLE a b c) zero rest text is p h f = absurd (omega arith)
-read_any (RLE a b c) (suc n) rest text is p h f =
+read_any (RLE run_values a b c) zero rest text is p h f = absurd (omega arith)
+read_any (RLE run_values a b c) (suc n) rest text is p h f =
     let back = three_read a b c (scheme_in n) is.0 rest f is.1 (λ child more k g. child_read a (scheme_in n) child more k (λ q. read_any a n more child k q (omega arith) g)) (λ child more k g. child_read b (scheme_in n) child more k (λ q. read_any b n more child k q (omega arith) g))
     (λ child more k g. child_read c (scheme_in n) child more k (λ q. read_any c n more child k q (omega arith) g)) in
-    ap (λ (t : List ℕ). scheme_in (suc n) (t ++ rest)) is.2 ∙ ap (λ (o : Result (Shape × Shape × Shape × List ℕ) ℕ). after o (λ x. Ok (RLE x.0 x.1 x.2, x.3))) back
+    ap (λ (t : List ℕ). scheme_in (suc n) (t ++ rest)) is.2 ∙ (ap (scheme_in (suc n)) (append_assoc (run_word run_values) is.0 rest)
+    ∙ (runs_read run_values n (is.0 ++ rest) ∙ ap (λ (o : Result (Shape × Shape × Shape × List ℕ) ℕ). after o (λ x. Ok (RLE run_values x.0 x.1 x.2, x.3))) back))
 
 -- a text of a scheme is read as it
 pub grammar_is_read : (text : List ℕ) (s : Shape) → IsSchemeText s text → scheme_of_text text ≡ Ok s

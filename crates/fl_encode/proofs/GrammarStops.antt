@@ -14,14 +14,14 @@ use Rattle.fl_encode.specs.declared.text.SchemeError.{SchemeError}
 use Rattle.fl_encode.specs.declared.text.SchemeError.TheVariants as errors
 use Rattle.fl_encode.specs.declared.text.reading.Head.TheVariants as heads
 use Rattle.fl_encode.specs.Grammar.{AreThreeChildren, AreTwoChildren, BeginsScheme, FollowsGrammar, IsFirstWrong, IsOneChild, IsTextOf, IsWidthText, is_digit, number_of}
-use Rattle.fl_encode.specs.Shapes.{BitPacked, Constant, Delta, FoR, FoRChunked, Plain, Primitive, RLE, Shape, is_plain, levels, max_levels, order_text}
+use Rattle.fl_encode.specs.Shapes.{BitPacked, Constant, Delta, Dictionary, FoR, FoRChunked, Plain, Primitive, RLE, RunValues, Runs, Shape, is_plain, levels, max_levels, order_text, run_word}
 use Rattle.fl_encode.specs.SchemeShapes.{shape}
 use Rattle.fl_encode.specs.Texts.{IsParsed, after, child_by, common, digits_behind, expected, frame_in, furthest, head_in, nested_head_in, one_by, packing_behind, positioned, rest_behind, scheme_by, scheme_in, scheme_of_text, three_by, two_by, whole, width_in}
 use Rattle.fl_encode.proofs.GrammarCuts.{begins_before}
 use Rattle.fl_encode.proofs.GrammarLaws.{Reader, read_by_grammar}
 use Rattle.fl_encode.proofs.GrammarReads.{Opens, child_read, from_low, grammar_is_read, grows, no_underscore, one_opens, read_any, to_high, two_opens}
 use Rattle.fl_encode.proofs.TextBounds.{Inside, Within, after_within, child_within, digits_inside, expected_within, frame_inside, nothing, one_within, option_within, order_inside, packing_within, rest_inside, rest_of_head, rest_of_one, rest_of_three, rest_of_two, scheme_by_within, scheme_within, three_within, two_within, whole_within, width_within}
-use Rattle.fl_encode.proofs.TextLaws.{follows, goes}
+use Rattle.fl_encode.proofs.TextLaws.{follows, goes, runs_read}
 
 -- ---- two ways to cut a text
 abbrev Cut : List ℕ → List ℕ → List ℕ → List ℕ → Type 0
@@ -81,6 +81,7 @@ record AreApart (w : List ℕ) : Type 0 where
   blocked : Apart (codes "blocked") w
   frame : Apart (codes "for") w
   delta : Apart (codes "delta") w
+  dict : Apart (codes "dict") w
   rle : Apart (codes "rle") w
 
 word_cut : (w farthest a c d y : List ℕ) → AreApart w → w ≡ a ++ c → farthest ≡ a ++ d → common farthest (a ++ y) ≤ furthest (a ++ y) → Within rest_of_head (length y) (head_in (a ++ y))
@@ -97,7 +98,8 @@ word_cut w farthest a c d y apart e f most =
     option_within rest_of_head n (rest_behind (codes "blocked") text) (λ rest. Ok (heads.BitPacked BestWidths, rest)) (nested_head_in text) (inside (codes "blocked") w a c y apart.blocked e) (λ rest k. k) (
     option_within rest_of_head n (rest_behind (codes "for") text) (λ rest. Ok (frame_in rest)) _ (inside (codes "for") w a c y apart.frame e) (λ rest k. frame_inside n rest k) (
     option_within rest_of_head n (rest_behind (codes "delta") text) (λ rest. Ok (heads.Delta, rest)) _ (inside (codes "delta") w a c y apart.delta e) (λ rest k. k) (
-    option_within rest_of_head n (rest_behind (codes "rle") text) (λ rest. Ok (heads.RLE, rest)) (Err (length text - furthest text)) (inside (codes "rle") w a c y apart.rle e) (λ rest k. k) last))))))
+    option_within rest_of_head n (rest_behind (codes "dict") text) (λ rest. Ok (heads.Dict, rest)) _ (inside (codes "dict") w a c y apart.dict e) (λ rest k. k) (
+    option_within rest_of_head n (rest_behind (codes "rle") text) (λ rest. Ok (heads.RLE, rest)) (Err (length text - furthest text)) (inside (codes "rle") w a c y apart.rle e) (λ rest k. k) last)))))))
 
 left_of : (k m n : ℕ) → k ≤ m → k ≤ max m n
 left_of k m n h = omega arith
@@ -108,37 +110,45 @@ right_of k m n h = omega arith
 itself : (k : ℕ) → k ≤ k
 itself k = omega arith
 
-apart_from : (w : List ℕ) → Apart (codes "primitive") w → Apart (codes "constant") w → Apart (codes "bitpacked") w → Apart (codes "blocked") w → Apart (codes "for") w → Apart (codes "delta") w → Apart (codes "rle") w → AreApart w
-apart_from w p c b l f d r = record { primitive = p; constant = c; bitpacked = b; blocked = l; frame = f; delta = d; rle = r }
+apart_from : (w : List ℕ) → Apart (codes "primitive") w → Apart (codes "constant") w → Apart (codes "bitpacked") w → Apart (codes "blocked") w → Apart (codes "for") w → Apart (codes "delta") w → Apart (codes "dict") w → Apart (codes "rle") w → AreApart w
+apart_from w p c b l f d i r = record { primitive = p; constant = c; bitpacked = b; blocked = l; frame = f; delta = d; dict = i; rle = r }
 
 primitive_cut : (a c y : List ℕ) → codes "primitive" ≡ a ++ c → Within rest_of_head (length y) (head_in (a ++ y))
 primitive_cut a c y e =
-    word_cut (codes "primitive") (codes "primitive") a c c y (apart_from (codes "primitive") (inr refl) (inl refl) (inl refl) (inl refl) (inl refl) (inl refl) (inl refl)) e e (left_of _ _ _ (left_of _ _ _ (left_of _ _ _ (itself _))))
+    word_cut (codes "primitive") (codes "primitive") a c c y (apart_from (codes "primitive") (inr refl) (inl refl) (inl refl) (inl refl) (inl refl) (inl refl) (inl refl) (inl refl)) e e (left_of _ _ _ (left_of _ _ _ (left_of _ _ _ (itself _))))
 
 constant_cut : (a c y : List ℕ) → codes "constant" ≡ a ++ c → Within rest_of_head (length y) (head_in (a ++ y))
 constant_cut a c y e =
-    word_cut (codes "constant") (codes "constant") a c c y (apart_from (codes "constant") (inl refl) (inr refl) (inl refl) (inl refl) (inl refl) (inl refl) (inl refl)) e e (left_of _ _ _ (left_of _ _ _ (right_of _ _ _ (itself _))))
+    word_cut (codes "constant") (codes "constant") a c c y (apart_from (codes "constant") (inl refl) (inr refl) (inl refl) (inl refl) (inl refl) (inl refl) (inl refl) (inl refl)) e e (left_of _ _ _ (left_of _ _ _ (right_of _ _ _ (itself _))))
 
 bitpacked_cut : (a c y : List ℕ) → codes "bitpacked" ≡ a ++ c → Within rest_of_head (length y) (head_in (a ++ y))
 bitpacked_cut a c y e =
-    word_cut (codes "bitpacked") (codes "bitpacked") a c c y (apart_from (codes "bitpacked") (inl refl) (inl refl) (inr refl) (inl refl) (inl refl) (inl refl) (inl refl)) e e (left_of _ _ _ (right_of _ _ _ (left_of _ _ _ (itself _))))
+    word_cut (codes "bitpacked") (codes "bitpacked") a c c y (apart_from (codes "bitpacked") (inl refl) (inl refl) (inr refl) (inl refl) (inl refl) (inl refl) (inl refl) (inl refl)) e e (left_of _ _ _ (right_of _ _ _ (left_of _ _ _ (itself _))))
 
 blocked_cut : (a c y : List ℕ) → codes "blocked" ≡ a ++ c → Within rest_of_head (length y) (head_in (a ++ y))
 blocked_cut a c y e =
-    word_cut (codes "blocked") (codes "blocked") a c c y (apart_from (codes "blocked") (inl refl) (inl refl) (inl refl) (inr refl) (inl refl) (inl refl) (inl refl)) e e (left_of _ _ _ (right_of _ _ _ (right_of _ _ _ (itself _))))
+    word_cut (codes "blocked") (codes "blocked") a c c y (apart_from (codes "blocked") (inl refl) (inl refl) (inl refl) (inr refl) (inl refl) (inl refl) (inl refl) (inl refl)) e e (left_of _ _ _ (right_of _ _ _ (right_of _ _ _ (itself _))))
 
 frame_cut : (a c y : List ℕ) → codes "for" ≡ a ++ c → Within rest_of_head (length y) (head_in (a ++ y))
 frame_cut a c y e =
     let longer : codes "forcw" ≡ a ++ (c ++ codes "cw") = ap (λ (t : List ℕ). t ++ codes "cw") e ∙ append_assoc a c (codes "cw") in
-    word_cut (codes "for") (codes "forcw") a c (c ++ codes "cw") y (apart_from (codes "for") (inl refl) (inl refl) (inl refl) (inl refl) (inr refl) (inl refl) (inl refl)) e longer (right_of _ _ _ (left_of _ _ _ (left_of _ _ _ (itself _))))
+    word_cut (codes "for") (codes "forcw") a c (c ++ codes "cw") y (apart_from (codes "for") (inl refl) (inl refl) (inl refl) (inl refl) (inr refl) (inl refl) (inl refl) (inl refl)) e longer (right_of _ _ _ (left_of _ _ _ (left_of _ _ _ (itself _))))
 
 delta_cut : (a c y : List ℕ) → codes "delta" ≡ a ++ c → Within rest_of_head (length y) (head_in (a ++ y))
 delta_cut a c y e =
-    word_cut (codes "delta") (codes "delta") a c c y (apart_from (codes "delta") (inl refl) (inl refl) (inl refl) (inl refl) (inl refl) (inr refl) (inl refl)) e e (right_of _ _ _ (right_of _ _ _ (left_of _ _ _ (itself _))))
+    word_cut (codes "delta") (codes "delta") a c c y (apart_from (codes "delta") (inl refl) (inl refl) (inl refl) (inl refl) (inl refl) (inr refl) (inl refl) (inl refl)) e e (right_of _ _ _ (right_of _ _ _ (left_of _ _ _ (left_of _ _ _ (itself _)))))
+
+dict_cut : (a c y : List ℕ) → codes "dict" ≡ a ++ c → Within rest_of_head (length y) (head_in (a ++ y))
+dict_cut a c y e =
+    word_cut (codes "dict") (codes "dict") a c c y (apart_from (codes "dict") (inl refl) (inl refl) (inl refl) (inl refl) (inl refl) (inl refl) (inr refl) (inl refl)) e e (right_of _ _ _ (right_of _ _ _ (left_of _ _ _ (right_of _ _ _ (itself _)))))
 
 rle_cut : (a c y : List ℕ) → codes "rle" ≡ a ++ c → Within rest_of_head (length y) (head_in (a ++ y))
 rle_cut a c y e =
-    word_cut (codes "rle") (codes "rle") a c c y (apart_from (codes "rle") (inl refl) (inl refl) (inl refl) (inl refl) (inl refl) (inl refl) (inr refl)) e e (right_of _ _ _ (right_of _ _ _ (right_of _ _ _ (itself _))))
+    word_cut (codes "rle") (codes "rle") a c c y (apart_from (codes "rle") (inl refl) (inl refl) (inl refl) (inl refl) (inl refl) (inl refl) (inl refl) (inr refl)) e e (right_of _ _ _ (right_of _ _ _ (right_of _ _ _ (itself _))))
+
+run_word_cut : (run_values : RunValues) (a c y : List ℕ) → run_word run_values ≡ a ++ c → Within rest_of_head (length y) (head_in (a ++ y))
+run_word_cut Runs a c y e = rle_cut a c y e
+run_word_cut Dictionary a c y e = dict_cut a c y e
 
 -- a width
 digits_cut : (before : ℕ) (b c y : List ℕ) → list_all is_digit (b ++ c) ≡ true → number_of before (b ++ c) ≤ 255 → length (digits_behind before (b ++ y)).1 ≤ length y
@@ -275,7 +285,8 @@ letter (BitPacked BestWidths) own is p = (98, _, is, refl)
 letter (FoR order a) own is p = (102, _, is.2, refl)
 letter (FoRChunked order a b) own is p = (102, _, is.2, refl)
 letter (Delta a b) own is p = (100, _, is.2, refl)
-letter (RLE a b c) own is p = (114, _, is.2, refl)
+letter (RLE Runs a b c) own is p = (114, _, is.2, refl)
+letter (RLE Dictionary a b c) own is p = (100, _, is.2, refl)
 
 plain_cut : (read : Reader) (a c y : List ℕ) → 95 ∷ [] ≡ a ++ c → Within rest_of_one (length y) (child_by read y) → Within rest_of_one (length y) (child_by read (a ++ y))
 plain_cut read [] c y e h = h
@@ -299,7 +310,7 @@ child_cuts (BitPacked packing) n y own a c is e h = scheme_child (BitPacked pack
 child_cuts (FoR order f) n y own a c is e h = scheme_child (FoR order f) n own a c y is refl e (h refl)
 child_cuts (FoRChunked order f g) n y own a c is e h = scheme_child (FoRChunked order f g) n own a c y is refl e (h refl)
 child_cuts (Delta f g) n y own a c is e h = scheme_child (Delta f g) n own a c y is refl e (h refl)
-child_cuts (RLE f g k) n y own a c is e h = scheme_child (RLE f g k) n own a c y is refl e (h refl)
+child_cuts (RLE run_values f g k) n y own a c is e h = scheme_child (RLE run_values f g k) n own a c y is refl e (h refl)
 
 -- ---- schemes
 -- an encoding's word, or what comes after it
@@ -320,6 +331,9 @@ two_scheme n y t make h = after_within rest_of_two rest_of_one (length y) (two_b
 
 three_scheme : (n : ℕ) (y t : List ℕ) (make : Shape → Shape → Shape → Shape) → Within rest_of_three (length y) (three_by (scheme_in n) t) → Within rest_of_one (length y) (after (three_by (scheme_in n) t) (λ a. Ok (make a.0 a.1 a.2, a.3)))
 three_scheme n y t make h = after_within rest_of_three rest_of_one (length y) (three_by (scheme_in n) t) (λ a. Ok (make a.0 a.1 a.2, a.3)) h (λ a k. k)
+
+runs_scheme : (run_values : RunValues) (n : ℕ) (y t : List ℕ) → Within rest_of_three (length y) (three_by (scheme_in n) t) → Within rest_of_one (length y) (scheme_in (suc n) (run_word run_values ++ t))
+runs_scheme run_values n y t h = subst (Within rest_of_one (length y)) (sym (runs_read run_values n t)) (three_scheme n y t (RLE run_values) h)
 
 -- the first byte of children is a parenthesis
 parenthesis : (x : ℕ) (b c own : List ℕ) → Opens own → own ≡ x ∷ (b ++ c) → x ≡ 40
@@ -372,7 +386,7 @@ some_levels (BitPacked packing) p = omega arith
 some_levels (FoR order f) p = omega arith
 some_levels (FoRChunked order f g) p = omega arith
 some_levels (Delta f g) p = omega arith
-some_levels (RLE f g k) p = omega arith
+some_levels (RLE run_values f g k) p = omega arith
 
 -- a text that begins as a scheme's does is read at least as far
 cut_any : (s : Shape) (n : ℕ) (y text a c : List ℕ) → IsTextOf s text → is_plain s ≡ false → text ≡ a ++ c → levels s ≤ n → Within rest_of_one (length y) (scheme_in n (a ++ y))
@@ -395,10 +409,10 @@ cut_any (Delta f g) (suc n) y text a c is p e low =
     (λ b h m.
     two_scheme n y (b ++ y) Delta
     (two_within_cut f g n is.0 b c y is.1 h (omega arith) (λ own i j iso q k. child_cuts f n y own i j iso q (λ r. cut_any f n y own i j iso r q k)) (λ own i j iso q k. child_cuts g n y own i j iso q (λ r. cut_any g n y own i j iso r q k))))
-cut_any (RLE f g u) (suc n) y text a c is p e low =
-    after_word n (codes "rle") is.0 a c y (sym is.2 ∙ e) (λ d h. rle_cut a d y h)
+cut_any (RLE run_values f g u) (suc n) y text a c is p e low =
+    after_word n (run_word run_values) is.0 a c y (sym is.2 ∙ e) (λ d h. run_word_cut run_values a d y h)
     (λ b h m.
-    three_scheme n y (b ++ y) RLE
+    runs_scheme run_values n y (b ++ y)
     (three_within_cut f g u n is.0 b c y is.1 h (omega arith) (λ own i j iso q k. child_cuts f n y own i j iso q (λ r. cut_any f n y own i j iso r q k)) (λ own i j iso q k. child_cuts g n y own i j iso q (λ r. cut_any g n y own i j iso r q k))
     (λ own i j iso q k. child_cuts u n y own i j iso q (λ r. cut_any u n y own i j iso r q k))))
 

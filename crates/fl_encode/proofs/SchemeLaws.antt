@@ -11,4 +11,4 @@ size (BitPacked packing) = 1
 size (FoR order encoded) = size encoded + 4
 size (FoRChunked order encoded references) = size encoded + size references + 4
 size (Delta bases deltas) = size bases + size deltas + 4
-size (RLE values indices offsets) = size values + (size indices + size offsets) + 4
+size (RLE run_values values indices offsets) = size values + (size indices + size offsets) + 4

@@ -2,11 +2,11 @@
 use Rattle.std.proofs.Common.{Result, Ok, Err, ap}
 use Rattle.fl_types.specs.declared.error.FastLanesError.{FastLanesError}
 use Rattle.fl_column.specs.Columns.{PrimitiveParts}
-use Rattle.fl_codec.specs.Parts.{ByChunk, FoRParts, Nulls, OneReference, Whole, compress_deltas, encode_chunked_by, encode_global_by, encode_runs}
+use Rattle.fl_codec.specs.Parts.{ByChunk, FoRParts, Nulls, OneReference, Whole, compress_deltas, encode_chunked_by, encode_global_by}
 use Rattle.fl_array.specs.Trees.{Tree}
 use Rattle.fl_encode.specs.declared.scheme.Packing.{Packing}
 use Rattle.fl_encode.specs.declared.scheme.Packing.TheVariants.{BestWidth, BestWidths, Width}
-use Rattle.fl_encode.specs.Encodings.{HasReference, HasReferences, IsEncodedAs}
+use Rattle.fl_encode.specs.Encodings.{HasReference, HasReferences, IsEncodedAs, runs_by}
 use Rattle.fl_encode.specs.Packings.{IsPackedAs}
 use Rattle.fl_encode.specs.Shapes.{BitPacked, Constant, Delta, FoR, FoRChunked, Plain, Primitive, RLE, Shape}
 use Rattle.fl_encode.specs.TreeShapes.{Shows, ShowsReference, ShowsReferences, part_shape}
@@ -40,5 +40,5 @@ encoded_shows (FoR order encoded) p t is = one_shows (IsEncodedAs encoded) encod
 encoded_shows (FoRChunked order encoded references) p t is = chunks_show (IsEncodedAs encoded) (IsEncodedAs references) encoded references (encoded_shows encoded) (encoded_shows references) (encode_chunked_by order p) t is
 encoded_shows (Delta bases deltas) p t (b, d, are, them, made) =
     (part_shape b, part_shape d, encoded_shows bases (compress_deltas p).0 b are, encoded_shows deltas (compress_deltas p).1 d them, ap part_shape made)
-encoded_shows (RLE values indices offsets) p t (v, i, o, are, them, those, made) =
-    (part_shape v, part_shape i, part_shape o, encoded_shows values (encode_runs p).values v are, encoded_shows indices (encode_runs p).indices i them, encoded_shows offsets (encode_runs p).offsets o those, ap part_shape made)
+encoded_shows (RLE run_values values indices offsets) p t (v, i, o, are, them, those, made) =
+    (part_shape v, part_shape i, part_shape o, encoded_shows values (runs_by run_values p).values v are, encoded_shows indices (runs_by run_values p).indices i them, encoded_shows offsets (runs_by run_values p).offsets o those, ap part_shape made)

@@ -7,7 +7,7 @@ use Rattle.fl_encode.specs.declared.scheme.Packing.{Packing}
 use Rattle.fl_encode.specs.declared.scheme.Packing.TheVariants.{BestWidth, BestWidths, Width}
 use Rattle.fl_encode.specs.declared.text.reading.Head.{Head}
 use Rattle.fl_encode.specs.declared.text.reading.Head.TheVariants as heads
-use Rattle.fl_encode.specs.Shapes.{Delta, FoR, FoRChunked, Plain, RLE, Shape, max_levels}
+use Rattle.fl_encode.specs.Shapes.{Delta, Dictionary, FoR, FoRChunked, Plain, RLE, Runs, Shape, max_levels}
 use Rattle.fl_encode.specs.Texts.{after, child_by, digits_behind, expected, frame_in, furthest, goes_on, head_in, nested_head_in, one_by, order_in, packing_behind, rest_behind, scheme_by, scheme_in, tail_behind, three_by, two_by, whole, width_in}
 
 -- what a reader leaves of a text is no longer than this
@@ -91,7 +91,8 @@ nested_within : (n : ℕ) (text : List ℕ) → length text ≤ n → Within res
 nested_within n text h =
     option_within rest_of_head n (rest_behind (codes "for") text) (λ rest. Ok (frame_in rest)) _ (rest_inside n (codes "for") text h) (λ rest k. frame_inside n rest k) (
     word_within n (codes "delta") text heads.Delta _ h (
-    word_within n (codes "rle") text heads.RLE (Err (length text - furthest text)) h (omega arith)))
+    word_within n (codes "dict") text heads.Dict _ h (
+    word_within n (codes "rle") text heads.RLE (Err (length text - furthest text)) h (omega arith))))
 
 head_within : (n : ℕ) (text : List ℕ) → length text ≤ n → Within rest_of_head n (head_in text)
 head_within n text h =
@@ -148,7 +149,8 @@ scheme_by_within n read (heads.BitPacked packing) text stops h = h
 scheme_by_within n read (heads.FoR order) text stops h = after_within rest_of_one rest_of_one n (one_by read text) (λ a. Ok (FoR order a.0, a.1)) (one_within n read stops text h) (λ a k. k)
 scheme_by_within n read (heads.FoRChunked order) text stops h = after_within rest_of_two rest_of_one n (two_by read text) (λ a. Ok (FoRChunked order a.0 a.1, a.2)) (two_within n read stops text h) (λ a k. k)
 scheme_by_within n read heads.Delta text stops h = after_within rest_of_two rest_of_one n (two_by read text) (λ a. Ok (Delta a.0 a.1, a.2)) (two_within n read stops text h) (λ a k. k)
-scheme_by_within n read heads.RLE text stops h = after_within rest_of_three rest_of_one n (three_by read text) (λ a. Ok (RLE a.0 a.1 a.2, a.3)) (three_within n read stops text h) (λ a k. k)
+scheme_by_within n read heads.RLE text stops h = after_within rest_of_three rest_of_one n (three_by read text) (λ a. Ok (RLE Runs a.0 a.1 a.2, a.3)) (three_within n read stops text h) (λ a k. k)
+scheme_by_within n read heads.Dict text stops h = after_within rest_of_three rest_of_one n (three_by read text) (λ a. Ok (RLE Dictionary a.0 a.1 a.2, a.3)) (three_within n read stops text h) (λ a k. k)
 
 pub scheme_within : (depth n : ℕ) → Stops n (scheme_in depth)
 scheme_within zero n text h = h

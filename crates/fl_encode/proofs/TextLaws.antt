@@ -16,7 +16,7 @@ use Rattle.fl_codec.specs.declared.for_.ItemOrder.TheVariants.{Natural, Signed}
 use Rattle.fl_encode.specs.declared.scheme.Scheme.{Scheme}
 use Rattle.fl_encode.specs.declared.scheme.Scheme.TheVariants as schemes
 use Rattle.fl_encode.specs.SchemeShapes.{shape}
-use Rattle.fl_encode.specs.Shapes.{BitPacked, Constant, Delta, FoR, FoRChunked, Plain, Primitive, RLE, Shape, in_parentheses, is_plain, levels, max_levels, order_text, scheme_text, width_text}
+use Rattle.fl_encode.specs.Shapes.{BitPacked, Constant, Delta, Dictionary, FoR, FoRChunked, Plain, Primitive, RLE, RunValues, Runs, Shape, in_parentheses, is_plain, levels, max_levels, order_text, run_word, scheme_text, width_text}
 use Rattle.fl_encode.specs.Texts.{Finds, RunsOutIf, after, child_by, digits_behind, expected, goes_on, has_widths, head_in, one_by, order_in, packing_behind, positioned, scheme_by, scheme_in, scheme_of_text, tail_behind, three_by, two_by, whole, width_in}
 
 -- ---- what stands behind a scheme: nothing, a comma or a closing parenthesis
@@ -114,7 +114,7 @@ plain_is (BitPacked packing) h = cc
 plain_is (FoR order a) h = cc
 plain_is (FoRChunked order a b) h = cc
 plain_is (Delta a b) h = cc
-plain_is (RLE a b c) h = cc
+plain_is (RLE run_values a b c) h = cc
 
 -- a reader of schemes, and what it says of a text that begins with a shape's
 abbrev pub Reader : Type 0
@@ -130,7 +130,8 @@ child_from (BitPacked BestWidths) read rest h = h refl
 child_from (FoR order a) read rest h = h refl
 child_from (FoRChunked order a b) read rest h = h refl
 child_from (Delta a b) read rest h = h refl
-child_from (RLE a b c) read rest h = h refl
+child_from (RLE Runs a b c) read rest h = h refl
+child_from (RLE Dictionary a b c) read rest h = h refl
 
 -- a child is read wherever it stands
 abbrev Back : Reader → Shape → Type 0
@@ -189,6 +190,11 @@ headed n o = after o (λ x. scheme_by (scheme_in n) x.0 x.1)
 abbrev pub widened : Result (ℕ × List ℕ) ℕ → Result (Packing × List ℕ) ℕ
 widened o = after o (λ x. Ok (Width x.0, x.1))
 
+-- the word for run-length encoding is read, and then its children
+pub runs_read : (run_values : RunValues) (n : ℕ) (text : List ℕ) → scheme_in (suc n) (run_word run_values ++ text) ≡ after (three_by (scheme_in n) text) (λ x. Ok (RLE run_values x.0 x.1 x.2, x.3))
+runs_read Runs n text = refl
+runs_read Dictionary n text = refl
+
 pub reads : (s : Shape) (n : ℕ) (rest : List ℕ) → is_plain s ≡ false → has_widths s ≡ true → levels s ≤ n → follows rest ≡ true → scheme_in n (scheme_text s ++ rest) ≡ Ok (s, rest)
 reads Plain n rest p w h f = cc
 reads Primitive zero rest p w h f = absurd (omega arith)
@@ -224,14 +230,16 @@ reads (Delta a b) (suc n) rest p w h f =
     let wb = and_second (has_widths a) (has_widths b) w in
     let back = two_back a b (scheme_in n) rest f (λ more g. child_from a (scheme_in n) more (λ q. reads a n more q wa (omega arith) g)) (λ more g. child_from b (scheme_in n) more (λ q. reads b n more q wb (omega arith) g)) in
     ap (λ (o : Result (Shape × Shape × List ℕ) ℕ). after o (λ x. Ok (Delta x.0 x.1, x.2))) back
-reads (RLE a b c) zero rest p w h f = absurd (omega arith)
-reads (RLE a b c) (suc n) rest p w h f =
+reads (RLE run_values a b c) zero rest p w h f = absurd (omega arith)
+reads (RLE run_values a b c) (suc n) rest p w h f =
     let wa = and_first (has_widths a) (has_widths b && has_widths c) w in
     let others = and_second (has_widths a) (has_widths b && has_widths c) w in
     let wb = and_first (has_widths b) (has_widths c) others in
     let wc = and_second (has_widths b) (has_widths c) others in
     let back = three_back a b c (scheme_in n) rest f (λ more g. child_from a (scheme_in n) more (λ q. reads a n more q wa (omega arith) g)) (λ more g. child_from b (scheme_in n) more (λ q. reads b n more q wb (omega arith) g)) (λ more g. child_from c (scheme_in n) more (λ q. reads c n more q wc (omega arith) g)) in
-    ap (λ (o : Result (Shape × Shape × Shape × List ℕ) ℕ). after o (λ x. Ok (RLE x.0 x.1 x.2, x.3))) back
+    let own = in_parentheses (is_plain a && (is_plain b && is_plain c)) (scheme_text a ++ (codes "," ++ (scheme_text b ++ (codes "," ++ scheme_text c)))) in
+    ap (scheme_in (suc n)) (append_assoc (run_word run_values) own rest)
+    ∙ (runs_read run_values n (own ++ rest) ∙ ap (λ (o : Result (Shape × Shape × Shape × List ℕ) ℕ). after o (λ x. Ok (RLE run_values x.0 x.1 x.2, x.3))) back)
 
 pub printed_is_read : (s : Shape) → is_plain s ≡ false → has_widths s ≡ true → levels s ≤ max_levels → scheme_of_text (scheme_text s) ≡ Ok s
 printed_is_read s p w h =
@@ -265,6 +273,7 @@ shape_some (schemes.FoR order a) = refl
 shape_some (schemes.FoRChunked order a b) = refl
 shape_some (schemes.Delta a b) = refl
 shape_some (schemes.RLE a b c) = refl
+shape_some (schemes.Dict a b c) = refl
 
 -- the same of a scheme
 pub scheme_is_read : (s : Scheme) → has_widths (shape s) ≡ true → levels (shape s) ≤ max_levels → scheme_of_text (scheme_text (shape s)) ≡ Ok (shape s)

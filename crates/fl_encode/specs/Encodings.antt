@@ -2,13 +2,14 @@
 use Rattle.std.specs.Prelude.{◌≡◌, length, Option, Some, None, Result, Ok, Err, IfOk}
 use Rattle.fl_types.specs.declared.error.FastLanesError.{FastLanesError}
 use Rattle.fl_column.specs.Columns.{Column, PrimitiveParts, column_of_primitive}
+use Rattle.fl_codec.specs.Dictionaries.{encode_dictionaries}
 use Rattle.fl_codec.specs.Parts.{ByChunk, FoRParts, Nulls, OneReference, RunParts, Whole, compress_deltas, encode_chunked_by, encode_global_by, encode_runs}
 use Rattle.fl_bitpacking.specs.Encoders.{AnswersUnless}
 use Rattle.fl_bitpacking.specs.Refusals.{otherwise}
 use Rattle.fl_array.specs.Trees.{DeltaParts, OffsetLen, Tree, column}
 use Rattle.fl_array.specs.Trees as tree
 use Rattle.fl_encode.specs.Packings.{IsPackedAs, constant_of, constant_refusal, packing_refusal}
-use Rattle.fl_encode.specs.Shapes.{BitPacked, Constant, Delta, FoR, FoRChunked, Plain, Primitive, RLE, Shape}
+use Rattle.fl_encode.specs.Shapes.{BitPacked, Constant, Delta, FoR, FoRChunked, Dictionary, Plain, Primitive, RLE, RunValues, Runs, Shape}
 
 -- ---- frames of reference
 -- why there is no array of one reference, if there is none: the first reason is that there is no reference
@@ -46,6 +47,15 @@ HasReferences IsEncoded AreReferences (Nulls child reference) t = t ≡ tree.FoR
 abbrev pub HasDeltas : (PrimitiveParts → Tree → Type 0) → (PrimitiveParts → Tree → Type 0) → PrimitiveParts × PrimitiveParts → DeltaParts → Tree → Type 0
 HasDeltas AreBases AreDeltas plain parts t = (bases : Tree) × (deltas : Tree) × AreBases plain.0 bases × AreDeltas plain.1 deltas × (t ≡ tree.Delta bases deltas parts)
 
+-- a primitive array with these run values in its chunks
+abbrev pub runs_by : RunValues → PrimitiveParts → RunParts
+runs_by Runs p = encode_runs p
+runs_by Dictionary p = encode_dictionaries p
+
+-- why there is no array of these run values, run indices and run offsets, if there is none: the first reason
+abbrev pub run_children_refusal : (PrimitiveParts → Option FastLanesError) → (PrimitiveParts → Option FastLanesError) → (PrimitiveParts → Option FastLanesError) → RunParts → Option FastLanesError
+run_children_refusal values indices offsets runs = otherwise (values runs.values) (otherwise (indices runs.indices) (offsets runs.offsets))
+
 -- the array has these run values, run indices and run offsets, each encoded in its way
 abbrev pub HasRuns : (PrimitiveParts → Tree → Type 0) → (PrimitiveParts → Tree → Type 0) → (PrimitiveParts → Tree → Type 0) → RunParts → OffsetLen → Tree → Type 0
 HasRuns AreValues AreIndices AreOffsets runs window t =
@@ -69,7 +79,7 @@ encode_refusal (BitPacked packing) p = packing_refusal packing p
 encode_refusal (FoR order encoded) p = one_reference_refusal (encode_refusal encoded) (encode_global_by order p)
 encode_refusal (FoRChunked order encoded references) p = references_refusal (encode_refusal encoded) (encode_refusal references) (encode_chunked_by order p)
 encode_refusal (Delta bases deltas) p = otherwise (encode_refusal bases (compress_deltas p).0) (encode_refusal deltas (compress_deltas p).1)
-encode_refusal (RLE values indices offsets) p = otherwise (encode_refusal values (encode_runs p).values) (otherwise (encode_refusal indices (encode_runs p).indices) (encode_refusal offsets (encode_runs p).offsets))
+encode_refusal (RLE run_values values indices offsets) p = run_children_refusal (encode_refusal values) (encode_refusal indices) (encode_refusal offsets) (runs_by run_values p)
 
 -- the array is a primitive one that is encoded by a scheme
 abbrev pub IsEncodedAs : Shape → PrimitiveParts → Tree → Type 0
@@ -80,7 +90,7 @@ IsEncodedAs (BitPacked packing) p t = IsPackedAs packing p t
 IsEncodedAs (FoR order encoded) p t = HasReference (IsEncodedAs encoded) (encode_global_by order p) t
 IsEncodedAs (FoRChunked order encoded references) p t = HasReferences (IsEncodedAs encoded) (IsEncodedAs references) (encode_chunked_by order p) t
 IsEncodedAs (Delta bases deltas) p t = HasDeltas (IsEncodedAs bases) (IsEncodedAs deltas) (compress_deltas p) (whole_delta p) t
-IsEncodedAs (RLE values indices offsets) p t = HasRuns (IsEncodedAs values) (IsEncodedAs indices) (IsEncodedAs offsets) (encode_runs p) (whole_window p) t
+IsEncodedAs (RLE run_values values indices offsets) p t = HasRuns (IsEncodedAs values) (IsEncodedAs indices) (IsEncodedAs offsets) (runs_by run_values p) (whole_window p) t
 
 -- ---- answers
 -- a call returns an array of this form with this column or, if there is an error, that error, or memory ran out

@@ -6,7 +6,7 @@ use Rattle.fl_encode.specs.declared.scheme.Packing.TheVariants.{BestWidth, BestW
 use Rattle.fl_encode.specs.declared.scheme.Scheme.{Scheme}
 use Rattle.fl_encode.specs.declared.text.SchemeError.{SchemeError}
 use Rattle.fl_encode.specs.declared.text.SchemeError.TheVariants as errors
-use Rattle.fl_encode.specs.Shapes.{BitPacked, Constant, Delta, FoR, FoRChunked, Plain, Primitive, RLE, Shape, is_plain, levels, max_levels, order_text}
+use Rattle.fl_encode.specs.Shapes.{BitPacked, Constant, Delta, FoR, FoRChunked, Plain, Primitive, RLE, Shape, is_plain, levels, max_levels, order_text, run_word}
 use Rattle.fl_encode.specs.SchemeShapes.{shape}
 
 -- a decimal digit
@@ -54,7 +54,7 @@ IsTextOf (BitPacked packing) text = IsPackingText packing text
 IsTextOf (FoR order encoded) text = (children : List ℕ) × IsOneChild (is_plain encoded) (IsTextOf encoded) children × (text ≡ codes "for" ++ (order_text order ++ children))
 IsTextOf (FoRChunked order encoded references) text = (children : List ℕ) × AreTwoChildren (is_plain encoded && is_plain references) (IsTextOf encoded) (IsTextOf references) children × (text ≡ codes "forc" ++ (order_text order ++ children))
 IsTextOf (Delta bases deltas) text = (children : List ℕ) × AreTwoChildren (is_plain bases && is_plain deltas) (IsTextOf bases) (IsTextOf deltas) children × (text ≡ codes "delta" ++ children)
-IsTextOf (RLE values indices offsets) text = (children : List ℕ) × AreThreeChildren (is_plain values && (is_plain indices && is_plain offsets)) (IsTextOf values) (IsTextOf indices) (IsTextOf offsets) children × (text ≡ codes "rle" ++ children)
+IsTextOf (RLE run_values values indices offsets) text = (children : List ℕ) × AreThreeChildren (is_plain values && (is_plain indices && is_plain offsets)) (IsTextOf values) (IsTextOf indices) (IsTextOf offsets) children × (text ≡ run_word run_values ++ children)
 
 -- the text of a scheme, which is no plain child and has not too many levels
 abbrev pub IsSchemeText : Shape → List ℕ → Type 0

@@ -5,6 +5,11 @@ use Rattle.fl_codec.specs.declared.for_.ItemOrder.TheVariants.{Natural, Signed}
 use Rattle.fl_encode.specs.declared.scheme.Packing.{Packing}
 use Rattle.fl_encode.specs.declared.scheme.Packing.TheVariants.{BestWidth, BestWidths, Width}
 
+-- which run values a chunk has: each item that differs from the one before it, or the distinct items in rising order
+pub data RunValues : Type 0 where
+  Runs : RunValues
+  Dictionary : RunValues
+
 -- a scheme by its encoding and its children, in the order of their slots; a child is plain, or has a scheme
 pub data Shape : Type 0 where
   Plain : Shape
@@ -14,7 +19,7 @@ pub data Shape : Type 0 where
   FoR : ItemOrder → Shape → Shape
   FoRChunked : ItemOrder → Shape → Shape → Shape
   Delta : Shape → Shape → Shape
-  RLE : Shape → Shape → Shape → Shape
+  RLE : RunValues → Shape → Shape → Shape → Shape
 
 -- ---- levels
 -- how many encodings stand in one another; a plain child is none
@@ -26,7 +31,7 @@ levels (BitPacked packing) = 1
 levels (FoR order encoded) = levels encoded + 1
 levels (FoRChunked order encoded references) = max (levels encoded) (levels references) + 1
 levels (Delta bases deltas) = max (levels bases) (levels deltas) + 1
-levels (RLE values indices offsets) = max (levels values) (max (levels indices) (levels offsets)) + 1
+levels (RLE run_values values indices offsets) = max (levels values) (max (levels indices) (levels offsets)) + 1
 
 -- how many at most where a text says them: a container holds 16 arrays in one another, and plain integers with their nulls may stand in the last encoding
 abbrev pub max_levels : ℕ
@@ -51,6 +56,11 @@ abbrev pub order_text : ItemOrder → List ℕ
 order_text Natural = []
 order_text Signed = codes "w"
 
+-- the word for run-length encoding, by the run values
+abbrev pub run_word : RunValues → List ℕ
+run_word Runs = codes "rle"
+run_word Dictionary = codes "dict"
+
 -- the child is plain
 abbrev pub is_plain : Shape → Bool
 is_plain Plain = true
@@ -70,4 +80,4 @@ scheme_text (BitPacked packing) = packing_text packing
 scheme_text (FoR order encoded) = codes "for" ++ (order_text order ++ in_parentheses (is_plain encoded) (scheme_text encoded))
 scheme_text (FoRChunked order encoded references) = codes "forc" ++ (order_text order ++ in_parentheses (is_plain encoded && is_plain references) (scheme_text encoded ++ (codes "," ++ scheme_text references)))
 scheme_text (Delta bases deltas) = codes "delta" ++ in_parentheses (is_plain bases && is_plain deltas) (scheme_text bases ++ (codes "," ++ scheme_text deltas))
-scheme_text (RLE values indices offsets) = codes "rle" ++ in_parentheses (is_plain values && (is_plain indices && is_plain offsets)) (scheme_text values ++ (codes "," ++ (scheme_text indices ++ (codes "," ++ scheme_text offsets))))
+scheme_text (RLE run_values values indices offsets) = run_word run_values ++ in_parentheses (is_plain values && (is_plain indices && is_plain offsets)) (scheme_text values ++ (codes "," ++ (scheme_text indices ++ (codes "," ++ scheme_text offsets))))

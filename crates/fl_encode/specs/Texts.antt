@@ -12,7 +12,7 @@ use Rattle.fl_encode.specs.declared.text.reading.Head.{Head}
 use Rattle.fl_encode.specs.declared.text.reading.Head.TheVariants as heads
 use Rattle.fl_encode.specs.declared.text.reading.Stop.{Stop}
 use Rattle.fl_encode.specs.declared.text.reading.Stop.TheVariants as stops
-use Rattle.fl_encode.specs.Shapes.{BitPacked, Constant, Delta, FoR, FoRChunked, Plain, Primitive, RLE, Shape, max_levels}
+use Rattle.fl_encode.specs.Shapes.{BitPacked, Constant, Delta, FoR, FoRChunked, Dictionary, Plain, Primitive, RLE, Runs, Shape, max_levels}
 use Rattle.fl_encode.specs.SchemeShapes.{shape}
 
 -- ---- readers: each returns what it read and the bytes after it, or the number of bytes from the first wrong one on
@@ -65,7 +65,7 @@ packing_behind text = option_map_or (λ digits. after (width_in digits) (λ w. O
 abbrev pub furthest : List ℕ → ℕ
 furthest text =
     max (max (max (common (codes "primitive") text) (common (codes "constant") text)) (max (common (codes "bitpacked") text) (common (codes "blocked") text)))
-    (max (max (common (codes "forcw") text) (common (codes "forw") text)) (max (common (codes "delta") text) (common (codes "rle") text)))
+    (max (max (common (codes "forcw") text) (common (codes "forw") text)) (max (max (common (codes "delta") text) (common (codes "dict") text)) (common (codes "rle") text)))
 
 -- the order of references, from where the word for a frame of reference may end in "w"
 abbrev pub order_in : List ℕ → ItemOrder × List ℕ
@@ -80,7 +80,8 @@ abbrev pub nested_head_in : List ℕ → Result (Head × List ℕ) ℕ
 nested_head_in text =
     option_map_or (λ rest. Ok (frame_in rest)) (rest_behind (codes "for") text) (
     option_map_or (λ rest. Ok (heads.Delta, rest)) (rest_behind (codes "delta") text) (
-    option_map_or (λ rest. Ok (heads.RLE, rest)) (rest_behind (codes "rle") text) (Err (length text - furthest text))))
+    option_map_or (λ rest. Ok (heads.Dict, rest)) (rest_behind (codes "dict") text) (
+    option_map_or (λ rest. Ok (heads.RLE, rest)) (rest_behind (codes "rle") text) (Err (length text - furthest text)))))
 
 -- the word for an encoding
 abbrev pub head_in : List ℕ → Result (Head × List ℕ) ℕ
@@ -119,7 +120,8 @@ scheme_by read (heads.BitPacked packing) text = Ok (BitPacked packing, text)
 scheme_by read (heads.FoR order) text = after (one_by read text) (λ a. Ok (FoR order a.0, a.1))
 scheme_by read (heads.FoRChunked order) text = after (two_by read text) (λ a. Ok (FoRChunked order a.0 a.1, a.2))
 scheme_by read heads.Delta text = after (two_by read text) (λ a. Ok (Delta a.0 a.1, a.2))
-scheme_by read heads.RLE text = after (three_by read text) (λ a. Ok (RLE a.0 a.1 a.2, a.3))
+scheme_by read heads.RLE text = after (three_by read text) (λ a. Ok (RLE Runs a.0 a.1 a.2, a.3))
+scheme_by read heads.Dict text = after (three_by read text) (λ a. Ok (RLE Dictionary a.0 a.1 a.2, a.3))
 
 -- a scheme of at most so many levels
 abbrev pub scheme_in : ℕ → List ℕ → Result (Shape × List ℕ) ℕ
@@ -180,4 +182,4 @@ has_widths (BitPacked BestWidths) = true
 has_widths (FoR order encoded) = has_widths encoded
 has_widths (FoRChunked order encoded references) = has_widths encoded && has_widths references
 has_widths (Delta bases deltas) = has_widths bases && has_widths deltas
-has_widths (RLE values indices offsets) = has_widths values && (has_widths indices && has_widths offsets)
+has_widths (RLE run_values values indices offsets) = has_widths values && (has_widths indices && has_widths offsets)

@@ -4,13 +4,14 @@ use Rattle.fl_types.specs.declared.error.FastLanesError.{FastLanesError}
 use Rattle.fl_types.specs.declared.error.FastLanesError.TheVariants.{NotInteger}
 use Rattle.fl_types.specs.Types.{is_integer}
 use Rattle.fl_column.specs.Columns.{PrimitiveParts}
-use Rattle.fl_codec.specs.Parts.{ByChunk, FoRParts, Nulls, OneReference, Whole, compress_deltas, encode_chunked_by, encode_global_by, encode_runs}
+use Rattle.fl_codec.specs.Parts.{ByChunk, FoRParts, Nulls, OneReference, Whole, compress_deltas, encode_chunked_by, encode_global_by}
 use Rattle.fl_codec.specs.declared.for_.ItemOrder.TheVariants.{Natural}
 use Rattle.fl_bitpacking.specs.Encoders.{best_width_of}
 use Rattle.fl_array.specs.Trees.{Tree, column}
 use Rattle.fl_array.specs.Trees as tree
 use Rattle.fl_encode.specs.declared.scheme.Packing.TheVariants.{BestWidth, BestWidths, Width}
-use Rattle.fl_encode.specs.Shapes.{BitPacked, Constant, Delta, FoR, FoRChunked, Plain, Primitive, RLE, Shape}
+use Rattle.fl_encode.specs.Encodings.{runs_by}
+use Rattle.fl_encode.specs.Shapes.{BitPacked, Constant, Delta, FoR, FoRChunked, Plain, Primitive, RLE, Runs, Shape}
 
 -- the scheme of an array in another one: its encoding and those of the arrays in it, nothing of a plain one
 abbrev pub part_shape : Tree → Shape
@@ -22,7 +23,7 @@ part_shape (tree.BitPackedBlocked parts boundaries) = BitPacked BestWidths
 part_shape (tree.FoRGlobal encoded reference) = FoR Natural (part_shape encoded)
 part_shape (tree.FoRChunked encoded references offset) = FoRChunked Natural (part_shape encoded) (part_shape references)
 part_shape (tree.Delta bases deltas parts) = Delta (part_shape bases) (part_shape deltas)
-part_shape (tree.RLE values indices offsets window) = RLE (part_shape values) (part_shape indices) (part_shape offsets)
+part_shape (tree.RLE values indices offsets window) = RLE Runs (part_shape values) (part_shape indices) (part_shape offsets)
 
 -- a plain array that stands by itself has the scheme of plain ones
 abbrev pub by_itself : Shape → Shape
@@ -48,7 +49,7 @@ ShowsReferences ShowsChild ShowOthers (Whole parts) shown = (e : Shape) × Shows
 ShowsReferences ShowsChild ShowOthers (ByChunk child others) shown = (e : Shape) × (r : Shape) × ShowsChild child e × ShowOthers others r × (shown ≡ FoRChunked Natural e r)
 ShowsReferences ShowsChild ShowOthers (Nulls child reference) shown = shown ≡ FoR Natural Constant
 
--- a primitive array that is encoded by the first scheme shows the second one: the width that was chosen and not that it was, no order of the references, one reference where those of all chunks are equal, and a constant for the differences of nothing but nulls
+-- a primitive array that is encoded by the first scheme shows the second one: the width that was chosen and not that it was, no order of the references, one reference where those of all chunks are equal, a constant for the differences of nothing but nulls, and runs for dictionaries
 abbrev pub Shows : Shape → PrimitiveParts → Shape → Type 0
 Shows Plain p shown = shown ≡ Plain
 Shows Primitive p shown = shown ≡ Plain
@@ -59,5 +60,5 @@ Shows (BitPacked BestWidths) p shown = shown ≡ BitPacked BestWidths
 Shows (FoR order encoded) p shown = ShowsReference (Shows encoded) (encode_global_by order p) shown
 Shows (FoRChunked order encoded references) p shown = ShowsReferences (Shows encoded) (Shows references) (encode_chunked_by order p) shown
 Shows (Delta bases deltas) p shown = (b : Shape) × (d : Shape) × Shows bases (compress_deltas p).0 b × Shows deltas (compress_deltas p).1 d × (shown ≡ Delta b d)
-Shows (RLE values indices offsets) p shown =
-    (v : Shape) × (i : Shape) × (o : Shape) × Shows values (encode_runs p).values v × Shows indices (encode_runs p).indices i × Shows offsets (encode_runs p).offsets o × (shown ≡ RLE v i o)
+Shows (RLE run_values values indices offsets) p shown =
+    (v : Shape) × (i : Shape) × (o : Shape) × Shows values (runs_by run_values p).values v × Shows indices (runs_by run_values p).indices i × Shows offsets (runs_by run_values p).offsets o × (shown ≡ RLE Runs v i o)

@@ -4,9 +4,12 @@ ghost use Rattle.std.specs.Prelude.{◌≡◌, None, false};
 ghost use Rattle.fl_types.specs.Values.{scalar_parts};
 ghost use Rattle.fl_column.specs.Columns.{column_of_primitive};
 ghost use Rattle.fl_column.specs.Queries.{are_constant};
+ghost use Rattle.fl_codec.specs.Parts.{run_parts};
+ghost use Rattle.fl_codec.specs.RunRefusals.{rle_refusal};
 ghost use Rattle.fl_array.specs.FoRArrays.{ChunkReferences, for_refusal, reference_refusal};
 ghost use Rattle.fl_array.specs.Trees.{FoRChunked, FoRGlobal, Primitive, column};
-ghost use Rattle.fl_encode.specs.Encodings.{EncodesAs, HasChunkReferences, HasOneReference, IsEncodedAs, Makes, encode_refusal};
+ghost use Rattle.fl_array.specs.Trees as tree;
+ghost use Rattle.fl_encode.specs.Encodings.{EncodesAs, HasChunkReferences, HasOneReference, HasRuns, IsEncodedAs, Makes, encode_refusal, run_children_refusal};
 ghost use Rattle.fl_bitpacking.specs.Refusals.{otherwise};
 ghost use Rattle.fl_encode.specs.SchemeShapes.{shape};
 ghost use Rattle.fl_encode.specs.Shapes as shapes;
@@ -18,9 +21,10 @@ use crate::scheme::{Child, Scheme};
 use fl_array::{ArrayRef, IntoArray};
 use fl_codec::for_::{EncodedFoR, GlobalFoR, ItemOrder, encode_by, encode_chunked_by};
 use fl_codec::laws::{
-    chunked_for_by_and_back, deltas_and_back, global_for_by_and_back, runs_and_back,
+    chunked_for_by_and_back, deltas_and_back, dictionaries_and_back, global_for_by_and_back,
+    runs_and_back,
 };
-use fl_codec::rle::Runs;
+use fl_codec::rle::{Runs, dictionary};
 use fl_codec::{delta, rle};
 use fl_column::{FastLanesError, PrimitiveArray, Scalar};
 use std::alloc::Global;
@@ -142,6 +146,33 @@ fn encode_delta(
     over_deltas(alloc, bases, deltas, validity, len)
 }
 
+/// The run-length encoded array of `len` items of these run values, run indices and run offsets, each encoded by its scheme.
+///
+/// # Errors
+/// Those of the run values, then those of the run indices, and then those of the run offsets.
+#[cycle(encode)]
+fn encode_runs(
+    alloc: Global,
+    runs: Runs,
+    len: usize,
+    values: &Child,
+    indices: &Child,
+    offsets: &Child,
+) -> Result<ArrayRef, FastLanesError>
+    requires { rle_refusal (column_of_primitive runs.values) (column_of_primitive runs.indices) (column_of_primitive runs.offsets) 0 len ≡ None }
+    ensures { Makes (run_children_refusal (encode_refusal values.now) (encode_refusal indices.now) (encode_refusal offsets.now) (run_parts runs)) (HasRuns (IsEncodedAs values.now) (IsEncodedAs indices.now) (IsEncodedAs offsets.now) (run_parts runs) (record { offset = 0; len = len })) (column (tree.RLE (Primitive runs.values) (Primitive runs.indices) (Primitive runs.offsets) (record { offset = 0; len = len }))) result }
+{
+    let Runs {
+        values: plain_values,
+        indices: plain_indices,
+        offsets: plain_offsets,
+    } = runs;
+    let values = encode_child(alloc, plain_values, values)?;
+    let indices = encode_child(alloc, plain_indices, indices)?;
+    let offsets = encode_child(alloc, plain_offsets, offsets)?;
+    over_runs(alloc, values, indices, offsets, len)
+}
+
 /// The run-length encoded array of a primitive one.
 ///
 /// # Errors
@@ -154,25 +185,42 @@ fn encode_rle(
     indices: &Child,
     offsets: &Child,
 ) -> Result<ArrayRef, FastLanesError>
-    ensures { EncodesAs (shapes.RLE values.now indices.now offsets.now) array.now result }
+    ensures { EncodesAs (shapes.RLE shapes.Runs values.now indices.now offsets.now) array.now result }
 {
     runs_and_back(array);
-    let (len, _validity) = (array.len(), array.validity());
+    let len = array.len();
     let runs = rle::encode(alloc, array)?;
     let (_values, _indices, _offsets) = (
         runs.values.validity(),
         runs.indices.validity(),
         runs.offsets.validity(),
     );
-    let Runs {
-        values: plain_values,
-        indices: plain_indices,
-        offsets: plain_offsets,
-    } = runs;
-    let values = encode_child(alloc, plain_values, values)?;
-    let indices = encode_child(alloc, plain_indices, indices)?;
-    let offsets = encode_child(alloc, plain_offsets, offsets)?;
-    over_runs(alloc, values, indices, offsets, len)
+    encode_runs(alloc, runs, len, values, indices, offsets)
+}
+
+/// The run-length encoded array of a primitive one that has a dictionary for each chunk.
+///
+/// # Errors
+/// Those of the distinct items, then those of their indices, and then those of the offsets.
+#[cycle(encode)]
+fn encode_dict(
+    alloc: Global,
+    array: &PrimitiveArray,
+    values: &Child,
+    indices: &Child,
+    offsets: &Child,
+) -> Result<ArrayRef, FastLanesError>
+    ensures { EncodesAs (shapes.RLE shapes.Dictionary values.now indices.now offsets.now) array.now result }
+{
+    dictionaries_and_back(array);
+    let len = array.len();
+    let runs = dictionary::encode(alloc, array)?;
+    let (_values, _indices, _offsets) = (
+        runs.values.validity(),
+        runs.indices.validity(),
+        runs.offsets.validity(),
+    );
+    encode_runs(alloc, runs, len, values, indices, offsets)
 }
 
 /// Encodes an array by a scheme. Each child is encoded by its own scheme, and stored plain if it has none.
@@ -184,7 +232,8 @@ fn encode_rle(
 /// - `FoR`: `NoMinimum` if all items are null.
 ///
 /// `FoRChunked` makes one reference if all are equal, and a constant child if all items are null. The schemes of children
-/// that the array then does not have are not used.
+/// that the array then does not have are not used. `RLE` and `Dict` make run-length encoded arrays, which differ in the run
+/// values of their chunks.
 #[cycle(encode)]
 pub fn encode(
     alloc: Global,
@@ -209,5 +258,10 @@ pub fn encode(
             indices,
             offsets,
         } => encode_rle(alloc, array, values, indices, offsets),
+        Scheme::Dict {
+            values,
+            indices,
+            offsets,
+        } => encode_dict(alloc, array, values, indices, offsets),
     }
 }

@@ -49,6 +49,11 @@ fn prove_widths(scheme: &Scheme)
             values,
             indices,
             offsets,
+        }
+        | Scheme::Dict {
+            values,
+            indices,
+            offsets,
         } => {
             prove_child_widths(values);
             prove_child_widths(indices);
@@ -91,8 +96,8 @@ pub fn wrong_byte_is_the_first()
 {}
 
 /// An array shows the scheme that it was encoded by: each encoding in its place, as far as arrays tell them apart. For the
-/// best width stands that width; one reference stands for those of chunks if they are equal, and a constant for the
-/// differences of nothing but nulls.
+/// best width stands that width; one reference stands for those of chunks if they are equal, a constant for the differences
+/// of nothing but nulls, and `rle` for `dict`.
 pub fn encoded_shows_scheme()
     ensures { (scheme : Shape) (p : PrimitiveParts) (t : Tree) → IsEncodedAs scheme p t → Shows scheme p (part_shape t) }
 {}

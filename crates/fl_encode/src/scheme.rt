@@ -54,13 +54,23 @@ pub enum Scheme {
         /// The deltas along the lanes.
         deltas: Child,
     },
-    /// Run-length encoded.
+    /// Run-length encoded: the run values of a chunk are its items that differ from the one before.
     RLE {
         /// The run values.
         values: Child,
         /// The index of each position's run value.
         indices: Child,
         /// The number of run values before each chunk.
+        offsets: Child,
+    },
+    /// A dictionary for each chunk of 1024: a run-length encoded array whose run values in a chunk are its distinct items, in
+    /// rising order. An array does not show which run values it has, so that `scheme_of` says `RLE`.
+    Dict {
+        /// The distinct items of each chunk.
+        values: Child,
+        /// The index of each position's item among those of its chunk.
+        indices: Child,
+        /// The number of distinct items before each chunk.
         offsets: Child,
     },
 }

@@ -31,7 +31,7 @@ pub enum SchemeError {
 }
 
 /// Parses the text of a scheme. The words are `primitive`, `constant`, `bitpacked`, `bitpacked:7` (a width up to
-/// 255), `blocked`, `for`, `forc`, `forw`, `forcw`, `delta` and `rle`.
+/// 255), `blocked`, `for`, `forc`, `forw`, `forcw`, `delta`, `rle` and `dict`.
 ///
 /// At most `MAX_LEVELS` words stand in one another: the byte with which another one begins is wrong.
 ///

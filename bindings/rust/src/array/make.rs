@@ -119,8 +119,8 @@ impl Array {
     }
 
     /// The same column by a scheme such as `for(bitpacked)`. The words are `primitive`, `constant`, `bitpacked`,
-    /// `bitpacked:7`, `blocked`, `for`, `forc`, `forw`, `forcw`, `delta` and `rle`; in parentheses stand the schemes of
-    /// the children, `_` for a plain one, at most sixteen in one another.
+    /// `bitpacked:7`, `blocked`, `for`, `forc`, `forw`, `forcw`, `delta`, `rle` and `dict`; in parentheses stand the
+    /// schemes of the children, `_` for a plain one, at most fourteen in one another. What `dict` makes shows as `rle`.
     ///
     /// # Errors
     /// `BadScheme`, `NotInteger`, the errors of the encoding, `OutOfMemory`.

@@ -145,5 +145,13 @@ pub(crate) fn push_scheme(text: &mut Vec<u8>, scheme: &Scheme) -> Result<(), All
             text.extend_from_slice(b"rle")?;
             push_three(text, values, indices, offsets)
         }
+        Scheme::Dict {
+            values,
+            indices,
+            offsets,
+        } => {
+            text.extend_from_slice(b"dict")?;
+            push_three(text, values, indices, offsets)
+        }
     }
 }

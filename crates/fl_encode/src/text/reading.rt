@@ -46,6 +46,8 @@ pub(crate) enum Head {
     Delta,
     /// `rle`.
     RLE,
+    /// `dict`.
+    Dict,
 }
 
 /// What follows a byte, if the text begins with it.
@@ -146,7 +148,8 @@ fn furthest(text: &[u8]) -> usize
     let plain = common(b"primitive", text).max(common(b"constant", text));
     let packed = common(b"bitpacked", text).max(common(b"blocked", text));
     let frames = common(b"forcw", text).max(common(b"forw", text));
-    let nested = common(b"delta", text).max(common(b"rle", text));
+    let nested = common(b"delta", text).max(common(b"dict", text));
+    let nested = nested.max(common(b"rle", text));
     plain.max(packed).max(frames.max(nested))
 }
 
@@ -188,6 +191,9 @@ fn read_nested_head(text: &[u8]) -> Result<(Head, &[u8]), Stop>
     }
     if let Some(rest) = rest_behind(b"delta", text) {
         return Ok((Head::Delta, rest));
+    }
+    if let Some(rest) = rest_behind(b"dict", text) {
+        return Ok((Head::Dict, rest));
     }
     match rest_behind(b"rle", text) {
         Some(rest) => Ok((Head::RLE, rest)),
@@ -316,6 +322,15 @@ fn read_children(
         Head::RLE => {
             let (values, indices, offsets, rest) = read_three(alloc, depth, text)?;
             let scheme = Scheme::RLE {
+                values,
+                indices,
+                offsets,
+            };
+            Ok((scheme, rest))
+        }
+        Head::Dict => {
+            let (values, indices, offsets, rest) = read_three(alloc, depth, text)?;
+            let scheme = Scheme::Dict {
                 values,
                 indices,
                 offsets,

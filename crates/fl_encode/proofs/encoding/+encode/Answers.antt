@@ -3,12 +3,12 @@ use Rattle.fl_types.specs.Values.{scalar_parts}
 use Rattle.fl_column.specs.Columns.{column_of_primitive}
 use Rattle.fl_codec.specs.Parts.{ByChunk, Nulls, Whole, for_parts, global_parts, run_parts}
 use Rattle.fl_array.proofs.DeltaEncoding.{encoded_accepted, encoded_back}
-use Rattle.fl_array.proofs.EncodedRLE.{encoded_sound, ok_is}
-use Rattle.fl_array.proofs.EncodedRLE.{encoded_back as runs_back}
+use Rattle.fl_array.proofs.EncodedRLE.{ok_is, parts_back, parts_sound}
 use Rattle.fl_array.proofs.FoREncoding.{chunked_column, few_positions, global_accepted, made_accepted}
-use Rattle.fl_encode.specs.Shapes.{RLE}
+use Rattle.fl_encode.specs.Encodings.{runs_by}
+use Rattle.fl_encode.specs.Shapes.{Dictionary, Runs}
 use Rattle.fl_encode.proofs.ConstantLaws.{no_constant, references_differ}
-use Rattle.fl_encode.proofs.EncodingLaws.{deltas_accepted, deltas_made, indices_refused, one_reference_made, over_references_made, passed_on, references_made, runs_accepted, runs_made, values_refused}
+use Rattle.fl_encode.proofs.EncodingLaws.{deltas_accepted, deltas_made, indices_refused, one_reference_made, over_references_made, references_made, runs_accepted, runs_encoded, runs_made, runs_passed_on, values_refused}
 use Rattle.fl_encode.proofs.encoding.+encode.Goals as goal
 
 -- ---- one level
@@ -71,26 +71,51 @@ encode_delta-returns t c =
     (encoded_back c.args.array.now c.in_ok-plain_bases.plain_bases c.in_ok-plain_bases.plain_deltas c.in_ok-validity.validity c.len-len.result parts valid c.len-len.ensures.slots c.deltas_and_back.ensures) c.in_ok-bases.ensures c.in_ok-deltas.ensures c.over_deltas.ensures
 
 -- ---- runs
-pub encode_rle-returns-in_err-indices : goal.encode_rle-returns-in_err-indices
-encode_rle-returns-in_err-indices t c =
-    passed_on (RLE c.args.values.now c.args.indices.now c.args.offsets.now) c.args.array.now c.from_residual-in_err-indices.result c.in_err-indices.field-0.0 c.from_residual-in_err-indices.ensures.1
-    (indices_refused c.args.values.now c.args.indices.now c.args.offsets.now c.args.array.now (run_parts c.in_ok-runs.runs) c.in_ok-values.values c.in_err-indices.field-0.0 (ok_is _ _ (sym c.in_ok-runs.ensures)) c.in_ok-values.ensures c.in_err-indices.ensures)
+pub encode_runs-returns-in_err-indices : goal.encode_runs-returns-in_err-indices
+encode_runs-returns-in_err-indices t c =
+    runs_passed_on c.args.values.now c.args.indices.now c.args.offsets.now (run_parts c.args.runs) c.args.len c.from_residual-in_err-indices.result c.in_err-indices.field-0.0 c.from_residual-in_err-indices.ensures.1
+    (indices_refused c.args.values.now c.args.indices.now c.args.offsets.now (run_parts c.args.runs) c.args.len c.in_ok-values.values c.in_err-indices.field-0.0 c.in_ok-values.ensures c.in_err-indices.ensures)
 
-pub encode_rle-returns-in_err-values : goal.encode_rle-returns-in_err-values
-encode_rle-returns-in_err-values t c =
-    passed_on (RLE c.args.values.now c.args.indices.now c.args.offsets.now) c.args.array.now c.from_residual-in_err-values.result c.in_err-values.field-0.0 c.from_residual-in_err-values.ensures.1
-    (values_refused c.args.values.now c.args.indices.now c.args.offsets.now c.args.array.now (run_parts c.in_ok-runs.runs) c.in_err-values.field-0.0 (ok_is _ _ (sym c.in_ok-runs.ensures)) c.in_err-values.ensures)
+pub encode_runs-returns-in_err-values : goal.encode_runs-returns-in_err-values
+encode_runs-returns-in_err-values t c =
+    runs_passed_on c.args.values.now c.args.indices.now c.args.offsets.now (run_parts c.args.runs) c.args.len c.from_residual.result c.in_err-values.field-0.0 c.from_residual.ensures.1
+    (values_refused c.args.values.now c.args.indices.now c.args.offsets.now (run_parts c.args.runs) c.args.len c.in_err-values.field-0.0 c.in_err-values.ensures)
 
-pub encode_rle-over_runs-requires : goal.encode_rle-over_runs-requires
-encode_rle-over_runs-requires t c =
-    let runs = c.in_ok-runs.runs in
-    let sound = encoded_sound c.args.array.now runs.values runs.indices runs.offsets _ (ok_is _ _ (sym c.in_ok-runs.ensures)) c.len-len.ensures.slots c.validity-values.ensures.covers c.validity-indices.ensures.covers c.validity-offsets.ensures.covers c.runs_and_back.ensures.sound in
-    runs_accepted runs.values runs.indices runs.offsets c.len-len.result c.in_ok-values.values c.in_ok-indices.indices c.in_ok-offsets.offsets c.in_ok-values.ensures.stands_for c.in_ok-indices.ensures.stands_for c.in_ok-offsets.ensures.stands_for sound
+pub encode_runs-over_runs-requires : goal.encode_runs-over_runs-requires
+encode_runs-over_runs-requires t c =
+    let runs = c.args.runs in
+    runs_accepted runs.values runs.indices runs.offsets c.args.len c.in_ok-values.values c.in_ok-indices.indices c.in_ok-offsets.offsets c.in_ok-values.ensures.stands_for c.in_ok-indices.ensures.stands_for c.in_ok-offsets.ensures.stands_for c.requires
+
+pub encode_runs-returns : goal.encode_runs-returns
+encode_runs-returns t c =
+    runs_made c.args.values.now c.args.indices.now c.args.offsets.now (run_parts c.args.runs) c.args.len c.in_ok-values.values c.in_ok-indices.indices c.in_ok-offsets.offsets c.over_runs.result c.in_ok-values.ensures c.in_ok-indices.ensures c.in_ok-offsets.ensures c.over_runs.ensures
+
+pub encode_rle-encode_runs-requires : goal.encode_rle-encode_runs-requires
+encode_rle-encode_runs-requires t c =
+    let runs = c.in_ok-runs.runs in (
+      search rules,
+      parts_sound (runs_by Runs c.args.array.now) runs.values runs.indices runs.offsets (length c.args.array.now.slots) _ (ok_is _ _ (sym c.in_ok-runs.ensures)) c.len-len.ensures.slots c.validity-values.ensures.covers c.validity-indices.ensures.covers c.validity-offsets.ensures.covers c.runs_and_back.ensures.sound,
+    )
 
 pub encode_rle-returns : goal.encode_rle-returns
 encode_rle-returns t c =
     let runs = c.in_ok-runs.runs in
     let parts = ok_is _ _ (sym c.in_ok-runs.ensures) in
-    let sound = encoded_sound c.args.array.now runs.values runs.indices runs.offsets _ parts c.len-len.ensures.slots c.validity-values.ensures.covers c.validity-indices.ensures.covers c.validity-offsets.ensures.covers c.runs_and_back.ensures.sound in
-    runs_made c.args.values.now c.args.indices.now c.args.offsets.now c.args.array.now (run_parts runs) c.len-len.result c.in_ok-values.values c.in_ok-indices.indices c.in_ok-offsets.offsets c.over_runs.result parts c.len-len.ensures.slots
-    (runs_back c.args.array.now runs.values runs.indices runs.offsets _ parts c.len-len.ensures.slots sound c.runs_and_back.ensures.column) c.in_ok-values.ensures c.in_ok-indices.ensures c.in_ok-offsets.ensures c.over_runs.ensures
+    let sound = parts_sound (runs_by Runs c.args.array.now) runs.values runs.indices runs.offsets (length c.args.array.now.slots) _ parts c.len-len.ensures.slots c.validity-values.ensures.covers c.validity-indices.ensures.covers c.validity-offsets.ensures.covers c.runs_and_back.ensures.sound in
+    runs_encoded Runs c.args.values.now c.args.indices.now c.args.offsets.now c.args.array.now (run_parts runs) c.len-len.result c.encode_runs.result parts c.len-len.ensures.slots
+    (parts_back (runs_by Runs c.args.array.now) c.args.array.now runs.values runs.indices runs.offsets _ parts c.len-len.ensures.slots sound c.runs_and_back.ensures.column) c.encode_runs.ensures
+
+pub encode_dict-encode_runs-requires : goal.encode_dict-encode_runs-requires
+encode_dict-encode_runs-requires t c =
+    let runs = c.in_ok-runs.runs in (
+      search rules,
+      parts_sound (runs_by Dictionary c.args.array.now) runs.values runs.indices runs.offsets (length c.args.array.now.slots) _ (ok_is _ _ (sym c.in_ok-runs.ensures)) c.len-len.ensures.slots c.validity-values.ensures.covers c.validity-indices.ensures.covers c.validity-offsets.ensures.covers c.dictionaries_and_back.ensures.sound,
+    )
+
+pub encode_dict-returns : goal.encode_dict-returns
+encode_dict-returns t c =
+    let runs = c.in_ok-runs.runs in
+    let parts = ok_is _ _ (sym c.in_ok-runs.ensures) in
+    let sound = parts_sound (runs_by Dictionary c.args.array.now) runs.values runs.indices runs.offsets (length c.args.array.now.slots) _ parts c.len-len.ensures.slots c.validity-values.ensures.covers c.validity-indices.ensures.covers c.validity-offsets.ensures.covers c.dictionaries_and_back.ensures.sound in
+    runs_encoded Dictionary c.args.values.now c.args.indices.now c.args.offsets.now c.args.array.now (run_parts runs) c.len-len.result c.encode_runs.result parts c.len-len.ensures.slots
+    (parts_back (runs_by Dictionary c.args.array.now) c.args.array.now runs.values runs.indices runs.offsets _ parts c.len-len.ensures.slots sound c.dictionaries_and_back.ensures.column) c.encode_runs.ensures

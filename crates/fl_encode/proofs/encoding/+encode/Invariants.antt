@@ -24,5 +24,11 @@ decreases-encode_chunked_for l = size l.encoded.now + size l.references.now + 3
 abbrev pub decreases-encode_delta : goal.decreases-encode_delta
 decreases-encode_delta l = size l.bases.now + size l.deltas.now + 3
 
+abbrev pub decreases-encode_runs : goal.decreases-encode_runs
+decreases-encode_runs l = size l.values.now + (size l.indices.now + size l.offsets.now) + 2
+
 abbrev pub decreases-encode_rle : goal.decreases-encode_rle
 decreases-encode_rle l = size l.values.now + (size l.indices.now + size l.offsets.now) + 3
+
+abbrev pub decreases-encode_dict : goal.decreases-encode_dict
+decreases-encode_dict l = size l.values.now + (size l.indices.now + size l.offsets.now) + 3
