@@ -1,7 +1,9 @@
+pub mod BlockLaws
 pub mod FinalLaws
 pub mod GatherSteps
 pub mod LawProofs
 pub mod MaskLaws
 pub mod NullLaws
+pub mod SourceLaws
 pub mod StepLaws
 pub mod ValidLaws

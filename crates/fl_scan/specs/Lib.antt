@@ -1,3 +1,4 @@
+pub mod Blocks
 pub mod Constants
 pub mod CountLaws
 pub mod ExtremeLaws

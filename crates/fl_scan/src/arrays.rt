@@ -8,6 +8,8 @@ ghost use Rattle.fl_array.specs.Reads.{integer_column};
 ghost use Rattle.fl_array.specs.Trees.{column};
 ghost use Rattle.fl_scan.specs.Sources.{column_of_source};
 
+use crate::blocks::MOST_ITEMS;
+use crate::prepared::Blocks;
 use crate::source::Source;
 use fl_array::ArrayRef;
 use fl_column::{ConstantArray, FastLanesError};
@@ -20,7 +22,8 @@ fn prove_integers(constant: &ConstantArray)
     let _ptype = constant.ptype();
 }
 
-/// What is scanned of an array: a plain or constant array itself, any other one decoded.
+/// What is scanned of an array: a plain or constant array itself, the blocks of any other one. One of more than 2^32
+/// items is decoded.
 ///
 /// # Errors
 /// `NotInteger` if the array is of booleans.
@@ -36,6 +39,9 @@ pub(crate) fn source_of<'a>(
     if let Some(constant) = array.as_constant() {
         prove_integers(constant);
         return Ok(Source::Constant(constant));
+    }
+    if array.len() <= MOST_ITEMS {
+        return Ok(Source::Blocks(Blocks::try_new(alloc, array)?));
     }
     Ok(Source::Decoded(array.to_primitive(alloc)?))
 }

@@ -2,9 +2,11 @@
 #![tactic(auto)]
 
 mod arrays;
+mod blocks;
 mod folds;
 pub mod laws;
 mod plain;
+mod prepared;
 pub mod queries;
 mod source;
 pub mod sums;

@@ -1,4 +1,4 @@
-//! What is scanned: the integers of an array where they are, or decoded.
+//! What is scanned: the integers of an array where they are, or read of it.
 
 ghost use Rattle.std.specs.Prelude.{◌≡◌, IfErr, IsTrue, OnOk, length};
 ghost use Rattle.fl_types.specs.declared.error.FastLanesError.TheVariants.{OutOfMemory};
@@ -8,7 +8,10 @@ ghost use Rattle.fl_scan.specs.Totals.{valid_items};
 
 use crate::folds::Fold;
 use crate::plain::{add_constant, add_plain};
-use fl_column::{ConstantArray, FastLanesError, NativePType, PrimitiveArray};
+use crate::prepared::Blocks;
+use fl_bitpacking::unpack_iter::BitPacked;
+use fl_column::{ConstantArray, FastLanesError, PhysicalPType, PrimitiveArray};
+use num_traits::WrappingAdd;
 
 /// What is scanned. Contracts see its column.
 #[derive(Drop)]
@@ -17,6 +20,8 @@ pub(crate) enum Source<'a> {
     Primitive(&'a PrimitiveArray),
     /// One integer or null, repeated.
     Constant(&'a ConstantArray),
+    /// Integers that are read block by block.
+    Blocks(Blocks<'a>),
     /// Decoded integers.
     Decoded(PrimitiveArray),
 }
@@ -29,12 +34,13 @@ impl Source<'_> {
         match self {
             Source::Primitive(plain) => plain.len(),
             Source::Constant(constant) => constant.len(),
+            Source::Blocks(blocks) => blocks.len(),
             Source::Decoded(plain) => plain.len(),
         }
     }
 
     /// Gathers the valid items.
-    pub(crate) fn scan<T: NativePType, F: Fold<T>>(
+    pub(crate) fn scan<T: BitPacked + PhysicalPType + WrappingAdd, F: Fold<T>>(
         &self,
         fold: &mut F,
     ) -> Result<(), FastLanesError>
@@ -45,6 +51,7 @@ impl Source<'_> {
         match self {
             Source::Primitive(plain) => add_plain(fold, plain),
             Source::Constant(constant) => add_constant(fold, constant),
+            Source::Blocks(blocks) => blocks.add_valid(fold),
             Source::Decoded(plain) => add_plain(fold, plain),
         }
     }

@@ -17,10 +17,12 @@ use crate::folds::gather::Gather;
 use crate::folds::tests::{Between, Comparison, ItemTest};
 use crate::folds::total::Total;
 use crate::source::Source;
+use fl_bitpacking::unpack_iter::BitPacked;
 use fl_column::{
     BetweenOptions, CompareOperator, FastLanesError, NativePType, Nullability, PValue,
-    PrimitiveArray,
+    PhysicalPType, PrimitiveArray,
 };
+use num_traits::WrappingAdd;
 use std::alloc::Global;
 
 /// A comparison with a constant of the type.
@@ -51,7 +53,7 @@ fn range<T: NativePType>(lower: PValue, upper: PValue, options: BetweenOptions) 
 }
 
 /// How many valid items pass a test.
-fn count_passing<T: NativePType, P: ItemTest<T>>(
+fn count_passing<T: BitPacked + PhysicalPType + WrappingAdd, P: ItemTest<T>>(
     source: &Source,
     test: P,
 ) -> Result<usize, FastLanesError>
@@ -66,7 +68,7 @@ fn count_passing<T: NativePType, P: ItemTest<T>>(
 }
 
 /// How many valid items compare so with a constant.
-pub(crate) fn count_compared<T: NativePType>(
+pub(crate) fn count_compared<T: BitPacked + PhysicalPType + WrappingAdd>(
     source: &Source,
     operator: CompareOperator,
     constant: PValue,
@@ -79,7 +81,7 @@ pub(crate) fn count_compared<T: NativePType>(
 }
 
 /// How many valid items lie between two bounds.
-pub(crate) fn count_in_range<T: NativePType>(
+pub(crate) fn count_in_range<T: BitPacked + PhysicalPType + WrappingAdd>(
     source: &Source,
     lower: PValue,
     upper: PValue,
@@ -94,7 +96,7 @@ pub(crate) fn count_in_range<T: NativePType>(
 }
 
 /// The valid items that pass a test.
-fn filter_passing<T: NativePType, P: ItemTest<T>>(
+fn filter_passing<T: BitPacked + PhysicalPType + WrappingAdd, P: ItemTest<T>>(
     alloc: Global,
     source: &Source,
     nullability: Nullability,
@@ -110,7 +112,7 @@ fn filter_passing<T: NativePType, P: ItemTest<T>>(
 }
 
 /// The valid items that compare so with a constant.
-pub(crate) fn filter_compared<T: NativePType>(
+pub(crate) fn filter_compared<T: BitPacked + PhysicalPType + WrappingAdd>(
     alloc: Global,
     source: &Source,
     nullability: Nullability,
@@ -131,7 +133,7 @@ pub(crate) fn filter_compared<T: NativePType>(
 }
 
 /// The valid items between two bounds, the lower one first.
-pub(crate) fn filter_in_range<T: NativePType>(
+pub(crate) fn filter_in_range<T: BitPacked + PhysicalPType + WrappingAdd>(
     alloc: Global,
     source: &Source,
     nullability: Nullability,
@@ -154,7 +156,9 @@ pub(crate) fn filter_in_range<T: NativePType>(
 }
 
 /// The sum of the valid items, modulo 2 to the power of 128.
-pub(crate) fn wrapped_sum<T: NativePType>(source: &Source) -> Result<i128, FastLanesError>
+pub(crate) fn wrapped_sum<T: BitPacked + PhysicalPType + WrappingAdd>(
+    source: &Source,
+) -> Result<i128, FastLanesError>
     requires { IsTrue (has_ptype T.PTYPE (column_of_source source.now).dtype) }
     ensures sum { IfOk result (λ sum. int_wrap w128 sum ≡ int_wrap w128 (sum_of (column_of_source source.now))) }
     ensures memory { IfErr result (λ e. e ≡ OutOfMemory) }
@@ -165,7 +169,7 @@ pub(crate) fn wrapped_sum<T: NativePType>(source: &Source) -> Result<i128, FastL
 }
 
 /// The least and the greatest valid item, if one is valid.
-pub(crate) fn extremes<T: NativePType>(
+pub(crate) fn extremes<T: BitPacked + PhysicalPType + WrappingAdd>(
     source: &Source,
 ) -> Result<Option<(PValue, PValue)>, FastLanesError>
     requires { IsTrue (has_ptype T.PTYPE (column_of_source source.now).dtype) }

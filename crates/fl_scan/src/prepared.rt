@@ -1,0 +1,71 @@
+//! An array that is read block by block.
+
+ghost use Rattle.std.specs.Prelude.{◌≡◌, IfErr, IsTrue, OnOk, length};
+ghost use Rattle.fl_types.specs.declared.error.FastLanesError.TheVariants.{OutOfMemory};
+ghost use Rattle.fl_types.specs.Refusals.{Answers};
+ghost use Rattle.fl_types.specs.Types.{has_ptype};
+ghost use Rattle.fl_array.specs.Reads.{integer_column};
+ghost use Rattle.fl_array.specs.Trees.{column};
+ghost use Rattle.fl_scan.specs.Totals.{valid_items};
+
+use crate::blocks::add_marked;
+use crate::folds::Fold;
+use fl_array::{ArrayRef, Reader};
+use fl_bitpacking::unpack_iter::BitPacked;
+use fl_column::{FastLanesError, PhysicalPType, Validity};
+use num_traits::WrappingAdd;
+use std::alloc::Global;
+use std::marker::Model;
+
+/// An array that is read block by block, and which of its items are null. Contracts see the column.
+#[derive(Drop)]
+pub(crate) struct Blocks<'a> {
+    reader: Reader<'a>,
+    validity: Validity,
+}
+
+impl<'a> Model for Blocks<'a> {
+    ghost use Rattle.fl_column.specs.Columns.{Column};
+    ghost use Rattle.fl_array.specs.Reads.{IsValidityOf};
+
+    ghost Value = { Column };
+
+    ghost view = { λ b. b.reader.column };
+
+    ghost invariant = { λ b. IsValidityOf b.validity b.reader.column };
+}
+
+impl<'a> Blocks<'a> {
+    /// The blocks of an array of integers.
+    ///
+    /// # Errors
+    /// `NotInteger` if the array is of booleans.
+    pub(crate) fn try_new(alloc: Global, array: &'a ArrayRef) -> Result<Blocks<'a>, FastLanesError>
+        ensures { Answers (λ b. b) result (integer_column (column array.now)) }
+    {
+        let validity = array.validity(alloc)?;
+        let reader = Reader::try_new(alloc, array)?;
+        Ok(Blocks { reader, validity })
+    }
+}
+
+impl Blocks<'_> {
+    /// The number of items.
+    pub(crate) fn len(&self) -> usize
+        ensures { result ≡ length self.now.items }
+    {
+        self.reader.len()
+    }
+
+    /// Gathers the valid items.
+    pub(crate) fn add_valid<T: BitPacked + PhysicalPType + WrappingAdd, F: Fold<T>>(
+        &self,
+        fold: &mut F,
+    ) -> Result<(), FastLanesError>
+        requires { IsTrue (has_ptype T.PTYPE self.now.dtype) }
+        ensures gathered { OnOk result (F.Leads fold.old (valid_items self.now) fold.new) }
+        ensures memory { IfErr result (λ e. e ≡ OutOfMemory) }
+    {
+        add_marked(fold, &self.reader, &self.validity)
+    }
+}
