@@ -15,9 +15,9 @@ use fl_types::match_each_integer_ptype;
 use num_traits::WrappingAdd;
 use std::alloc::{AllocError, Global};
 
-/// How many items are read in one step, 16 blocks. The list grows by these alone, so that they are filled with 0 and
-/// read while they lie in the second-level cache.
-const ITEMS_A_STEP: usize = 16_384;
+/// How many items are read in one step, 4 blocks. The list grows by these alone, so that they are filled with 0 and
+/// read while they lie in the first-level cache.
+const ITEMS_A_STEP: usize = 4_096;
 
 /// Appends the items up to an index.
 fn push_items<T: BitPacked + PhysicalPType + WrappingAdd>(
