@@ -5,7 +5,7 @@ use Rattle.std.specs.List.{All}
 use Rattle.std.proofs.lemmas.List.Elements.{All-append, All-cons, All-head, All-map, All-nil, All-tail, All-weaker}
 use Rattle.fl_codec.specs.declared.for_.ItemOrder.TheVariants.{Natural, Signed}
 use Rattle.fl_encode.specs.declared.scheme.Packing.TheVariants.{BestWidth, BestWidths}
-use Rattle.fl_encode.specs.Shapes.{BitPacked, Constant, Delta, FoR, FoRChunked, Plain, Primitive, RLE, Shape}
+use Rattle.fl_encode.specs.Shapes.{BitPacked, Constant, Delta, FoR, FoRChunked, Plain, Primitive, RLE, Runs, Shape}
 use Rattle.fl_compress.specs.declared.limits.Limits.{Limits}
 use Rattle.fl_compress.specs.Candidates.{candidates, delta_schemes, framed_schemes, has_level, over_deltas, over_frames, over_runs, packed_schemes, where_allowed}
 use Rattle.fl_compress.specs.Statistics.{is_candidate, is_delta, is_framed, is_packed}
@@ -61,7 +61,7 @@ packed_framed (BitPacked packing) e = e
 packed_framed (FoR order encoded) e = cc
 packed_framed (FoRChunked order encoded references) e = cc
 packed_framed (Delta bases deltas) e = cc
-packed_framed (RLE values indices offsets) e = cc
+packed_framed (RLE run_values values indices offsets) e = cc
 
 all_frames : (children : List Shape) → All IsPacked children → All IsFramed (over_frames children)
 all_frames children all =
@@ -83,7 +83,7 @@ framed_delta (BitPacked packing) e = e
 framed_delta (FoR order encoded) e = e
 framed_delta (FoRChunked order encoded references) e = e
 framed_delta (Delta bases deltas) e = cc
-framed_delta (RLE values indices offsets) e = cc
+framed_delta (RLE run_values values indices offsets) e = cc
 
 all_deltas : (limits : Limits) (depth : ℕ) → All IsDelta (delta_schemes limits depth)
 unfolding delta_schemes
@@ -102,9 +102,9 @@ delta_candidate (BitPacked packing) e = e
 delta_candidate (FoR order encoded) e = e
 delta_candidate (FoRChunked order encoded references) e = e
 delta_candidate (Delta bases deltas) e = e
-delta_candidate (RLE values indices offsets) e = cc
+delta_candidate (RLE run_values values indices offsets) e = cc
 
-run_candidate : (x y z : Shape) → IsDelta x → IsFramed y → IsFramed z → IsCandidate (RLE x y z)
+run_candidate : (x y z : Shape) → IsDelta x → IsFramed y → IsFramed z → IsCandidate (RLE Runs x y z)
 unfolding is_candidate
 run_candidate x y z e f g = both_true (is_delta x) (is_framed y && is_framed z) e (both_true (is_framed y) (is_framed z) f g)
 
@@ -114,4 +114,4 @@ all_candidates limits =
     let values = delta_schemes limits (limits.depth - 1) in
     let others = framed_schemes limits (limits.depth - 1) in
     All-append IsCandidate _ _ (All-weaker IsDelta IsCandidate delta_candidate (delta_schemes limits limits.depth) (all_deltas limits limits.depth))
-    (all_allowed IsCandidate (has_level limits.rle limits.depth) (over_runs values others) (all_threes IsDelta IsFramed IsCandidate RLE run_candidate values others (all_deltas limits (limits.depth - 1)) (all_framed limits (limits.depth - 1))))
+    (all_allowed IsCandidate (has_level limits.rle limits.depth) (over_runs values others) (all_threes IsDelta IsFramed IsCandidate (RLE Runs) run_candidate values others (all_deltas limits (limits.depth - 1)) (all_framed limits (limits.depth - 1))))

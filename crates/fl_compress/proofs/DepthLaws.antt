@@ -8,7 +8,7 @@ use Rattle.fl_types.specs.declared.validity.Validity.{Validity}
 use Rattle.fl_types.specs.declared.validity.Validity.TheVariants as valid
 use Rattle.fl_column.specs.Columns.{PrimitiveParts}
 use Rattle.fl_patches.specs.PatchMaps.{PatchesParts}
-use Rattle.fl_codec.specs.Parts.{ByChunk, FoRParts, Nulls, OneReference, Whole, compress_deltas, encode_chunked_by, encode_global_by, encode_runs}
+use Rattle.fl_codec.specs.Parts.{ByChunk, FoRParts, Nulls, OneReference, Whole, compress_deltas, encode_chunked_by, encode_global_by}
 use Rattle.fl_bitpacking.specs.Blocks.{boundary_array}
 use Rattle.fl_bitpacking.specs.Columns.{BitPackedParts}
 use Rattle.fl_bitpacking.specs.Encoders.{best_width_of, best_widths_of}
@@ -18,7 +18,7 @@ use Rattle.fl_serialized.specs.Nodes.{Node, depth, depth_of, nodes_of}
 use Rattle.fl_serde.specs.Writing.{chunk_offset_nodes, packed_nodes, patch_nodes, validity_nodes, written}
 use Rattle.fl_encode.specs.declared.scheme.Packing.{Packing}
 use Rattle.fl_encode.specs.declared.scheme.Packing.TheVariants.{BestWidth, BestWidths, Width}
-use Rattle.fl_encode.specs.Encodings.{HasReference, HasReferences, IsEncodedAs, whole_delta, whole_window}
+use Rattle.fl_encode.specs.Encodings.{HasReference, HasReferences, IsEncodedAs, runs_by, whole_delta, whole_window}
 use Rattle.fl_encode.specs.Packings.{IsPackedAs}
 use Rattle.fl_encode.specs.Shapes.{BitPacked, Constant, Delta, FoR, FoRChunked, Plain, Primitive, RLE, Shape, levels}
 
@@ -100,11 +100,11 @@ encoded_low (Delta bases deltas) p t (b, d, are, them, e) =
     let other = encoded_low deltas (compress_deltas p).1 d them in
     let validity = validity_flat (length p.slots) p.validity in
     omega arith)
-encoded_low (RLE values indices offsets) p t (v, i, o, are, them, those, e) =
+encoded_low (RLE run_values values indices offsets) p t (v, i, o, are, them, those, e) =
     depth_as t (tree.RLE v i o (whole_window p)) _ e
-    (let first = encoded_low values (encode_runs p).values v are in
-    let other = encoded_low indices (encode_runs p).indices i them in
-    let last = encoded_low offsets (encode_runs p).offsets o those in
+    (let first = encoded_low values (runs_by run_values p).values v are in
+    let other = encoded_low indices (runs_by run_values p).indices i them in
+    let last = encoded_low offsets (runs_by run_values p).offsets o those in
     omega arith)
 
 -- a scheme that has a text

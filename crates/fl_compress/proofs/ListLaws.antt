@@ -11,7 +11,7 @@ use Rattle.fl_codec.specs.declared.for_.ItemOrder.{ItemOrder}
 use Rattle.fl_codec.specs.declared.for_.ItemOrder.TheVariants.{Natural, Signed}
 use Rattle.fl_codec.specs.Parts.{ByChunk, FoRParts, Nulls, OneReference, Whole, compress_deltas, encode_chunked_by, encode_global_by, encode_runs}
 use Rattle.fl_encode.specs.declared.scheme.Packing.TheVariants.{BestWidth, BestWidths}
-use Rattle.fl_encode.specs.Shapes.{BitPacked, Constant, Delta, FoR, FoRChunked, Primitive, RLE, Shape}
+use Rattle.fl_encode.specs.Shapes.{BitPacked, Constant, Delta, FoR, FoRChunked, Primitive, RLE, Runs, Shape}
 use Rattle.fl_serde.specs.ByteCounts.{primitive_bytes, validity_bytes}
 use Rattle.fl_compress.specs.declared.limits.Limits.{Limits}
 use Rattle.fl_compress.specs.Candidates.{candidates, delta_schemes, framed_schemes, has_level, over_chunk_references, over_deltas, over_frames, over_one_reference, over_runs, packed_schemes, where_allowed}
@@ -153,16 +153,16 @@ no_delta_list limits depth p e =
     ap (λ b. cheapest (encoded_bytes p) (framed_schemes limits depth ++ where_allowed b deltas)) e ∙ ap (cheapest (encoded_bytes p)) (append-nil (framed_schemes limits depth))
 
 -- ---- runs
-made_of_pairs : (values : Shape) (others schemes : List Shape) → flat_map (λ i. map (RLE values i) schemes) others ≡ map (runs_of values) (flat_map (λ i. map (two i) schemes) others)
+made_of_pairs : (values : Shape) (others schemes : List Shape) → flat_map (λ i. map (RLE Runs values i) schemes) others ≡ map (runs_of values) (flat_map (λ i. map (two i) schemes) others)
 made_of_pairs values [] schemes = refl
 made_of_pairs values (i ∷ others) schemes =
-    ap (λ rest. map (RLE values i) schemes ++ rest) (made_of_pairs values others schemes)
+    ap (λ rest. map (RLE Runs values i) schemes ++ rest) (made_of_pairs values others schemes)
     ∙ (ap (λ first. first ++ map (runs_of values) (flat_map (λ j. map (two j) schemes) others)) (each values i schemes)
     ∙ sym (map-append (runs_of values) (map (two i) schemes) (flat_map (λ j. map (two j) schemes) others)))
   where
-    each : (v i : Shape) (ss : List Shape) → map (RLE v i) ss ≡ map (runs_of v) (map (two i) ss)
+    each : (v i : Shape) (ss : List Shape) → map (RLE Runs v i) ss ≡ map (runs_of v) (map (two i) ss)
     each v i [] = refl
-    each v i (s ∷ ss) = ap (λ rest. RLE v i s ∷ rest) (each v i ss)
+    each v i (s ∷ ss) = ap (λ rest. RLE Runs v i s ∷ rest) (each v i ss)
 
 run_bytes : (p : PrimitiveParts) (values : Shape) (others : Shape × Shape) → encoded_bytes p (runs_of values others)
     ≡ both (encoded_bytes (encode_runs p).values values) (both (encoded_bytes (encode_runs p).indices others.0) (encoded_bytes (encode_runs p).offsets others.1))
@@ -176,7 +176,7 @@ runs_list p values others =
     let each_other : Shape × Shape → Option ℕ = λ s. both (encoded_bytes runs.indices s.0) (encoded_bytes runs.offsets s.1) in
     let beside_values = combined two (cheapest (encoded_bytes runs.indices) others) (cheapest (encoded_bytes runs.offsets) others) in
     let two_by_two : cheapest each_other (flat_map (λ i. map (two i) others) others) ≡ beside_values = cheapest_pairs each_other (encoded_bytes runs.indices) (encoded_bytes runs.offsets) two (λ i o. refl) others others in
-    cheapest_rows (encoded_bytes p) (encoded_bytes runs.values) runs_of beside_values (λ v. flat_map (λ i. map (RLE v i) others) others)
+    cheapest_rows (encoded_bytes p) (encoded_bytes runs.values) runs_of beside_values (λ v. flat_map (λ i. map (RLE Runs v i) others) others)
     (λ v. ap (cheapest (encoded_bytes p)) (made_of_pairs v others others)
     ∙ (cheapest_row (encoded_bytes p) (encoded_bytes runs.values v) each_other runs_of v (run_bytes p v) (flat_map (λ i. map (two i) others) others)
     ∙ ap (combined runs_of (with_bytes v (encoded_bytes runs.values v))) two_by_two))

@@ -4,7 +4,7 @@ use Rattle.std.specs.Prelude.{Result}
 use Rattle.fl_types.specs.declared.error.FastLanesError.{FastLanesError}
 use Rattle.fl_column.specs.Columns.{PrimitiveParts}
 use Rattle.fl_codec.specs.declared.for_.ItemOrder.TheVariants.{Natural, Signed}
-use Rattle.fl_codec.specs.Parts.{ByChunk, FoRParts, Nulls, OneReference, RunParts, Whole, compress_deltas, encode_chunked_by, encode_global_by, encode_runs}
+use Rattle.fl_codec.specs.Parts.{ByChunk, FoRParts, Nulls, OneReference, RunParts, Whole, compress_deltas, encode_chunked_by, encode_global_by}
 use Rattle.fl_bitpacking.specs.Encoders.{best_width_of, best_widths_of}
 use Rattle.fl_bitpacking.specs.Blocks.{boundary_array}
 use Rattle.fl_bitpacking.specs.Refusals.{otherwise}
@@ -12,7 +12,7 @@ use Rattle.fl_array.specs.Trees.{DeltaParts, OffsetLen, Tree}
 use Rattle.fl_array.specs.Trees as tree
 use Rattle.fl_encode.specs.declared.scheme.Packing.{Packing}
 use Rattle.fl_encode.specs.declared.scheme.Packing.TheVariants.{BestWidth, BestWidths, Width}
-use Rattle.fl_encode.specs.Encodings.{HasDeltas, HasReference, HasReferences, HasRuns, IsEncodedAs, encode_refusal, one_reference_refusal, references_refusal, whole_delta, whole_window}
+use Rattle.fl_encode.specs.Encodings.{HasDeltas, HasReference, HasReferences, HasRuns, IsEncodedAs, encode_refusal, one_reference_refusal, references_refusal, runs_by, whole_delta, whole_window}
 use Rattle.fl_encode.specs.Packings.{IsPackedAs, constant_refusal, packing_refusal}
 use Rattle.fl_encode.specs.Shapes.{BitPacked, Constant, Delta, FoR, FoRChunked, Plain, Primitive, RLE, Shape}
 use Rattle.fl_serde.specs.ByteCounts.{primitive_bytes, tree_bytes, validity_bytes}
@@ -116,7 +116,7 @@ made_bytes (BitPacked packing) p t none is = packing_bytes packing p t none is
 made_bytes (FoR order encoded) p t none is = reference_bytes encoded (encode_global_by order p) t (λ q u n m. made_bytes encoded q u n m) none is
 made_bytes (FoRChunked order encoded references) p t none is = references_bytes encoded references (encode_chunked_by order p) t (λ q u n m. made_bytes encoded q u n m) (λ q u n m. made_bytes references q u n m) none is
 made_bytes (Delta bases deltas) p t none is = deltas_bytes bases deltas (compress_deltas p).0 (compress_deltas p).1 (whole_delta p) t (λ q u n m. made_bytes bases q u n m) (λ q u n m. made_bytes deltas q u n m) none is
-made_bytes (RLE values indices offsets) p t none is = runs_bytes values indices offsets (encode_runs p) (whole_window p) t (λ q u n m. made_bytes values q u n m) (λ q u n m. made_bytes indices q u n m) (λ q u n m. made_bytes offsets q u n m) none is
+made_bytes (RLE run_values values indices offsets) p t none is = runs_bytes values indices offsets (runs_by run_values p) (whole_window p) t (λ q u n m. made_bytes values q u n m) (λ q u n m. made_bytes indices q u n m) (λ q u n m. made_bytes offsets q u n m) none is
 
 -- a child that has bytes is not refused
 abbrev IsFree : Shape → Type 0
@@ -149,8 +149,8 @@ free_of_refusal (Delta bases deltas) p n e =
     let costs = costs_of first (both other own) n e in
     let rest = costs_of other own costs.other costs.is_other in
     neither (encode_refusal bases (compress_deltas p).0) (encode_refusal deltas (compress_deltas p).1) (free_of_refusal bases (compress_deltas p).0 costs.first costs.is_first) (free_of_refusal deltas (compress_deltas p).1 rest.first rest.is_first)
-free_of_refusal (RLE values indices offsets) p n e =
-    let runs = encode_runs p in
+free_of_refusal (RLE run_values values indices offsets) p n e =
+    let runs = runs_by run_values p in
     let others = both (encoded_bytes runs.indices indices) (encoded_bytes runs.offsets offsets) in
     let costs = costs_of (encoded_bytes runs.values values) others n e in
     let rest = costs_of (encoded_bytes runs.indices indices) (encoded_bytes runs.offsets offsets) costs.other costs.is_other in

@@ -11,7 +11,7 @@ use Rattle.fl_codec.specs.declared.for_.ItemOrder.TheVariants.{Natural, Signed}
 use Rattle.fl_codec.specs.Parts.{ByChunk, FoRParts, Nulls, OneReference, Whole, compress_deltas, encode_chunked_by, encode_global_by, encode_runs}
 use Rattle.fl_encode.specs.declared.scheme.Packing.TheVariants.{BestWidth, BestWidths, Width}
 use Rattle.fl_encode.specs.Encodings.{IsEncodedAs, encode_refusal}
-use Rattle.fl_encode.specs.Shapes.{BitPacked, Constant, Delta, FoR, FoRChunked, Plain, Primitive, RLE, Shape}
+use Rattle.fl_encode.specs.Shapes.{BitPacked, Constant, Delta, Dictionary, FoR, FoRChunked, Plain, Primitive, RLE, Runs, Shape}
 use Rattle.fl_serde.specs.ByteCounts.{primitive_bytes, tree_bytes, validity_bytes}
 use Rattle.fl_compress.specs.declared.statistics.DeltaSizes.{DeltaSizes}
 use Rattle.fl_compress.specs.declared.statistics.FramedSizes.{FramedSizes}
@@ -71,7 +71,7 @@ packed_exact p (BitPacked BestWidths) e = refl
 packed_exact p (FoR order encoded) e = cc
 packed_exact p (FoRChunked order encoded references) e = cc
 packed_exact p (Delta bases deltas) e = cc
-packed_exact p (RLE values indices offsets) e = cc
+packed_exact p (RLE run_values values indices offsets) e = cc
 
 reference_exact : (o : Result OneReference FastLanesError) (s : Shape) → is_packed s ≡ true → reference_size (reference_sizes o) s ≡ over_reference (λ q. encoded_bytes q s) o
 reference_exact (Ok parts) s e = packed_exact parts.child s e
@@ -96,7 +96,7 @@ framed_exact p (FoRChunked Natural encoded references) e = chunks_exact (encode_
 framed_exact p (FoR Signed encoded) e = reference_exact (encode_global_by Signed p) encoded e
 framed_exact p (FoRChunked Signed encoded references) e = chunks_exact (encode_chunked_by Signed p) encoded references e
 framed_exact p (Delta bases deltas) e = cc
-framed_exact p (RLE values indices offsets) e = cc
+framed_exact p (RLE run_values values indices offsets) e = cc
 
 delta_exact : (p : PrimitiveParts) (s : Shape) → is_delta s ≡ true → delta_size (delta_sizes p) s ≡ encoded_bytes p s
 unfolding encoded_bytes
@@ -109,7 +109,7 @@ delta_exact p (FoRChunked order encoded references) e = framed_exact p (FoRChunk
 delta_exact p (Delta bases deltas) e =
     both_same _ _ _ _ (framed_exact (compress_deltas p).0 bases (first_of (is_framed bases) (is_framed deltas) e))
     (both_same _ _ (Some (validity_bytes (length p.slots) p.validity)) _ (framed_exact (compress_deltas p).1 deltas (other_of (is_framed bases) (is_framed deltas) e)) refl)
-delta_exact p (RLE values indices offsets) e = cc
+delta_exact p (RLE run_values values indices offsets) e = cc
 
 pub candidate_exact : (p : PrimitiveParts) (s : Shape) → is_candidate s ≡ true → size_in (statistics_of p) s ≡ encoded_bytes p s
 unfolding encoded_bytes is_candidate statistics_of
@@ -120,7 +120,8 @@ candidate_exact p (BitPacked packing) e = delta_exact p (BitPacked packing) e
 candidate_exact p (FoR order encoded) e = delta_exact p (FoR order encoded) e
 candidate_exact p (FoRChunked order encoded references) e = delta_exact p (FoRChunked order encoded references) e
 candidate_exact p (Delta bases deltas) e = delta_exact p (Delta bases deltas) e
-candidate_exact p (RLE values indices offsets) e =
+candidate_exact p (RLE Dictionary values indices offsets) e = cc
+candidate_exact p (RLE Runs values indices offsets) e =
     let rest = other_of (is_delta values) (is_framed indices && is_framed offsets) e in
     both_same _ _ _ _ (delta_exact (encode_runs p).values values (first_of (is_delta values) (is_framed indices && is_framed offsets) e))
     (both_same _ _ _ _ (framed_exact (encode_runs p).indices indices (first_of (is_framed indices) (is_framed offsets) rest)) (framed_exact (encode_runs p).offsets offsets (other_of (is_framed indices) (is_framed offsets) rest)))
@@ -137,7 +138,7 @@ packed_some p (BitPacked BestWidths) n e = e
 packed_some p (FoR order encoded) n e = cc
 packed_some p (FoRChunked order encoded references) n e = cc
 packed_some p (Delta bases deltas) n e = cc
-packed_some p (RLE values indices offsets) n e = cc
+packed_some p (RLE run_values values indices offsets) n e = cc
 
 reference_some : (o : Result OneReference FastLanesError) (s : Shape) (n : ℕ) → reference_size (reference_sizes o) s ≡ Some n → over_reference (λ q. encoded_bytes q s) o ≡ Some n
 reference_some (Ok parts) s n e = packed_some parts.child s n e
@@ -164,7 +165,7 @@ framed_some p (FoRChunked Natural encoded references) n e = chunks_some (encode_
 framed_some p (FoR Signed encoded) n e = reference_some (encode_global_by Signed p) encoded n e
 framed_some p (FoRChunked Signed encoded references) n e = chunks_some (encode_chunked_by Signed p) encoded references n e
 framed_some p (Delta bases deltas) n e = cc
-framed_some p (RLE values indices offsets) n e = cc
+framed_some p (RLE run_values values indices offsets) n e = cc
 
 delta_some : (p : PrimitiveParts) (s : Shape) (n : ℕ) → delta_size (delta_sizes p) s ≡ Some n → encoded_bytes p s ≡ Some n
 unfolding encoded_bytes
@@ -177,7 +178,7 @@ delta_some p (FoRChunked order encoded references) n e = framed_some p (FoRChunk
 delta_some p (Delta bases deltas) n e =
     both_some _ _ _ _ n (λ m f. framed_some (compress_deltas p).0 bases m f)
     (λ m f. both_some _ (Some (validity_bytes (length p.slots) p.validity)) _ _ m (λ k g. framed_some (compress_deltas p).1 deltas k g) (λ k g. g) f) e
-delta_some p (RLE values indices offsets) n e = cc
+delta_some p (RLE run_values values indices offsets) n e = cc
 
 size_some : (p : PrimitiveParts) (s : Shape) (n : ℕ) → size_in (statistics_of p) s ≡ Some n → encoded_bytes p s ≡ Some n
 unfolding encoded_bytes statistics_of
@@ -188,7 +189,8 @@ size_some p (BitPacked packing) n e = delta_some p (BitPacked packing) n e
 size_some p (FoR order encoded) n e = delta_some p (FoR order encoded) n e
 size_some p (FoRChunked order encoded references) n e = delta_some p (FoRChunked order encoded references) n e
 size_some p (Delta bases deltas) n e = delta_some p (Delta bases deltas) n e
-size_some p (RLE values indices offsets) n e =
+size_some p (RLE Dictionary values indices offsets) n e = cc
+size_some p (RLE Runs values indices offsets) n e =
     both_some _ _ _ _ n (λ m f. delta_some (encode_runs p).values values m f)
     (λ m f. both_some _ _ _ _ m (λ k g. framed_some (encode_runs p).indices indices k g) (λ k g. framed_some (encode_runs p).offsets offsets k g) f) e
 

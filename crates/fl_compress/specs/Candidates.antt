@@ -3,7 +3,7 @@ use Rattle.std.specs.Prelude.{◌-◌, ◌&&◌, ℕ, Bool, true, List, [], ◌�
 use Rattle.fl_codec.specs.declared.for_.ItemOrder.{ItemOrder}
 use Rattle.fl_codec.specs.declared.for_.ItemOrder.TheVariants.{Natural, Signed}
 use Rattle.fl_encode.specs.declared.scheme.Packing.TheVariants.{BestWidth, BestWidths}
-use Rattle.fl_encode.specs.Shapes.{BitPacked, Constant, Delta, FoR, FoRChunked, Primitive, RLE, Shape}
+use Rattle.fl_encode.specs.Shapes.{BitPacked, Constant, Delta, FoR, FoRChunked, Primitive, RLE, Runs, Shape}
 use Rattle.fl_compress.specs.declared.limits.Limits.{Limits}
 
 -- these schemes, where they are allowed
@@ -45,7 +45,7 @@ delta_schemes limits depth = framed_schemes limits depth ++ where_allowed (has_l
 
 -- runs over each of these values, and each two of the others
 abbrev pub over_runs : List Shape → List Shape → List Shape
-over_runs values others = flat_map (λ v. flat_map (λ i. map (RLE v i) others) others) values
+over_runs values others = flat_map (λ v. flat_map (λ i. map (RLE Runs v i) others) others) values
 
 -- those, and runs whose values are deltas or framed, and whose other children are framed
 unfoldable pub candidates : Limits → List Shape

@@ -9,7 +9,7 @@ use Rattle.fl_codec.specs.declared.for_.ItemOrder.{ItemOrder}
 use Rattle.fl_codec.specs.FoRColumns.{chunk_references, common_reference, least_by, reading}
 use Rattle.fl_codec.specs.Parts.{compress_deltas, encode_runs, items_of_primitive}
 use Rattle.fl_encode.specs.SchemeShapes.{shape}
-use Rattle.fl_encode.specs.Shapes.{RLE, Shape}
+use Rattle.fl_encode.specs.Shapes.{RLE, Runs, Shape}
 use Rattle.fl_compress.specs.declared.choice.Choice.{Choice}
 use Rattle.fl_compress.specs.declared.parts.Part.{Part}
 use Rattle.fl_compress.specs.declared.parts.Part.TheVariants.{Deltas, Indices, Items}
@@ -48,7 +48,7 @@ two first other = (first, other)
 
 -- runs over run values, and run indices and run offsets
 abbrev pub runs_of : Shape → Shape × Shape → Shape
-runs_of values others = RLE values others.0 others.1
+runs_of values others = RLE Runs values others.0 others.1
 
 -- the cheapest of frames of reference of an order over these, or another choice
 abbrev pub or_frames : ItemOrder → PrimitiveParts → List Shape → Option (Shape × ℕ) → Option (Shape × ℕ)

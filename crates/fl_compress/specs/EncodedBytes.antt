@@ -6,11 +6,12 @@ use Rattle.fl_types.specs.declared.error.FastLanesError.{FastLanesError}
 use Rattle.fl_column.specs.Chunks.{chunk_count}
 use Rattle.fl_column.specs.Columns.{PrimitiveParts}
 use Rattle.fl_patches.specs.PatchParts.{blocked_patches, global_patches}
-use Rattle.fl_codec.specs.Parts.{ByChunk, FoRParts, Nulls, OneReference, Whole, compress_deltas, encode_chunked_by, encode_global_by, encode_runs}
+use Rattle.fl_codec.specs.Parts.{ByChunk, FoRParts, Nulls, OneReference, Whole, compress_deltas, encode_chunked_by, encode_global_by}
 use Rattle.fl_bitpacking.specs.Blocks.{boundary_array}
 use Rattle.fl_bitpacking.specs.Encoders.{best_width_of, best_widths_of}
 use Rattle.fl_encode.specs.declared.scheme.Packing.{Packing}
 use Rattle.fl_encode.specs.declared.scheme.Packing.TheVariants.{BestWidth, BestWidths, Width}
+use Rattle.fl_encode.specs.Encodings.{runs_by}
 use Rattle.fl_encode.specs.Packings.{constant_refusal, packing_refusal}
 use Rattle.fl_encode.specs.Shapes.{BitPacked, Constant, Delta, FoR, FoRChunked, Plain, Primitive, RLE, Shape}
 use Rattle.fl_serde.specs.ByteCounts.{patches_bytes, primitive_bytes, validity_bytes}
@@ -58,4 +59,4 @@ encoded_bytes p (BitPacked packing) = unless (packing_refusal packing p) (bytes_
 encoded_bytes p (FoR order encoded) = over_reference (λ q. encoded_bytes q encoded) (encode_global_by order p)
 encoded_bytes p (FoRChunked order encoded references) = over_references (λ q. encoded_bytes q encoded) (λ q. encoded_bytes q references) (encode_chunked_by order p)
 encoded_bytes p (Delta bases deltas) = both (encoded_bytes (compress_deltas p).0 bases) (both (encoded_bytes (compress_deltas p).1 deltas) (Some (validity_bytes (length p.slots) p.validity)))
-encoded_bytes p (RLE values indices offsets) = both (encoded_bytes (encode_runs p).values values) (both (encoded_bytes (encode_runs p).indices indices) (encoded_bytes (encode_runs p).offsets offsets))
+encoded_bytes p (RLE run_values values indices offsets) = both (encoded_bytes (runs_by run_values p).values values) (both (encoded_bytes (runs_by run_values p).indices indices) (encoded_bytes (runs_by run_values p).offsets offsets))

@@ -7,7 +7,7 @@ use Rattle.fl_codec.specs.declared.for_.ItemOrder.{ItemOrder}
 use Rattle.fl_codec.specs.declared.for_.ItemOrder.TheVariants.{Natural, Signed}
 use Rattle.fl_codec.specs.Parts.{ByChunk, FoRParts, Nulls, OneReference, Whole, compress_deltas, encode_chunked_by, encode_global_by, encode_runs}
 use Rattle.fl_encode.specs.declared.scheme.Packing.TheVariants.{BestWidth, BestWidths}
-use Rattle.fl_encode.specs.Shapes.{BitPacked, Constant, Delta, FoR, FoRChunked, Plain, Primitive, RLE, Shape}
+use Rattle.fl_encode.specs.Shapes.{BitPacked, Constant, Delta, FoR, FoRChunked, Plain, Primitive, RLE, Runs, Shape}
 use Rattle.fl_serde.specs.ByteCounts.{primitive_bytes, validity_bytes}
 use Rattle.fl_compress.specs.declared.statistics.ChunkSizes.{ChunkSizes}
 use Rattle.fl_compress.specs.declared.statistics.ChunkSizes.TheVariants as chunks
@@ -105,7 +105,7 @@ delta_size sizes other = framed_size sizes.framed other
 
 -- the bytes by a candidate, of an array's statistics, if it is not refused
 abbrev pub size_in : Statistics → Shape → Option ℕ
-size_in statistics (RLE values indices offsets) = both (delta_size statistics.values values) (both (framed_size statistics.indices indices) (framed_size statistics.offsets offsets))
+size_in statistics (RLE Runs values indices offsets) = both (delta_size statistics.values values) (both (framed_size statistics.indices indices) (framed_size statistics.offsets offsets))
 size_in statistics other = delta_size statistics.items other
 
 -- bytes as a number of 64 bits, the greatest one where there are more
@@ -135,5 +135,5 @@ is_delta other = is_framed other
 
 -- the scheme may be a candidate: it is packed, a frame of reference over packed ones, deltas over two of those, or runs over one of these and two without deltas
 unfoldable pub is_candidate : Shape → Bool
-is_candidate (RLE values indices offsets) = is_delta values && (is_framed indices && is_framed offsets)
+is_candidate (RLE Runs values indices offsets) = is_delta values && (is_framed indices && is_framed offsets)
 is_candidate other = is_delta other

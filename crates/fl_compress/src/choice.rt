@@ -111,7 +111,7 @@ pub(crate) fn over_runs(
     requires values { values.bytes < 2 ^ 68 }
     requires indices { indices.bytes < 2 ^ 68 }
     requires offsets { offsets.bytes < 2 ^ 68 }
-    ensures { Answers chosen result (Ok (Some (shapes.RLE (shape values.scheme) (shape indices.scheme) (shape offsets.scheme), values.bytes + (indices.bytes + offsets.bytes)))) }
+    ensures { Answers chosen result (Ok (Some (shapes.RLE shapes.Runs (shape values.scheme) (shape indices.scheme) (shape offsets.scheme), values.bytes + (indices.bytes + offsets.bytes)))) }
 {
     let bytes = values.bytes + (indices.bytes + offsets.bytes);
     let values = Child::new(alloc, values.scheme)?;

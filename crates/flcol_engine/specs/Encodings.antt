@@ -6,7 +6,7 @@ use Rattle.fl_codec.specs.declared.for_.ItemOrder.TheVariants.{Natural}
 use Rattle.fl_array.specs.Trees.{Tree}
 use Rattle.fl_encode.specs.declared.scheme.Packing.{Packing}
 use Rattle.fl_encode.specs.Encodings as schemes
-use Rattle.fl_encode.specs.Shapes.{BitPacked, Delta, FoR, FoRChunked, Plain, Primitive, RLE, Shape}
+use Rattle.fl_encode.specs.Shapes.{BitPacked, Delta, FoR, FoRChunked, Plain, Primitive, RLE, Runs, Shape}
 use Rattle.flcol_engine.specs.declared.commands.Encoding.{Encoding}
 use Rattle.flcol_engine.specs.declared.commands.Encoding.TheVariants as encodings
 
@@ -22,7 +22,7 @@ scheme_of (encodings.BitPacked packing) = BitPacked packing
 scheme_of (encodings.FoR packing) = FoR Natural (child_of packing)
 scheme_of (encodings.ChunkedFoR packing) = FoRChunked Natural (child_of packing) Plain
 scheme_of (encodings.Delta packing) = Delta Plain (child_of packing)
-scheme_of (encodings.RLE packing) = RLE Plain (child_of packing) Plain
+scheme_of (encodings.RLE packing) = RLE Runs Plain (child_of packing) Plain
 
 -- what encoding a primitive array answers: exactly the array of the encoding's parts, which has the same column, or the first refusal
 abbrev pub EncodesAs : Encoding → PrimitiveParts → Result Tree FastLanesError → Type 0
