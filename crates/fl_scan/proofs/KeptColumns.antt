@@ -1,10 +1,8 @@
 -- The items that a mask keeps.
-use Rattle.std.proofs.Common.{◌≡◌, ◌==◌, ◌&&◌, ℕ, ℤ, ◌<◌, ◌≤◌, ◌^◌, List, length, map, get_or, Bool, true, false, Option, Some, Result, Ok, Err, IsTrue, refl, ap, sym, ◌∙◌, arith}
+use Rattle.std.proofs.Common.{◌≡◌, ◌==◌, ◌&&◌, ℕ, ◌<◌, ◌≤◌, length, map, get_or, true, false, Some, Ok, Err, IsTrue, refl, ap, sym, ◌∙◌, arith}
 use Rattle.std.specs.Prelude.{if◌then◌else◌}
-use Rattle.std.specs.List.{list_all}
 use Rattle.std.proofs.Math.Path.{subst}
 use Rattle.std.proofs.lemmas.List.{length-map}
-use Rattle.fl_types.specs.declared.error.FastLanesError.{FastLanesError}
 use Rattle.fl_types.specs.declared.error.FastLanesError.TheVariants.{NotInteger}
 use Rattle.fl_types.specs.declared.mask.Mask.{Mask}
 use Rattle.fl_types.specs.declared.validity.Validity.{Validity}
@@ -21,7 +19,6 @@ use Rattle.fl_scan.proofs.BlockLaws.{length_integers}
 use Rattle.fl_scan.proofs.FinalLaws.{few_valid}
 use Rattle.fl_scan.proofs.MarkLaws.{kept_marked, kept_marks, marks_each, mask_long}
 use Rattle.fl_scan.proofs.SourceLaws.{read_integers, read_is}
-use Rattle.fl_scan.proofs.ValidLaws.{valid_all}
 
 -- the marks of a mask, where the array is read
 each_mark : (c : Column) (v marks : Validity) (m : Mask) → IsValidityOf v c → mask_len m ≡ length c.items → ((i : ℕ) → i < mask_len m → is_valid_at marks i ≡ (get_or (mask_bits m) i false && is_valid_at v i))

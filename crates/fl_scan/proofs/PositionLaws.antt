@@ -5,7 +5,7 @@ use Rattle.std.proofs.lemmas.Bool.{cases_lt}
 use Rattle.std.proofs.lemmas.List.{append-nil, drop-drop, drop_all, get_or-drop, get_or-take, get_or_past}
 use Rattle.std.proofs.lemmas.List.FromFn.{get_or-map-range_with_len, get_or-range_with_len, length-map-range_with_len, length-range_with_len}
 use Rattle.fl_types.specs.Bits.{bit_of_word, kept, tabulate}
-use Rattle.fl_types.proofs.KeptLaws.{kept_none, kept_nothing, kept_split}
+use Rattle.fl_types.proofs.KeptLaws.{kept_none, kept_split}
 use Rattle.fl_column.proofs.FilterLaws.{item_there}
 use Rattle.fl_scan.specs.Indices.{positions_of}
 

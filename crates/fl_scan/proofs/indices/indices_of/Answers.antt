@@ -1,7 +1,4 @@
-use Rattle.std.proofs.Common.{◌≡◌, ◌*◌, ◌<◌, ◌≤◌, ◌^◌, ap, length, arith, map, pos, rules}
-use Rattle.std.specs.Prelude.{Ok}
-use Rattle.fl_types.specs.declared.dtype.PType.TheVariants.{U64}
-use Rattle.fl_column.specs.Columns.{non_nullable}
+use Rattle.std.proofs.Common.{◌*◌, ◌<◌, ◌^◌, arith, rules}
 use Rattle.fl_scan.proofs.PositionLaws.{bit_inside, positions_all, positions_more}
 use Rattle.fl_scan.proofs.indices.indices_of.Goals as goal
 

@@ -1,4 +1,4 @@
-use Rattle.std.proofs.Common.{◌≡◌, [], ap, ◌*◌, ◌+◌, ◌-◌, ◌<◌, ◌≤◌, arith, bit_and, length, min}
+use Rattle.std.proofs.Common.{◌≡◌, [], ap, ◌*◌, ◌+◌, arith, bit_and, length, min}
 use Rattle.fl_scan.proofs.MarkLaws.{both_more, length_more}
 use Rattle.fl_scan.proofs.marks.both_true.Goals as goal
 

@@ -1,6 +1,5 @@
-use Rattle.std.proofs.Common.{◌≡◌, ◌≤◌, ap, arith, length}
+use Rattle.std.proofs.Common.{ap, arith, length}
 use Rattle.fl_column.specs.Columns.{Column}
-use Rattle.fl_scan.specs.Blocks.{marked_column}
 use Rattle.fl_scan.proofs.KeptColumns.{marked_few}
 use Rattle.fl_scan.proofs.kept.Kept.prove_few.Goals as goal
 
