@@ -12,7 +12,7 @@ use Rattle.fl_types.specs.Integers.{fits, is_unsigned, wrap}
 use Rattle.fl_column.specs.Columns.{Column, option_all}
 use Rattle.fl_scan.specs.Totals.{count_of, sum_of, total, valid_items}
 
-few_valid : (items : List (Option ℤ)) → length (filter_map (λ o. o) items) ≤ length items
+pub few_valid : (items : List (Option ℤ)) → length (filter_map (λ o. o) items) ≤ length items
 few_valid [] = omega arith
 few_valid (None ∷ items) = let rest = few_valid items in omega arith
 few_valid (Some z ∷ items) = let rest = few_valid items in omega arith

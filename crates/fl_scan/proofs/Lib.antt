@@ -1,9 +1,14 @@
 pub mod BlockLaws
 pub mod FinalLaws
 pub mod GatherSteps
+pub mod KeptAnswers
+pub mod KeptColumns
 pub mod LawProofs
+pub mod MarkLaws
 pub mod MaskLaws
 pub mod NullLaws
+pub mod PositionLaws
+pub mod SearchLaws
 pub mod SourceLaws
 pub mod StepLaws
 pub mod ValidLaws

@@ -1,5 +1,5 @@
 -- What is gathered of a column block by block.
-use Rattle.std.specs.Prelude.{◌≡◌, ◌+◌, ◌-◌, ◌*◌, ◌<◌, ℕ, ℤ, List, IsTrue, None, true, filter_map, is_some, length, min, slice_index_or}
+use Rattle.std.specs.Prelude.{◌≡◌, ◌+◌, ◌-◌, ◌*◌, ◌<◌, ℕ, ℤ, List, IsTrue, None, true, Some, filter_map, is_some, length, map, min, slice_index_or}
 use Rattle.fl_types.specs.declared.validity.Validity.{Validity}
 use Rattle.fl_types.specs.Bits.{between}
 use Rattle.fl_types.specs.Validities.{covers, is_valid_at, items_of}
@@ -14,6 +14,10 @@ pub record Marks (validity : Validity) (c : Column) : Type 0 where
 -- the integers of the marked items, in order
 abbrev pub marked_items : Validity → Column → List ℤ
 marked_items validity c = filter_map (λ item. item) (items_of validity (integers_in c))
+
+-- the column of the marked items
+abbrev pub marked_column : Validity → Column → Column
+marked_column validity c = record { dtype = c.dtype; items = map (λ z. Some z) (marked_items validity c) }
 
 -- how many items stand before block j
 abbrev pub items_before : Prepared → ℕ → ℕ

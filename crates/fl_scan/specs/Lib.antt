@@ -3,6 +3,7 @@ pub mod Constants
 pub mod CountLaws
 pub mod ExtremeLaws
 pub mod GatherLaws
+pub mod Indices
 pub mod Sources
 pub mod TotalLaws
 pub mod Sums

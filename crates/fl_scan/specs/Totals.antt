@@ -1,12 +1,15 @@
 -- What is asked of a column of integers as a whole.
-use Rattle.std.specs.Prelude.{◌+ℤ◌, ℕ, ℤ, pos, Bool, false, List, [], ◌∷◌, Option, None, Some, Result, Ok, Err, count_by, filter, filter_map, is_none, map, if◌then◌else◌}
+use Rattle.std.specs.Prelude.{◌+ℤ◌, ◌==◌, ℕ, ℤ, pos, Bool, false, List, [], ◌∷◌, Option, None, Some, Result, Ok, Err, count_by, filter, filter_map, is_none, length, map, not, if◌then◌else◌}
 use Rattle.std.specs.Int.{int_max, int_min}
 use Rattle.std.specs.List.{reduce}
 use Rattle.std.specs.Ordering.{int_eq}
 use Rattle.fl_types.specs.declared.error.FastLanesError.{FastLanesError}
-use Rattle.fl_types.specs.declared.error.FastLanesError.TheVariants.{NotInteger}
+use Rattle.fl_types.specs.declared.error.FastLanesError.TheVariants.{MaskLength, NotInteger}
+use Rattle.fl_types.specs.declared.mask.Mask.{Mask}
+use Rattle.fl_types.specs.Masks.{mask_len}
 use Rattle.fl_types.specs.Types.{is_integer}
 use Rattle.fl_column.specs.Columns.{Column}
+use Rattle.fl_column.specs.Operations.{filter_of}
 
 -- the items that are not null, in order
 abbrev pub valid_items : Column → List ℤ
@@ -40,6 +43,14 @@ greatest_item c = reduce int_max (valid_items c)
 -- the answer where the column is of integers, or why there is none
 abbrev pub of_integers : {A : Type 0} → Column → A → Result A FastLanesError
 of_integers c answer = if is_integer c.dtype then Ok answer else Err NotInteger
+
+-- the answer for the items that a mask keeps, or why there is none
+abbrev pub of_kept : {A : Type 0} → Mask → Column → (Column → A) → Result A FastLanesError
+of_kept mask c answer = if not (mask_len mask == length c.items) then Err MaskLength else of_integers c (answer (filter_of mask c))
+
+-- the column of the valid items
+abbrev pub valid_column : Column → Column
+valid_column c = record { dtype = c.dtype; items = map (λ z. Some z) (valid_items c) }
 
 -- the column of the valid items that pass a test
 abbrev pub filtered_by : (ℤ → Bool) → Column → Column

@@ -4,15 +4,21 @@
 mod arrays;
 mod blocks;
 mod folds;
+pub mod indices;
+mod kept;
 pub mod laws;
+mod marks;
 mod plain;
 mod prepared;
 pub mod queries;
+pub mod selections;
 mod source;
 pub mod sums;
 mod totals;
 
+pub use crate::indices::indices_of;
 pub use crate::queries::{
     count, count_between, filter_between, filter_by, min_max, null_count, sum,
 };
+pub use crate::selections::count_under;
 pub use crate::sums::Sum;

@@ -25,7 +25,7 @@ use fl_types::match_each_integer_ptype;
 use std::alloc::Global;
 
 /// The integer of a constant of the array's type.
-fn integer_for(array: &ArrayRef, constant: &Scalar) -> PValue
+pub(crate) fn integer_for(array: &ArrayRef, constant: &Scalar) -> PValue
     requires integers { IsTrue (is_integer (column array.now).dtype) }
     requires comparable { IsTrue (is_comparable (column array.now) (scalar_parts constant.now)) }
     ensures value { integer_of result ≡ integer_in (scalar_parts constant.now) }

@@ -1,12 +1,13 @@
 //! What is scanned: the integers of an array where they are, or read of it.
 
-ghost use Rattle.std.specs.Prelude.{◌≡◌, IfErr, IsTrue, OnOk, length};
+ghost use Rattle.std.specs.Prelude.{◌≡◌, ◌<◌, ◌^◌, IfErr, IsTrue, OnOk, length};
 ghost use Rattle.fl_types.specs.declared.error.FastLanesError.TheVariants.{OutOfMemory};
 ghost use Rattle.fl_types.specs.Types.{has_ptype};
 ghost use Rattle.fl_scan.specs.Sources.{column_of_source};
 ghost use Rattle.fl_scan.specs.Totals.{valid_items};
 
 use crate::folds::Fold;
+use crate::kept::Kept;
 use crate::plain::{add_constant, add_plain};
 use crate::prepared::Blocks;
 use fl_bitpacking::unpack_iter::BitPacked;
@@ -22,20 +23,31 @@ pub(crate) enum Source<'a> {
     Constant(&'a ConstantArray),
     /// Integers that are read block by block.
     Blocks(Blocks<'a>),
+    /// The items that a mask keeps, which are read block by block.
+    Kept(Kept<'a>),
     /// Decoded integers.
     Decoded(PrimitiveArray),
 }
 
 impl Source<'_> {
-    /// The number of items.
-    pub(crate) fn len(&self) -> usize
-        ensures { result ≡ length (column_of_source self.now).items }
+    /// There are fewer than 2^64 items.
+    pub(crate) fn prove_few(&self)
+        ensures { length (column_of_source self.now).items < 2 ^ 64 }
     {
         match self {
-            Source::Primitive(plain) => plain.len(),
-            Source::Constant(constant) => constant.len(),
-            Source::Blocks(blocks) => blocks.len(),
-            Source::Decoded(plain) => plain.len(),
+            Source::Primitive(plain) => {
+                let _len = plain.len();
+            }
+            Source::Decoded(plain) => {
+                let _len = plain.len();
+            }
+            Source::Constant(constant) => {
+                let _len = constant.len();
+            }
+            Source::Blocks(blocks) => {
+                let _len = blocks.len();
+            }
+            Source::Kept(kept) => kept.prove_few(),
         }
     }
 
@@ -52,6 +64,7 @@ impl Source<'_> {
             Source::Primitive(plain) => add_plain(fold, plain),
             Source::Constant(constant) => add_constant(fold, constant),
             Source::Blocks(blocks) => blocks.add_valid(fold),
+            Source::Kept(kept) => kept.add(fold),
             Source::Decoded(plain) => add_plain(fold, plain),
         }
     }

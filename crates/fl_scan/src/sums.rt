@@ -42,8 +42,7 @@ pub(crate) fn sum_typed(source: &Source, ptype: PType) -> Result<Sum, FastLanesE
     ensures sum { Answers integer_of_sum result (Ok (sum_of (column_of_source source.now))) }
     ensures typed { IfOk result (λ sum. is_unsigned_sum sum ≡ is_unsigned ptype) }
 {
-    // For the proof: there are fewer than 2^64 items.
-    let _len = source.len();
+    source.prove_few();
     let sum = wrapped(source, ptype)?;
     match ptype {
         PType::U8 | PType::U16 | PType::U32 | PType::U64 => Ok(Sum::Unsigned(sum.cast_unsigned())),

@@ -60,8 +60,7 @@ fn count_passing<T: BitPacked + PhysicalPType + WrappingAdd, P: ItemTest<T>>(
     requires { IsTrue (has_ptype T.PTYPE (column_of_source source.now).dtype) }
     ensures { Answers (λ n. n) result (Ok (count_of (P.passing test) (column_of_source source.now))) }
 {
-    // For the proof: there are fewer than 2^64 items.
-    let _len = source.len();
+    source.prove_few();
     let mut fold = Count::new(test);
     source.scan(&mut fold)?;
     Ok(fold.count())

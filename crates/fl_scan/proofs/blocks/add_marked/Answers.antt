@@ -1,4 +1,3 @@
-use Rattle.std.proofs.Common.{◌≡◌, sym}
 use Rattle.std.proofs.Math.Path.{subst}
 use Rattle.std.specs.Prelude.{OnOk}
 use Rattle.fl_types.specs.declared.validity.Validity.{Validity}

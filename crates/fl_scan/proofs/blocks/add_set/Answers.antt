@@ -1,4 +1,4 @@
-use Rattle.std.proofs.Common.{◌≡◌, ◌+◌, ◌≤◌, ◌∙◌, length, arith, sym, take}
+use Rattle.std.proofs.Common.{◌≡◌, ◌+◌, ◌≤◌, length, arith, sym, take}
 use Rattle.std.proofs.Math.Path.{subst}
 use Rattle.fl_types.specs.Bits.{kept}
 use Rattle.fl_column.specs.Columns.{integers_in}

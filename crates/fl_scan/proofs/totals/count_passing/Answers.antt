@@ -10,7 +10,7 @@ returns g c =
     let passing = g.P.ItemTest.passing in
     let col = column_of_source c.args.source.now in
     let gathered = c.in_ok-scan.ensures.gathered in
-    let few : length col.items < 2 ^ 64 = let len = c.len-len.ensures in search rules in
+    let few : length col.items < 2 ^ 64 = c.prove_few.ensures in
     let counted : c.count.result ≡ c.scan.new.fold.count = c.count.ensures in
     let small : c.count.result < 2 ^ 64 = search rules in
     let start : min (c.new-fold.result.count + count_by (passing c.new-fold.result.test) (valid_items col)) 18446744073709551615 ≡ min (0 + count_by (passing c.args.test) (valid_items col)) 18446744073709551615 =

@@ -1,0 +1,81 @@
+//! What is asked of the items of an array that a mask keeps. A block without one is not read.
+
+ghost use Rattle.std.specs.Prelude.{◌≡◌, IfOk, IsTrue, Ok, length};
+ghost use Rattle.fl_types.specs.Masks.{mask_len};
+ghost use Rattle.fl_types.specs.Refusals.{Answers};
+ghost use Rattle.fl_types.specs.Types.{has_ptype};
+ghost use Rattle.fl_types.specs.Values.{integer_of, ptype_of_value, scalar_parts};
+ghost use Rattle.fl_column.specs.Operations.{filter_of};
+ghost use Rattle.fl_column.specs.Queries.{holds};
+ghost use Rattle.fl_array.specs.Trees.{column};
+ghost use Rattle.fl_scan.specs.Constants.{integer_in, is_comparable};
+ghost use Rattle.fl_scan.specs.Sources.{column_of_source};
+ghost use Rattle.fl_scan.specs.Totals.{count_of, of_integers, of_kept, valid_items};
+
+use crate::blocks::MOST_ITEMS;
+use crate::kept::Kept;
+use crate::queries::integer_for;
+use crate::source::Source;
+use crate::totals::count_compared;
+use fl_array::ArrayRef;
+use fl_column::{CompareOperator, DType, FastLanesError, Mask, PType, PValue, Scalar};
+use fl_types::match_each_integer_ptype;
+use std::alloc::Global;
+
+/// What is scanned of the items of an array that a mask keeps.
+fn source_under<'a>(
+    alloc: Global,
+    array: &'a ArrayRef,
+    mask: &Mask,
+) -> Result<Source<'a>, FastLanesError>
+    requires { mask_len mask.now ≡ length (column array.now).items }
+    ensures items { Answers (λ s. valid_items (column_of_source s)) result (of_integers (column array.now) (valid_items (filter_of mask.now (column array.now)))) }
+    ensures typed { IfOk result (λ s. (column_of_source s).dtype ≡ (column array.now).dtype) }
+{
+    if array.len() <= MOST_ITEMS {
+        let kept = Kept::try_new(alloc, array, mask)?;
+        return Ok(Source::Kept(kept));
+    }
+    let plain = array.to_primitive(alloc)?;
+    Ok(Source::Decoded(plain.filter(alloc, mask)?))
+}
+
+/// How many valid items compare so with a constant.
+fn count_typed(
+    source: &Source,
+    ptype: PType,
+    operator: CompareOperator,
+    constant: PValue,
+) -> Result<usize, FastLanesError>
+    requires typed { IsTrue (has_ptype ptype (column_of_source source.now).dtype) }
+    requires constant { ptype_of_value constant ≡ ptype }
+    ensures { Answers (λ n. n) result (Ok (count_of (holds operator (integer_of constant)) (column_of_source source.now))) }
+{
+    match_each_integer_ptype!(ptype, count_compared(source, operator, constant))
+}
+
+/// How many of the items that a mask keeps compare so with a constant of the array's type that is not null; a null does
+/// not.
+///
+/// # Errors
+/// `MaskLength` if the mask is for another number of items, then `NotInteger`.
+pub fn count_under(
+    alloc: Global,
+    array: &ArrayRef,
+    mask: &Mask,
+    operator: CompareOperator,
+    constant: &Scalar,
+) -> Result<usize, FastLanesError>
+    requires { IsTrue (is_comparable (column array.now) (scalar_parts constant.now)) }
+    ensures { Answers (λ n. n) result (of_kept mask.now (column array.now) (count_of (holds operator (integer_in (scalar_parts constant.now))))) }
+{
+    if mask.len() != array.len() {
+        return Err(FastLanesError::MaskLength);
+    }
+    let DType::Primitive(ptype, _) = array.dtype() else {
+        return Err(FastLanesError::NotInteger);
+    };
+    let value = integer_for(array, constant);
+    let source = source_under(alloc, array, mask)?;
+    count_typed(&source, ptype, operator, value)
+}
