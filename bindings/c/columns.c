@@ -103,6 +103,7 @@ static void schemes(void) {
     says(&array, "for(bitpacked:3)", "for(bitpacked:3)"), says(&array, "for(blocked)", "for(blocked)");
     says(&array, "delta(for(bitpacked:3),_)", "delta(for(bitpacked:3),_)"), says(&array, "delta(_,primitive)", "delta");
     says(&array, "rle(for(bitpacked:3),bitpacked:1,_)", "rle(for(bitpacked:3),bitpacked:1,_)");
+    says(&array, "dict(for(bitpacked:3),bitpacked:1,_)", "rle(for(bitpacked:3),bitpacked:1,_)"), says(&array, "dict", "rle");
     CHECK(flcol_from_i32(items + 1, 3, NULL, 0, &array) == FLCOL_OK);
     says(&array, "constant", "constant"), says(&array, "bitpacked:2", "bitpacked:2"), says(&array, "bitpacked:0", "bitpacked:0");
     CHECK(flcol_from_i32(items, 4, none, 1, &array) == FLCOL_OK);

@@ -6,7 +6,7 @@ import flcol
 TYPES = ("uint8", "uint16", "uint32", "uint64", "int8", "int16", "int32", "int64")
 SCHEMES = (
     "primitive", "bitpacked", "blocked", "for", "for(bitpacked)", "forc", "forc(blocked,_)", "forc(delta,_)", "forc(rle,for)",
-    "delta", "delta(for(bitpacked),_)", "rle", "rle(for(bitpacked),bitpacked,_)",
+    "delta", "delta(for(bitpacked),_)", "rle", "rle(for(bitpacked),bitpacked,_)", "dict(for(bitpacked),bitpacked,_)",
 )  # fmt: skip
 LENGTHS = (0, 1, 7, 1023, 1024, 1025, 3000)
 

@@ -173,6 +173,7 @@ class Whole(unittest.TestCase):
         for scheme, shown in (
             ("primitive", "primitive"), ("forc", "for"), ("forw", "for"), ("for(bitpacked:3)", "for(bitpacked:3)"),
             ("delta(for(bitpacked:3),_)", "delta(for(bitpacked:3),_)"), ("rle(for,bitpacked:1,_)", "rle(for,bitpacked:1,_)"),
+            ("dict", "rle"), ("dict(for,bitpacked:1,_)", "rle(for,bitpacked:1,_)"),
         ):  # fmt: skip
             self.assertEqual(plain.encode(scheme).scheme, shown)
         booleans = flcol.frombytes(b"FLC1\x0bvortex.bool\x08\x03" + bytes(11) + b"\x01\x01" + bytes(7) + b"\x05\x00")

@@ -4,7 +4,8 @@ use flcol::{Array, Error};
 use std::thread;
 
 /// Encodings with what stands behind their first child.
-const WORDS: [(&str, &str); 4] = [("for", ")"), ("forc", ",_)"), ("delta", ",_)"), ("rle", ",_,_)")];
+const WORDS: [(&str, &str); 5] =
+    [("for", ")"), ("forc", ",_)"), ("delta", ",_)"), ("rle", ",_,_)"), ("dict", ",_,_)")];
 
 /// So many words in one another.
 fn nested((word, rest): (&str, &str), words: usize) -> String {

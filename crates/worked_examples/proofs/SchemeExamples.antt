@@ -12,7 +12,7 @@ use Rattle.fl_array.specs.Trees as tree
 use Rattle.fl_encode.specs.declared.scheme.Packing.TheVariants.{BestWidth, BestWidths, Width}
 use Rattle.fl_encode.specs.Encodings.{EncodesAs, encode_refusal}
 use Rattle.fl_encode.specs.Packings.{constant_of}
-use Rattle.fl_encode.specs.Shapes.{BitPacked, Constant, Delta, FoR, FoRChunked, Plain, RLE, scheme_text}
+use Rattle.fl_encode.specs.Shapes.{BitPacked, Constant, Delta, FoR, FoRChunked, Plain, RLE, Runs, scheme_text}
 use Rattle.fl_encode.specs.Texts.{scheme_of_text}
 
 -- ---- refusals
@@ -58,7 +58,7 @@ frame_of_negatives : EncodesAs (FoR Natural Plain) (non_nullable I8 (negsuc 4 �
 frame_of_negatives = record { refused = tt; form = (tree.Primitive (non_nullable I8 (pos 0 ∷ pos 1 ∷ pos 3 ∷ [])), refl, refl); stands_for = refl }
 
 -- ---- text
-nested_text : scheme_of_text (codes "rle(for(bitpacked),bitpacked:07,delta)") ≡ Ok (RLE (FoR Natural (BitPacked BestWidth)) (BitPacked (Width 7)) (Delta Plain Plain))
+nested_text : scheme_of_text (codes "rle(for(bitpacked),bitpacked:07,delta)") ≡ Ok (RLE Runs (FoR Natural (BitPacked BestWidth)) (BitPacked (Width 7)) (Delta Plain Plain))
 nested_text = refl
 
 some_plain : scheme_of_text (codes "delta(_,forc(blocked,_))") ≡ Ok (Delta Plain (FoRChunked Natural (BitPacked BestWidths) Plain))
