@@ -12,7 +12,7 @@ use Rattle.fl_array.specs.Trees as tree
 use Rattle.fl_encode.specs.declared.scheme.Packing.TheVariants.{BestWidth, BestWidths, Width}
 use Rattle.fl_encode.specs.Encodings.{EncodesAs, encode_refusal}
 use Rattle.fl_encode.specs.Packings.{constant_of}
-use Rattle.fl_encode.specs.Shapes.{BitPacked, Constant, Delta, Dictionary, FoR, FoRChunked, Plain, RLE, Runs, scheme_text}
+use Rattle.fl_encode.specs.Shapes.{BitPacked, Constant, Delta, FoR, FoRChunked, Plain, RLE, Runs, scheme_text}
 use Rattle.fl_encode.specs.Texts.{scheme_of_text}
 
 -- ---- refusals
@@ -61,12 +61,6 @@ frame_of_negatives = record { refused = tt; form = (tree.Primitive (non_nullable
 nested_text : scheme_of_text (codes "rle(for(bitpacked),bitpacked:07,delta)") ≡ Ok (RLE Runs (FoR Natural (BitPacked BestWidth)) (BitPacked (Width 7)) (Delta Plain Plain))
 nested_text = refl
 
-dictionary_text : scheme_of_text (codes "dict(for(bitpacked),bitpacked,_)") ≡ Ok (RLE Dictionary (FoR Natural (BitPacked BestWidth)) (BitPacked BestWidth) Plain)
-dictionary_text = refl
-
-printed_dictionary : scheme_text (RLE Dictionary Plain Plain Plain) ≡ codes "dict"
-printed_dictionary = refl
-
 some_plain : scheme_of_text (codes "delta(_,forc(blocked,_))") ≡ Ok (Delta Plain (FoRChunked Natural (BitPacked BestWidths) Plain))
 some_plain = refl
 
@@ -76,10 +70,6 @@ printed_text = refl
 -- the text ends inside of a word
 cut_word : scheme_of_text (codes "fo") ≡ Err 2
 cut_word = refl
-
--- an x that no word has there
-wrong_letter : scheme_of_text (codes "dixt") ≡ Err 2
-wrong_letter = refl
 
 -- an x in place of a parenthesis, a comma or the end
 wrong_behind : scheme_of_text (codes "forx") ≡ Err 3
