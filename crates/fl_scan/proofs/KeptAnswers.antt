@@ -35,3 +35,14 @@ kept_valid c x k e = each (is_integer c.dtype) e
     each : (b : Bool) → (if b then Ok (valid_column x) else Err NotInteger) ≡ Ok k → (if b then Ok (valid_items x) else Err NotInteger) ≡ Ok (valid_items k)
     each true e = let same : valid_column x ≡ k = cc in ap (λ zs. Ok zs) (sym (valid_all (valid_items x)) ∙ ap valid_items same)
     each false e = cc
+
+-- the integers fit where the valid items do
+all_there : (p : ℤ → Bool) (items : List (Option ℤ)) → list_all (option_all p) items ≡ list_all p (filter_map (λ o. o) items)
+all_there p [] = refl
+all_there p (None ∷ items) = all_there p items
+all_there p (Some z ∷ items) = ap (λ b. p z && b) (all_there p items)
+
+pub all_fit_under : (p : ℤ → Bool) (m : Mask) (c s : Column) → is_integer c.dtype ≡ true → of_integers c (valid_items (filter_of m c)) ≡ Ok (valid_items s) → list_all (option_all p) c.items ≡ true → list_all (option_all p) s.items ≡ true
+all_fit_under p m c s typed same fit =
+    let items : valid_items (filter_of m c) ≡ valid_items s = integers_are c (valid_items (filter_of m c)) (valid_items s) typed same in
+    all_there p s.items ∙ (ap (list_all p) (sym items) ∙ (sym (all_there p (filter_of m c).items) ∙ all_kept (option_all p) (mask_bits m) c.items fit))

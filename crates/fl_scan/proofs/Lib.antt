@@ -1,4 +1,5 @@
 pub mod BlockLaws
+pub mod BoundLaws
 pub mod FinalLaws
 pub mod GatherSteps
 pub mod KeptAnswers
@@ -6,6 +7,7 @@ pub mod KeptColumns
 pub mod LawProofs
 pub mod MarkLaws
 pub mod MaskLaws
+pub mod MembershipLaws
 pub mod NullLaws
 pub mod PositionLaws
 pub mod SearchLaws

@@ -1,9 +1,11 @@
 pub mod Blocks
+pub mod Bounds
 pub mod Constants
 pub mod CountLaws
 pub mod ExtremeLaws
 pub mod GatherLaws
 pub mod Indices
+pub mod Membership
 pub mod Sources
 pub mod TotalLaws
 pub mod Sums

@@ -3,6 +3,7 @@
 pub(crate) mod count;
 pub(crate) mod extremes;
 pub(crate) mod gather;
+pub(crate) mod one_of;
 pub(crate) mod tests;
 pub(crate) mod total;
 

@@ -3,14 +3,17 @@
 
 mod arrays;
 mod blocks;
+mod bounds;
 mod folds;
 pub mod indices;
 mod kept;
 pub mod laws;
 mod marks;
+mod membership;
 mod plain;
 mod prepared;
 pub mod queries;
+pub mod searches;
 pub mod selections;
 mod source;
 pub mod sums;
@@ -20,5 +23,6 @@ pub use crate::indices::indices_of;
 pub use crate::queries::{
     count, count_between, filter_between, filter_by, min_max, null_count, sum,
 };
-pub use crate::selections::count_under;
+pub use crate::searches::{is_in, lower_bound};
+pub use crate::selections::{count_under, min_max_under, sum_under};
 pub use crate::sums::Sum;

@@ -1,23 +1,28 @@
 //! What is asked of the items of an array that a mask keeps. A block without one is not read.
 
-ghost use Rattle.std.specs.Prelude.{◌≡◌, IfOk, IsTrue, Ok, length};
+ghost use Rattle.std.specs.Prelude.{◌≡◌, IfOk, IfSome, IsTrue, Ok, length, option_map};
+ghost use Rattle.fl_types.specs.Integers.{is_unsigned};
 ghost use Rattle.fl_types.specs.Masks.{mask_len};
 ghost use Rattle.fl_types.specs.Refusals.{Answers};
 ghost use Rattle.fl_types.specs.Types.{has_ptype};
 ghost use Rattle.fl_types.specs.Values.{integer_of, ptype_of_value, scalar_parts};
+ghost use Rattle.fl_column.specs.Columns.{ptype_of_column};
 ghost use Rattle.fl_column.specs.Operations.{filter_of};
 ghost use Rattle.fl_column.specs.Queries.{holds};
 ghost use Rattle.fl_array.specs.Trees.{column};
 ghost use Rattle.fl_scan.specs.Constants.{integer_in, is_comparable};
 ghost use Rattle.fl_scan.specs.Sources.{column_of_source};
-ghost use Rattle.fl_scan.specs.Totals.{count_of, of_integers, of_kept, valid_items};
+ghost use Rattle.fl_scan.specs.Sums.{integer_of_sum, is_unsigned_sum};
+ghost use Rattle.fl_scan.specs.Totals.{count_of, greatest_item, least_item, of_integers, of_kept, sum_of, valid_items};
 
 use crate::blocks::MOST_ITEMS;
 use crate::kept::Kept;
 use crate::queries::integer_for;
 use crate::source::Source;
-use crate::totals::count_compared;
+use crate::sums::{Sum, sum_typed};
+use crate::totals::{count_compared, extremes};
 use fl_array::ArrayRef;
+use fl_array::laws::items_are_in_range;
 use fl_column::{CompareOperator, DType, FastLanesError, Mask, PType, PValue, Scalar};
 use fl_types::match_each_integer_ptype;
 use std::alloc::Global;
@@ -54,6 +59,16 @@ fn count_typed(
     match_each_integer_ptype!(ptype, count_compared(source, operator, constant))
 }
 
+/// The least and the greatest valid item, if one is valid.
+fn extremes_typed(source: &Source, ptype: PType) -> Result<Option<(PValue, PValue)>, FastLanesError>
+    requires { IsTrue (has_ptype ptype (column_of_source source.now).dtype) }
+    ensures least { Answers (option_map (λ p. integer_of p.0)) result (Ok (least_item (column_of_source source.now))) }
+    ensures greatest { Answers (option_map (λ p. integer_of p.1)) result (Ok (greatest_item (column_of_source source.now))) }
+    ensures typed { IfOk result (λ o. IfSome o (λ p. (ptype_of_value p.0 ≡ ptype) × (ptype_of_value p.1 ≡ ptype))) }
+{
+    match_each_integer_ptype!(ptype, extremes(source))
+}
+
 /// How many of the items that a mask keeps compare so with a constant of the array's type that is not null; a null does
 /// not.
 ///
@@ -78,4 +93,46 @@ pub fn count_under(
     let value = integer_for(array, constant);
     let source = source_under(alloc, array, mask)?;
     count_typed(&source, ptype, operator, value)
+}
+
+/// The least and the greatest valid item that a mask keeps, or `None` if there is none.
+///
+/// # Errors
+/// Those of `count_under`.
+pub fn min_max_under(
+    alloc: Global,
+    array: &ArrayRef,
+    mask: &Mask,
+) -> Result<Option<(PValue, PValue)>, FastLanesError>
+    ensures least { Answers (option_map (λ p. integer_of p.0)) result (of_kept mask.now (column array.now) least_item) }
+    ensures greatest { Answers (option_map (λ p. integer_of p.1)) result (of_kept mask.now (column array.now) greatest_item) }
+    ensures typed { IfOk result (λ o. IfSome o (λ p. IsTrue (has_ptype (ptype_of_value p.0) (column array.now).dtype) × IsTrue (has_ptype (ptype_of_value p.1) (column array.now).dtype))) }
+{
+    if mask.len() != array.len() {
+        return Err(FastLanesError::MaskLength);
+    }
+    let DType::Primitive(ptype, _) = array.dtype() else {
+        return Err(FastLanesError::NotInteger);
+    };
+    let source = source_under(alloc, array, mask)?;
+    extremes_typed(&source, ptype)
+}
+
+/// The exact sum of the valid items that a mask keeps, which is 0 if there is none.
+///
+/// # Errors
+/// Those of `count_under`.
+pub fn sum_under(alloc: Global, array: &ArrayRef, mask: &Mask) -> Result<Sum, FastLanesError>
+    ensures sum { Answers integer_of_sum result (of_kept mask.now (column array.now) sum_of) }
+    ensures typed { IfOk result (λ s. is_unsigned_sum s ≡ is_unsigned (ptype_of_column (column array.now))) }
+{
+    if mask.len() != array.len() {
+        return Err(FastLanesError::MaskLength);
+    }
+    let DType::Primitive(ptype, _) = array.dtype() else {
+        return Err(FastLanesError::NotInteger);
+    };
+    items_are_in_range(array);
+    let source = source_under(alloc, array, mask)?;
+    sum_typed(&source, ptype)
 }
