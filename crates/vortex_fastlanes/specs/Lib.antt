@@ -118,8 +118,10 @@ pub use Rattle.fl_ops.specs.Selections as ArraySelections
 pub use Rattle.fl_ops.specs.Sums
 pub use Rattle.fl_ops.specs.Takes
 pub use Rattle.fl_ops.specs.Unpacked
+pub use Rattle.fl_scan.specs.Bounds as ScanBounds
 pub use Rattle.fl_scan.specs.Constants as ScanConstants
 pub use Rattle.fl_scan.specs.Indices as ScanIndices
+pub use Rattle.fl_scan.specs.Membership
 pub use Rattle.fl_scan.specs.Sums as ScanSums
 pub use Rattle.fl_scan.specs.Totals
 pub use Rattle.fl_serialized.specs.Codes as NodeCodes
