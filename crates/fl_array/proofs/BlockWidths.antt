@@ -23,6 +23,7 @@ use Rattle.fl_array.proofs.BlockedLaws.{blocked_by, blocks_read, numbers_read}
 -- the column, by the widths
 pub read_column : (a : BitPackedArrayParts) (widths : Widths) → AreReadBy a widths → column_of_packed a.parts (blocks_of widths) ≡ column (tree_of_bitpacked a)
 read_column a widths of = ap (column_of_packed a.parts) of.same ∙ sym (bitpacked_column a)
+
 -- ---- one width
 
 -- ---- boundaries that are all equal

@@ -107,6 +107,7 @@ answered_column c p h e =
 pub non_nullable_is : (n : Nullability) → can_be_null n ≡ false → n ≡ NonNullable
 non_nullable_is NonNullable h = refl
 non_nullable_is Nullable h = cc
+
 -- ---- items
 
 pub global_item : (a : FoRArrayParts) (reference : ScalarParts) (i : ℕ) (item : ScalarParts) → GlobalReference reference ≡ a.references → i < length (column a.encoded).items → item ≡ scalar_in (column a.encoded) i

@@ -24,6 +24,7 @@ true_le a b h = grind (arith, ints)
 
 pub false_le : (a b : ℤ) → b <ℤ a → int_le a b ≡ false
 false_le a b h = grind (arith, ints)
+
 -- ---- ends of ranges
 
 -- ---- patterns
