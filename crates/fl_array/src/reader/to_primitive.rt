@@ -74,6 +74,8 @@ impl Reader<'_> {
     ///
     /// # Errors
     /// `NotInteger` if the type is not one of integers.
+    // It stays a function, so that what reads is not on the stack of each array that is decoded for another one.
+    #[inline(never)]
     pub(crate) fn to_primitive(
         &self,
         alloc: Global,

@@ -120,6 +120,8 @@ fn encode_typed<T: PhysicalPType>(
 ///
 /// # Errors
 /// Only `OutOfMemory`.
+// It stays a function, so that no caller that calls itself has its blocks on the stack again and again.
+#[inline(never)]
 pub fn encode(alloc: Global, array: &PrimitiveArray) -> Result<Runs, FastLanesError>
     ensures { Answers run_parts result (Ok (encode_dictionaries array.now)) }
 {
