@@ -1,4 +1,5 @@
-//! Queries of columns that are read block by block into a scratch, so that no list of the column is made.
+//! Queries of columns that are read block by block into a scratch, so that no list of the column is made. A run-length
+//! encoded array inside of another one is decoded whole when the reader is made.
 
 pub(crate) mod constancy;
 pub(crate) mod filter;
