@@ -7,13 +7,16 @@ mod compress;
 mod constructors;
 mod counted;
 mod data;
+mod deltas;
 mod faults;
+mod for_;
 mod nodes;
 mod packing;
 mod parts;
 mod queries;
 mod questions;
 mod readers;
+mod runs;
 mod schemes;
 
 use array_reader::{Built, building, operations};
@@ -22,7 +25,6 @@ use fl_ops::{Op, apply_all};
 use row_reader::asked::Asked;
 use row_reader::names::split;
 use row_reader::text::Text;
-use std::alloc::Global;
 
 /// Answers a question of what was made.
 fn answer_made(asked: Asked, made: &Built, answer: &mut Text) {
@@ -122,9 +124,12 @@ fn ask_array(asked: Asked, answer: &mut Text) -> bool {
     true
 }
 
-/// Answers a question of arrays, of schemes, of nodes or of packed bytes, if it is one.
+/// Answers a question of arrays and of what they are made of, of schemes, of nodes or of packed bytes, if it is one.
 pub fn ask(asked: Asked, answer: &mut Text) -> bool {
     ask_array(asked, answer)
+        || for_::ask(asked, answer)
+        || deltas::ask(asked, answer)
+        || runs::ask(asked, answer)
         || schemes::ask(asked, answer)
         || compress::ask(asked, answer)
         || nodes::ask(asked, answer)

@@ -6,13 +6,10 @@
 pub mod bits;
 mod blocks;
 mod containers;
-mod deltas;
-mod for_;
 mod gathering;
 mod messages;
 pub mod patches;
 pub mod plain;
-mod runs;
 pub mod types;
 pub mod widths;
 
@@ -24,9 +21,6 @@ use row_reader::text::Text;
 pub fn ask(asked: Asked, answer: &mut Text) -> bool {
     bits::ask(asked, answer)
         || types::ask(asked, answer)
-        || for_::ask(asked, answer)
-        || deltas::ask(asked, answer)
-        || runs::ask(asked, answer)
         || widths::ask(asked, answer)
         || gathering::ask(asked, answer)
         || patches::ask(asked, answer)

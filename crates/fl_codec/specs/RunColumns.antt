@@ -37,10 +37,6 @@ run_column parts offset len = record {
   items = tabulate (λ i. run_item parts.values.slots (items_of_primitive parts.indices) (run_offsets_of parts) (offset + i)) len;
 }
 
--- the first n integers are the items that runs show from an offset on, except at the places of nulls
-abbrev pub HoldsRunItems : List ℤ → List (Option ℤ) → List ℕ → ℕ → ℕ → List ℤ → Type 0
-HoldsRunItems values indices offsets offset n integers = (i : ℕ) → i < n → IfSome (run_item values indices offsets (offset + i)) (λ z. slice_index_or integers i (pos 0) ≡ z)
-
 -- ---- what runs must be
 -- where the run values of chunk k, among this many, end: at the next chunk's start, or at the end of all
 abbrev pub chunk_end : List ℕ → ℕ → ℕ → ℕ

@@ -3,23 +3,16 @@
 pub mod block_sums;
 pub mod blocks;
 pub mod children;
-mod decoding;
 
-ghost use Rattle.std.specs.Prelude.{◌≡◌, ◌+◌, ◌*◌, ◌/◌, ◌%◌, ◌<◌, ◌≤◌, ◌++◌, ◌-◌, ◌^◌, ℕ, ℤ, List, pos, IsTrue, IfOk, OnOk, Ok, length, map, min, slice_index_or, take};
+ghost use Rattle.std.specs.Prelude.{◌≡◌, ◌+◌, ◌*◌, ◌<◌, ◌≤◌, ◌++◌, ◌-◌, ℕ, ℤ, List, IfOk, OnOk, Ok, length, map, take};
 ghost use Rattle.fastlanes.specs.Layout.{pattern_at, place, segment};
-ghost use Rattle.fastlanes.specs.Delta.{summed_item};
-ghost use Rattle.fl_types.specs.Bits.{tabulate};
-ghost use Rattle.fl_types.specs.Integers.{lanes_of_type, pattern_of, read_as};
+ghost use Rattle.fl_types.specs.Integers.{read_as};
 ghost use Rattle.fl_types.specs.Refusals.{Answers};
-ghost use Rattle.fl_types.specs.Validities.{covers};
-ghost use Rattle.fl_column.specs.Columns.{column_of_primitive};
-ghost use Rattle.fl_codec.specs.Chunks.{chunks_of};
-ghost use Rattle.fl_codec.specs.Deltas.{bases_to, delta_column, delta_integer, deltas_to, encoded_delta};
+ghost use Rattle.fl_codec.specs.Deltas.{bases_to, deltas_to, encoded_delta};
 ghost use Rattle.fl_codec.specs.ForwardFill.{carried_to};
 ghost use Rattle.fl_codec.specs.Parts.{compress_deltas, items_of_primitive};
 
 use crate::chunks::chunk_count;
-pub use crate::delta::decoding::delta_decompress;
 use crate::fill_forward::fill_chunk;
 use crate::plain::non_nullable;
 use fastlanes::laws::words_are_in_range;

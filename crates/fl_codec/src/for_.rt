@@ -8,22 +8,21 @@ pub mod single_items;
 mod with_nulls;
 mod without_nulls;
 
-ghost use Rattle.std.specs.Prelude.{◌≡◌, ◌<◌, ◌≤◌, ◌+◌, ◌*◌, ◌%◌, ◌+ℤ◌, ◌^◌, ◌&&◌, ℕ, ℤ, min, OnOk, pos, List, IsTrue, IfSome, IfOk, Ok, Some, None, length, map, option_map, unwrap_or, slice_index_or, is_none};
+ghost use Rattle.std.specs.Prelude.{◌≡◌, ◌<◌, ◌≤◌, ◌+◌, ◌*◌, ◌%◌, ◌&&◌, ℕ, ℤ, min, OnOk, pos, IsTrue, IfOk, Ok, Some, None, length, map, option_map, unwrap_or, slice_index_or, is_none};
 ghost use Rattle.std.specs.List.{list_all};
 ghost use Rattle.fl_types.specs.Bits.{between, tabulate};
-ghost use Rattle.fl_types.specs.Integers.{fits, wrap};
+ghost use Rattle.fl_types.specs.Integers.{fits};
 ghost use Rattle.fl_types.specs.Refusals.{Answers};
 ghost use Rattle.fl_types.specs.Validities.{covers, items_of};
 ghost use Rattle.fl_types.specs.Values.{integer_of, ptype_of_value};
-ghost use Rattle.fl_column.specs.Columns.{column_of_primitive};
 ghost use Rattle.fl_codec.specs.Chunks.{chunk, chunks_of};
 ghost use Rattle.fl_codec.specs.ForwardFill.{first_some};
-ghost use Rattle.fl_codec.specs.FoRColumns.{chunk_leasts, chunk_references, chunked_for, chunked_slots, chunked_sums, common_reference, global_for, least_by, least_valid, minus_reference, origin_of, reading, reference_of_chunk, turned};
+ghost use Rattle.fl_codec.specs.FoRColumns.{chunk_leasts, chunk_references, chunked_slots, common_reference, least_by, least_valid, minus_reference, origin_of, reading, turned};
 ghost use Rattle.fl_codec.specs.Parts.{Nulls, encode_chunked, encode_chunked_by, encode_global, encode_global_by, for_parts, global_parts, items_of_primitive, less_chunk_leasts, subtract_reference, null_constant, reference_scalar};
 
 use crate::chunks::{chunk_count, chunk_end};
 use crate::for_::by_guess::guess_least;
-use crate::for_::without_nulls::{chunked_sums, least_of, sums};
+use crate::for_::without_nulls::least_of;
 use crate::plain::{non_nullable, under_validity_of};
 use fastlanes::FL_CHUNK_SIZE;
 use fl_column::laws::stored_integers_are_in_range;
@@ -32,7 +31,7 @@ use fl_types::{
     FastLanesError, NativePType, Nullability, PType, PValue, Scalar, Validity, is_equal,
     match_each_integer_ptype,
 };
-use num_traits::{WrappingAdd, WrappingSub};
+use num_traits::WrappingSub;
 use std::alloc::{AllocError, Global};
 
 /// A column minus one reference.
@@ -497,74 +496,4 @@ pub fn encode_chunked(alloc: Global, array: &PrimitiveArray) -> Result<EncodedFo
     ensures { Answers for_parts result (Ok (encode_chunked array.now)) }
 {
     encode_chunked_by(alloc, array, ItemOrder::Natural)
-}
-
-fn decode_typed<T: NativePType + WrappingAdd>(
-    alloc: Global,
-    child: &PrimitiveArray,
-    reference: PValue,
-) -> Result<PrimitiveArray, FastLanesError>
-    requires same { child.now.ptype ≡ T.PTYPE }
-    requires reference { ptype_of_value reference ≡ child.now.ptype }
-    ensures { Answers column_of_primitive result (Ok (global_for (integer_of reference) (column_of_primitive child.now))) }
-{
-    let reference = T::from_pvalue(reference).unwrap();
-    let slots = sums(alloc, child.as_slice::<T>(), reference)?;
-    under_validity_of(alloc, child, slots)
-}
-
-/// The column of a global FoR: each item of the child plus the reference, modulo 2 to the type's
-/// bits. Nulls stay null.
-///
-/// The reference has the child's type.
-pub fn decode(
-    alloc: Global,
-    child: &PrimitiveArray,
-    reference: PValue,
-) -> Result<PrimitiveArray, FastLanesError>
-    requires { ptype_of_value reference ≡ child.now.ptype }
-    ensures { Answers column_of_primitive result (Ok (global_for (integer_of reference) (column_of_primitive child.now))) }
-{
-    match_each_integer_ptype!(child.ptype(), decode_typed(alloc, child, reference))
-}
-
-fn decode_chunked_typed<T: NativePType + WrappingAdd>(
-    alloc: Global,
-    child: &PrimitiveArray,
-    references: &PrimitiveArray,
-    offset: usize,
-) -> Result<PrimitiveArray, FastLanesError>
-    requires same { child.now.ptype ≡ T.PTYPE }
-    requires references { references.now.ptype ≡ child.now.ptype }
-    requires few { offset + length child.now.slots < 2 ^ 64 }
-    requires enough { chunks_of (offset + length child.now.slots) ≤ length references.now.slots }
-    ensures { Answers column_of_primitive result (Ok (chunked_for references.now.slots offset (column_of_primitive child.now))) }
-{
-    let _validity = child.validity();
-    let references = references.as_slice::<T>();
-    let slots = child.as_slice::<T>();
-    let sums = chunked_sums(alloc, slots, references, offset)?;
-    under_validity_of(alloc, child, sums)
-}
-
-/// The column of a chunked FoR: item `i` of the child plus the reference of chunk
-/// `(offset + i) / 1024`, modulo 2 to the type's bits. Nulls stay null.
-///
-/// The references have the child's type, and there is one for each chunk. `offset` is the position
-/// of the first item in its chunk.
-pub fn decode_chunked(
-    alloc: Global,
-    child: &PrimitiveArray,
-    references: &PrimitiveArray,
-    offset: usize,
-) -> Result<PrimitiveArray, FastLanesError>
-    requires same { references.now.ptype ≡ child.now.ptype }
-    requires few { offset + length child.now.slots < 2 ^ 64 }
-    requires enough { chunks_of (offset + length child.now.slots) ≤ length references.now.slots }
-    ensures { Answers column_of_primitive result (Ok (chunked_for references.now.slots offset (column_of_primitive child.now))) }
-{
-    match_each_integer_ptype!(
-        child.ptype(),
-        decode_chunked_typed(alloc, child, references, offset)
-    )
 }

@@ -24,7 +24,7 @@ ghost use Rattle.fl_codec.specs.Runs.{indices_to, offsets_to, run_validity, valu
 use crate::chunks::chunk_count;
 use crate::plain::{non_nullable, with_validity};
 use crate::rle::blocks::push_chunk;
-pub use crate::rle::decoding::{decode, values_of_chunk, write_run_items};
+pub use crate::rle::decoding::{values_of_chunk, write_run_items};
 use fastlanes::{FL_CHUNK_SIZE, FastLanes};
 use fl_column::{PhysicalPType, PrimitiveArray};
 use fl_types::{BitList, FastLanesError, PValue, Validity, match_each_integer_ptype};

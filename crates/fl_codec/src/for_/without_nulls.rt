@@ -1,10 +1,9 @@
 //! Frames of reference of items none of which is null: loops over integers, in which the compiler works on
 //! several at once.
 
-ghost use Rattle.std.specs.Prelude.{◌≡◌, ◌<◌, ◌≤◌, ◌+◌, ◌-◌, ◌*◌, ◌/◌, ◌^◌, ◌++◌, ◌+ℤ◌, ◌-ℤ◌, ℕ, pos, Some, IfOk, OnOk, length, map, min, option_map, slice_index_or};
+ghost use Rattle.std.specs.Prelude.{◌≡◌, ◌<◌, ◌≤◌, ◌+◌, ◌-◌, ◌*◌, ◌^◌, ◌++◌, ◌+ℤ◌, ◌-ℤ◌, Some, IfOk, OnOk, length, map, min, option_map};
 ghost use Rattle.fl_types.specs.Integers.{wrap};
-ghost use Rattle.fl_codec.specs.Chunks.{chunks_of};
-ghost use Rattle.fl_codec.specs.FoRColumns.{chunked_sums, least_valid, min_valid, turned};
+ghost use Rattle.fl_codec.specs.FoRColumns.{least_valid, min_valid, turned};
 
 use crate::chunks::{chunk_count, chunk_end};
 use fastlanes::FL_CHUNK_SIZE;
@@ -88,16 +87,6 @@ pub(crate) fn push_differences<T: NativePType + WrappingSub>(
     Ok(())
 }
 
-/// Writes each integer plus a reference.
-fn add<T: NativePType + WrappingAdd>(items: &[T], reference: T, slots: &mut [T])
-    requires { length slots.old ≡ length items.now }
-    ensures { map T.value slots.new ≡ map (λ z. wrap T.PTYPE (z +ℤ T.value reference)) (map T.value items.now) }
-{
-    for i in 0..items.len() {
-        slots[i] = plus(items[i], reference);
-    }
-}
-
 /// Where the items of chunk `k` begin and end among `len` items, of which the first is at `offset`.
 pub(crate) fn part_of_chunk(k: usize, offset: usize, len: usize) -> (usize, usize)
     requires few { offset + len < 2 ^ 64 }
@@ -110,26 +99,6 @@ pub(crate) fn part_of_chunk(k: usize, offset: usize, len: usize) -> (usize, usiz
     let start = (FL_CHUNK_SIZE * k).saturating_sub(offset);
     let end = chunk_end(k, offset + len).saturating_sub(offset);
     (start, end)
-}
-
-/// Writes each integer plus the reference of its chunk of 1024, where the first one is at `offset`.
-fn add_chunks<T: NativePType + WrappingAdd>(
-    items: &[T],
-    references: &[T],
-    offset: usize,
-    slots: &mut [T],
-)
-    requires slots { length slots.old ≡ length items.now }
-    requires few { offset + length items.now < 2 ^ 64 }
-    requires references { chunks_of (offset + length items.now) ≤ length references.now }
-    ensures { (j : ℕ) → j < length items.now → slice_index_or (map T.value slots.new) j (pos 0) ≡ wrap T.PTYPE (slice_index_or (map T.value items.now) j (pos 0) +ℤ slice_index_or (map T.value references.now) ((offset + j) / 1024) (pos 0)) }
-{
-    let len = items.len();
-    for k in 0..chunk_count(offset + len) {
-        let (start, end) = part_of_chunk(k, offset, len);
-        let part = &mut slots[start..end];
-        add(&items[start..end], references[k], part);
-    }
 }
 
 /// Each integer minus a reference, modulo 2 to the type's bits.
@@ -145,37 +114,4 @@ pub(crate) fn differences<T: NativePType + WrappingSub>(
         push_differences(chunk_of(items, k), reference, &mut slots)?;
     }
     Ok(slots)
-}
-
-/// Each integer plus a reference, modulo 2 to the type's bits.
-pub(crate) fn sums<T: NativePType + WrappingAdd>(
-    alloc: Global,
-    items: &[T],
-    reference: T,
-) -> Result<Vec<T>, AllocError>
-    ensures { IfOk result (λ v. map T.value v.items ≡ map (λ z. wrap T.PTYPE (z +ℤ T.value reference)) (map T.value items.now)) }
-{
-    let mut sums = Vec::new(alloc);
-    sums.resize(items.len(), T::zero())?;
-    add(items, reference, &mut sums);
-    Ok(sums)
-}
-
-/// Each integer plus the reference of its chunk of 1024, modulo 2 to the type's bits. The first one is at
-/// `offset` in its chunk.
-pub(crate) fn chunked_sums<T: NativePType + WrappingAdd>(
-    alloc: Global,
-    items: &[T],
-    references: &[T],
-    offset: usize,
-) -> Result<Vec<T>, AllocError>
-    requires few { offset + length items.now < 2 ^ 64 }
-    requires references { chunks_of (offset + length items.now) ≤ length references.now }
-    ensures long { IfOk result (λ v. length v.items ≡ length items.now) }
-    ensures sums { IfOk result (λ v. map T.value v.items ≡ chunked_sums T.PTYPE (map T.value references.now) offset (map T.value items.now)) }
-{
-    let mut sums = Vec::new(alloc);
-    sums.resize(items.len(), T::zero())?;
-    add_chunks(items, references, offset, &mut sums);
-    Ok(sums)
 }

@@ -1,19 +1,18 @@
 //! Whether run values, run indices and run offsets make a column.
 
-ghost use Rattle.std.specs.Prelude.{◌≡◌, ◌*◌, ◌+◌, ◌<◌, ◌≤◌, IsTrue, length, map, option_map};
+ghost use Rattle.std.specs.Prelude.{◌≡◌, ◌*◌, ◌+◌, ◌<◌, ◌≤◌, IsTrue, length, option_map};
 ghost use Rattle.std.specs.List.{list_all};
 ghost use Rattle.fl_types.specs.Integers.{is_unsigned};
-ghost use Rattle.fl_types.specs.Types.{is_index_type};
 ghost use Rattle.fl_column.specs.Columns.{column_of_primitive, numbers_of};
 ghost use Rattle.fl_codec.specs.Chunks.{chunk};
 ghost use Rattle.fl_codec.specs.Parts.{items_of_primitive};
-ghost use Rattle.fl_codec.specs.RunColumns.{are_run_indices, are_run_offsets, is_chunk_of_runs, is_run_index, run_count, runs_refusal};
+ghost use Rattle.fl_codec.specs.RunColumns.{are_run_indices, are_run_offsets, is_chunk_of_runs, is_run_index, run_count};
 ghost use Rattle.fl_codec.specs.RunRefusals.{rle_numbers_refusal};
 
 use crate::rle::{end_of_chunk, number_at, start_of_chunk};
 use fastlanes::FL_CHUNK_SIZE;
 use fl_column::{PrimitiveArray, item_at};
-use fl_types::{FastLanesError, NativePType, Nullability, PType, match_each_integer_ptype};
+use fl_types::{FastLanesError, NativePType, match_each_integer_ptype};
 
 /// Whether an index is null, or below the number of run values.
 fn is_named<I: NativePType>(index: Option<I>, count: usize) -> bool
@@ -119,57 +118,4 @@ pub fn numbers_refusal(
         return Some(FastLanesError::RunIndex);
     }
     None
-}
-
-/// Whether the array is of an unsigned type and cannot have nulls.
-fn is_index_array(array: &PrimitiveArray) -> bool
-    ensures { result ≡ is_index_type (column_of_primitive array.now).dtype }
-{
-    match (array.ptype(), array.nullability()) {
-        (PType::U8 | PType::U16 | PType::U32 | PType::U64, Nullability::NonNullable) => true,
-        _ => false,
-    }
-}
-
-/// Why these parts are not those of a column of `len` items from `offset` on, if they are not.
-///
-/// It is the first of these: `OffsetTooLarge` at 1024 or more; `ChildNullable` where run values may
-/// be null; `RunIndexType` where indices are neither `u8` nor `u16`; `BlockOffsetsType` where run
-/// offsets are not unsigned or may be null; `ChildLength` where the indices are no whole chunks of
-/// 1024; `RangeBeyondChild` where they are fewer than the items need; `BlockOffsetsCount` where
-/// there is not one run offset for each chunk; `RunOffsets` where an offset is below the first one,
-/// or a chunk has no run value or more than 1024, or there are run values without a chunk;
-/// `RunIndex` where an index that is not null is not below its chunk's number of run values.
-pub fn runs_refusal(
-    values: &PrimitiveArray,
-    indices: &PrimitiveArray,
-    offsets: &PrimitiveArray,
-    offset: usize,
-    len: usize,
-) -> Option<FastLanesError>
-    ensures { result ≡ runs_refusal (record { values = values.now; indices = indices.now; offsets = offsets.now }) offset len }
-{
-    let (total, chunks) = (indices.len(), offsets.len());
-    if offset >= FL_CHUNK_SIZE {
-        return Some(FastLanesError::OffsetTooLarge);
-    }
-    if values.nullability() == Nullability::Nullable {
-        return Some(FastLanesError::ChildNullable);
-    }
-    if !matches!(indices.ptype(), PType::U8 | PType::U16) {
-        return Some(FastLanesError::RunIndexType);
-    }
-    if !is_index_array(offsets) {
-        return Some(FastLanesError::BlockOffsetsType);
-    }
-    if total % FL_CHUNK_SIZE != 0 {
-        return Some(FastLanesError::ChildLength);
-    }
-    if total < offset || total - offset < len {
-        return Some(FastLanesError::RangeBeyondChild);
-    }
-    if chunks != total / FL_CHUNK_SIZE {
-        return Some(FastLanesError::BlockOffsetsCount);
-    }
-    numbers_refusal(values.len(), indices, offsets)
 }

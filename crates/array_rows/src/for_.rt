@@ -1,5 +1,7 @@
 //! Frames of reference: columns less one reference, or less one for each chunk.
 
+use fl_array::IntoArray;
+use fl_array::for_::FoR;
 use fl_codec::for_::{self, EncodedFoR, GlobalFoR};
 use fl_column::PrimitiveArray;
 use fl_types::*;
@@ -12,11 +14,11 @@ use row_reader::text::Text;
 use std::alloc::Global;
 
 /// The column of a child and one reference of its type.
-fn with_reference(alloc: Global, child: &PrimitiveArray, reference: PValue) -> Made {
-    if reference.ptype() != child.ptype() {
-        return Err(FastLanesError::TypeMismatch);
-    }
-    for_::decode(alloc, child, reference)
+fn with_reference(alloc: Global, child: &PrimitiveArray, reference: Scalar) -> Made {
+    let child = child.try_clone(alloc)?.into_array();
+    FoR::try_new(alloc, child, reference)?
+        .into_array()
+        .to_primitive(alloc)
 }
 
 /// The column of a child and references of its type, one for each chunk.
@@ -26,14 +28,14 @@ fn with_references(
     references: &PrimitiveArray,
     offset: usize,
 ) -> Made {
-    if references.ptype() != child.ptype() {
-        return Err(FastLanesError::TypeMismatch);
-    }
-    let (len, chunks) = (child.len(), references.len());
-    if offset >= 1024 || len > 1 << 40 || (offset + len).div_ceil(1024) > chunks {
-        return Err(FastLanesError::ReferenceCount);
-    }
-    for_::decode_chunked(alloc, child, references, offset)
+    let Ok(offset) = u16::try_from(offset) else {
+        return Err(FastLanesError::OffsetTooLarge);
+    };
+    let child = child.try_clone(alloc)?.into_array();
+    let references = references.try_clone(alloc)?.into_array();
+    FoR::try_new_chunked(alloc, child, references, offset)?
+        .into_array()
+        .to_primitive(alloc)
 }
 
 /// Adds the reference and the child of a FoR, and whether they make a column.
@@ -41,13 +43,8 @@ fn show_global(alloc: Global, encode_for: &GlobalFoR, array: &PrimitiveArray, an
     shown::scalar(answer, encode_for.reference);
     part(answer, &encode_for.child);
     answer.word("|");
-    if let Some(reference) = encode_for.reference.as_pvalue() {
-        back(
-            answer,
-            with_reference(alloc, &encode_for.child, reference),
-            array,
-        );
-    }
+    let made = with_reference(alloc, &encode_for.child, encode_for.reference);
+    back(answer, made, array);
 }
 
 /// Adds the references and the child of a FoR, and whether they make a column.
@@ -120,6 +117,7 @@ fn child_slots(alloc: Global, array: &PrimitiveArray, ptype: PType, answer: &mut
 fn add(alloc: Global, references: &PrimitiveArray, child: &PrimitiveArray, answer: &mut Text) {
     if references.len() > 0 {
         if let Some(reference) = references.get(0) {
+            let reference = Scalar::primitive(reference, Nullability::NonNullable);
             shown::made(answer, with_reference(alloc, child, reference));
         }
     }

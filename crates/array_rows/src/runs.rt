@@ -1,7 +1,8 @@
 //! Runs: columns as the items of each chunk that differ from the one before, and for each position
 //! the number of its run.
 
-use fl_codec::rle::refusals::runs_refusal;
+use fl_array::IntoArray;
+use fl_array::rle::{RLE, rle_decompress};
 use fl_codec::rle::{self, Runs};
 use fl_column::PrimitiveArray;
 use row_reader::asked::Asked;
@@ -21,10 +22,11 @@ fn unrolled(
     offset: usize,
     len: usize,
 ) -> Made {
-    if let Some(refusal) = runs_refusal(values, indices, offsets, offset, len) {
-        return Err(refusal);
-    }
-    rle::decode(alloc, values, indices, offsets, offset, len)
+    let values = values.try_clone(alloc)?.into_array();
+    let indices = indices.try_clone(alloc)?.into_array();
+    let offsets = offsets.try_clone(alloc)?.into_array();
+    let array = RLE::try_new(alloc, values, indices, offsets, offset, len)?;
+    rle_decompress(alloc, &array)
 }
 
 /// This many items from the offset on, which the runs of a column show.

@@ -1,6 +1,8 @@
 //! Deltas: columns as a base for each lane of a block, and the differences along the lanes.
 
-use fl_codec::delta::{delta_compress, delta_decompress};
+use fl_array::IntoArray;
+use fl_array::delta::{Delta, delta_decompress};
+use fl_codec::delta::delta_compress;
 use fl_column::PrimitiveArray;
 use fl_types::*;
 use row_reader::asked::Asked;
@@ -14,22 +16,13 @@ use std::alloc::Global;
 /// Bases and deltas.
 type Parts = (PrimitiveArray, PrimitiveArray);
 
-/// The column of bases and deltas of one type, of which there are enough.
+/// The column of bases and deltas, or why there is none.
 fn summed(alloc: Global, parts: &Parts, validity: &Validity, offset: usize, len: usize) -> Made {
-    let (bases, deltas) = parts;
-    let (base_count, delta_count) = (bases.len(), deltas.len());
-    if deltas.ptype() != bases.ptype() {
-        return Err(FastLanesError::TypeMismatch);
-    }
-    if offset >= 1024 || len > 1 << 40 || !validity.covers(len) {
-        return Err(FastLanesError::OffsetTooLarge);
-    }
-    let blocks = (offset + len).div_ceil(1024);
-    let lanes = 1024 / bases.ptype().bit_width();
-    if base_count < blocks * lanes || delta_count < 1024 * blocks {
-        return Err(FastLanesError::ChildLength);
-    }
-    delta_decompress(alloc, bases, deltas, validity, offset, len)
+    let bases = parts.0.try_clone(alloc)?.into_array();
+    let deltas = parts.1.try_clone(alloc)?.into_array();
+    let validity = validity.try_clone(alloc)?;
+    let array = Delta::try_new(alloc, bases, deltas, validity, offset, len)?;
+    delta_decompress(alloc, &array)
 }
 
 /// Adds `back` where bases and deltas make a column.

@@ -1,9 +1,0 @@
-use Rattle.std.proofs.Common.{◌≡◌, ◌<◌, ◌+◌, ◌-◌, ◌*◌, ◌/◌, ◌+ℤ◌, ℕ, pos, get_or, length, map, min}
-use Rattle.fl_types.specs.Integers.{wrap}
-use Rattle.fl_codec.proofs.for_.without_nulls.add_chunks.Given as goal
-
--- the sums of the chunks so far
-abbrev pub invariant-loop-k : goal.invariant-loop-k
-invariant-loop-k g l =
-    let value = g.T.Number.value in
-    (j : ℕ) → j < min (1024 * l.k) (l.offset + length l.items) - l.offset → get_or (map value l.slots) j (pos 0) ≡ wrap g.T.NativePType.PTYPE (get_or (map value l.items) j (pos 0) +ℤ get_or (map value l.references) ((l.offset + j) / 1024) (pos 0))
