@@ -1,0 +1,2 @@
+pub mod PruneLaws
+pub mod Crc32cLaws

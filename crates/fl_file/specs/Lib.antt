@@ -1,0 +1,3 @@
+pub mod Statistics
+pub mod Pruning
+pub mod Crc32c
