@@ -45,9 +45,9 @@ extern "C" {
 
 /* The version of the library. */
 #define FLCOL_VERSION_MAJOR 1
-#define FLCOL_VERSION_MINOR 2
+#define FLCOL_VERSION_MINOR 3
 #define FLCOL_VERSION_PATCH 0
-#define FLCOL_VERSION "1.2.0"
+#define FLCOL_VERSION "1.3.0"
 
 /* The version of this interface. */
 #define FLCOL_ABI_VERSION 2

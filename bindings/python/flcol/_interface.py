@@ -5,7 +5,7 @@ from ctypes import POINTER, Structure, c_char_p, c_int16, c_int32, c_int64, c_in
 from typing import Any
 
 #: The version of the package and of the library, the version of the interface, and the file that the loader finds.
-VERSION = "1.2.0"
+VERSION = "1.3.0"
 ABI_VERSION = 2
 LIBRARY = "libflcol.so.1"
 
