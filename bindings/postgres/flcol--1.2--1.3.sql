@@ -62,10 +62,6 @@ CREATE FUNCTION flcol_count(bits flcol_bits) RETURNS bigint
     AS 'MODULE_PATHNAME', 'sql_flcol_count_bits' LANGUAGE C IMMUTABLE STRICT PARALLEL SAFE COST 1000;
 COMMENT ON FUNCTION flcol_count(flcol_bits) IS 'how many answers are true';
 
-CREATE FUNCTION flcol_inspect(bits flcol_bits) RETURNS text
-    AS 'MODULE_PATHNAME', 'sql_flcol_inspect' LANGUAGE C IMMUTABLE STRICT PARALLEL SAFE COST 1000;
-COMMENT ON FUNCTION flcol_inspect(flcol_bits) IS 'the type, the number of answers and the bits that each takes';
-
 CREATE FUNCTION flcol_sum(items flcol, bits flcol_bits) RETURNS numeric
     AS 'MODULE_PATHNAME', 'sql_flcol_sum' LANGUAGE C IMMUTABLE STRICT PARALLEL SAFE COST 100000;
 COMMENT ON FUNCTION flcol_sum(flcol, flcol_bits) IS 'the sum of the items that bits are true for and that are not null, exactly';
