@@ -39,7 +39,7 @@ void gather_all(struct column *column, const uint8_t *mask, gather_fn *gather, v
     }
 }
 
-/* Gathers from the items of the first argument: from all, or where there is a second argument from those that it is true for. */
+/* Gathers from the items of the first argument: from all, or where there is a second one from those that it is true for. */
 static void gather_asked(FunctionCallInfo fcinfo, gather_fn *gather, void *gathered) {
     struct column *column = open_value(PG_GETARG_DATUM(0));
     struct answers answers = {0};

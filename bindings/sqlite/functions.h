@@ -8,7 +8,8 @@
 
 extern const sqlite3_api_routines *sqlite3_api;
 
-/* Adds the functions, the aggregates, the table of values and the functions of bits to a connection; each answers a code of SQLite. */
+/* Adds the functions, the aggregates, the table of values and the functions of bits to a connection; each answers a code of
+   SQLite. */
 int add_functions(sqlite3 *db);
 int add_aggregates(sqlite3 *db);
 int add_each(sqlite3 *db);

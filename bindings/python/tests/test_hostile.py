@@ -34,11 +34,11 @@ def is_long(array):
 
 def ask_selections(array, items, known):
     """What is asked under a mask, of a list and of a sorted array, beside its items."""
-    high = [item for item in known if item >= 3]
-    assert (array.sum(where=array >= 3), array.count(where=array >= 3)) == (sum(high), len(high))
-    assert array.min_max(where=array >= 3) == ((min(high), max(high)) if high else (None, None))
+    high, mask = [item for item in known if item >= 3], array >= 3
+    assert (array.sum(where=mask), array.count(where=mask)) == (sum(high), len(high))
+    assert array.min_max(where=mask) == ((min(high), max(high)) if high else (None, None))
     assert array.is_in([3, 4]).to_list() == [None if item is None else item in (3, 4) for item in items]
-    assert array.take((array >= 3).indices()).to_list() == high
+    assert array.take(mask.indices()).to_list() == high
     if array.is_sorted():
         assert array.lower_bound(3) == len(items) - len(high)
 

@@ -118,12 +118,14 @@ class Among(unittest.TestCase):
     def test_slices_within_a_block(self):
         for name, items, a in columns((3000,)):
             with self.subTest(name):
-                self.assertEqual(a[1000:1100].is_in({1, 2, 3}).to_list(), [it and it in (1, 2, 3) if it is None else it in (1, 2, 3) for it in items[1000:1100]])
+                wanted = [None if item is None else item in (1, 2, 3) for item in items[1000:1100]]
+                self.assertEqual(a[1000:1100].is_in({1, 2, 3}).to_list(), wanted)
 
     def test_any_iterable(self):
         a = flcol.array([1, 2, None, 3, 1], dtype="uint16?")
         wanted = [True, False, None, True, True]
-        for values in ([1, 3], (3, 1, 1), {1, 3}, iter([1, 3]), list_of_numbers("q", [3, 1]), flcol.array([1, 3]), range(1, 4, 2), [True, 3]):
+        lists = ([1, 3], (3, 1, 1), {1, 3}, iter([1, 3]), list_of_numbers("q", [3, 1]), flcol.array([1, 3]), range(1, 4, 2), [True, 3])
+        for values in lists:
             self.assertEqual(a.is_in(values).to_list(), wanted)
 
     def test_what_is_no_list(self):
