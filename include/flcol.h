@@ -45,9 +45,9 @@ extern "C" {
 
 /* The version of the library. */
 #define FLCOL_VERSION_MAJOR 1
-#define FLCOL_VERSION_MINOR 2
+#define FLCOL_VERSION_MINOR 3
 #define FLCOL_VERSION_PATCH 0
-#define FLCOL_VERSION "1.2.0"
+#define FLCOL_VERSION "1.3.0"
 
 /* The version of this interface. */
 #define FLCOL_ABI_VERSION 2
@@ -340,6 +340,25 @@ int32_t flcol_between_i32(flcol_array *array, int32_t lower, int32_t upper, uint
 int32_t flcol_between_i64(flcol_array *array, int64_t lower, int64_t upper, uint8_t lower_strict, uint8_t upper_strict,
                           uint8_t *bits, size_t bits_len, uint8_t *validity, size_t validity_len);
 
+/* Whether each item is one of a list, in the same way; of no item where the list is empty.
+   FLCOL_NO_ARRAY. FLCOL_WRONG_TYPE. FLCOL_WRONG_LENGTH. FLCOL_VALIDITY_LENGTH. */
+int32_t flcol_is_in_u8(flcol_array *array, const uint8_t *list, size_t list_len, uint8_t *bits, size_t bits_len,
+                        uint8_t *validity, size_t validity_len);
+int32_t flcol_is_in_u16(flcol_array *array, const uint16_t *list, size_t list_len, uint8_t *bits, size_t bits_len,
+                        uint8_t *validity, size_t validity_len);
+int32_t flcol_is_in_u32(flcol_array *array, const uint32_t *list, size_t list_len, uint8_t *bits, size_t bits_len,
+                        uint8_t *validity, size_t validity_len);
+int32_t flcol_is_in_u64(flcol_array *array, const uint64_t *list, size_t list_len, uint8_t *bits, size_t bits_len,
+                        uint8_t *validity, size_t validity_len);
+int32_t flcol_is_in_i8(flcol_array *array, const int8_t *list, size_t list_len, uint8_t *bits, size_t bits_len,
+                        uint8_t *validity, size_t validity_len);
+int32_t flcol_is_in_i16(flcol_array *array, const int16_t *list, size_t list_len, uint8_t *bits, size_t bits_len,
+                        uint8_t *validity, size_t validity_len);
+int32_t flcol_is_in_i32(flcol_array *array, const int32_t *list, size_t list_len, uint8_t *bits, size_t bits_len,
+                        uint8_t *validity, size_t validity_len);
+int32_t flcol_is_in_i64(flcol_array *array, const int64_t *list, size_t list_len, uint8_t *bits, size_t bits_len,
+                        uint8_t *validity, size_t validity_len);
+
 /* ---- Aggregates ---- */
 
 /* How many items are valid and compare so with a constant. FLCOL_NO_ARRAY. FLCOL_BAD_OPERATOR. FLCOL_WRONG_TYPE. */
@@ -415,6 +434,67 @@ int32_t flcol_filter_between_i32(flcol_array *array, int32_t lower, int32_t uppe
                           uint8_t upper_strict, flcol_array *out);
 int32_t flcol_filter_between_i64(flcol_array *array, int64_t lower, int64_t upper, uint8_t lower_strict,
                           uint8_t upper_strict, flcol_array *out);
+
+/* ---- Selections ---- */
+
+/* Of the items whose bits are set in a mask, as of flcol_filter, how many are valid and compare so with a constant. A block of
+   1024 items without a set bit is not read. FLCOL_NO_ARRAY. FLCOL_BAD_OPERATOR. FLCOL_WRONG_TYPE. FLCOL_MASK_LENGTH. */
+int32_t flcol_count_under_u8(flcol_array *array, const uint8_t *mask, size_t mask_len, uint8_t op, uint8_t constant,
+                              size_t *count);
+int32_t flcol_count_under_u16(flcol_array *array, const uint8_t *mask, size_t mask_len, uint8_t op, uint16_t constant,
+                              size_t *count);
+int32_t flcol_count_under_u32(flcol_array *array, const uint8_t *mask, size_t mask_len, uint8_t op, uint32_t constant,
+                              size_t *count);
+int32_t flcol_count_under_u64(flcol_array *array, const uint8_t *mask, size_t mask_len, uint8_t op, uint64_t constant,
+                              size_t *count);
+int32_t flcol_count_under_i8(flcol_array *array, const uint8_t *mask, size_t mask_len, uint8_t op, int8_t constant,
+                              size_t *count);
+int32_t flcol_count_under_i16(flcol_array *array, const uint8_t *mask, size_t mask_len, uint8_t op, int16_t constant,
+                              size_t *count);
+int32_t flcol_count_under_i32(flcol_array *array, const uint8_t *mask, size_t mask_len, uint8_t op, int32_t constant,
+                              size_t *count);
+int32_t flcol_count_under_i64(flcol_array *array, const uint8_t *mask, size_t mask_len, uint8_t op, int64_t constant,
+                              size_t *count);
+
+/* Of these items the least and the greatest that is valid, and 0; or two zeros and 1, where none is valid.
+   FLCOL_NO_ARRAY. FLCOL_WRONG_TYPE. FLCOL_MASK_LENGTH. */
+int32_t flcol_min_max_under_u8(flcol_array *array, const uint8_t *mask, size_t mask_len, uint8_t *least,
+                                uint8_t *greatest, uint8_t *is_none);
+int32_t flcol_min_max_under_u16(flcol_array *array, const uint8_t *mask, size_t mask_len, uint16_t *least,
+                                uint16_t *greatest, uint8_t *is_none);
+int32_t flcol_min_max_under_u32(flcol_array *array, const uint8_t *mask, size_t mask_len, uint32_t *least,
+                                uint32_t *greatest, uint8_t *is_none);
+int32_t flcol_min_max_under_u64(flcol_array *array, const uint8_t *mask, size_t mask_len, uint64_t *least,
+                                uint64_t *greatest, uint8_t *is_none);
+int32_t flcol_min_max_under_i8(flcol_array *array, const uint8_t *mask, size_t mask_len, int8_t *least,
+                                int8_t *greatest, uint8_t *is_none);
+int32_t flcol_min_max_under_i16(flcol_array *array, const uint8_t *mask, size_t mask_len, int16_t *least,
+                                int16_t *greatest, uint8_t *is_none);
+int32_t flcol_min_max_under_i32(flcol_array *array, const uint8_t *mask, size_t mask_len, int32_t *least,
+                                int32_t *greatest, uint8_t *is_none);
+int32_t flcol_min_max_under_i64(flcol_array *array, const uint8_t *mask, size_t mask_len, int64_t *least,
+                                int64_t *greatest, uint8_t *is_none);
+
+/* The sum of the valid ones of these items, exactly, as of flcol_sum_unsigned and flcol_sum_signed.
+   FLCOL_NO_ARRAY. FLCOL_WRONG_TYPE. FLCOL_MASK_LENGTH. */
+int32_t flcol_sum_under_unsigned(flcol_array *array, const uint8_t *mask, size_t mask_len, uint64_t *high, uint64_t *low);
+int32_t flcol_sum_under_signed(flcol_array *array, const uint8_t *mask, size_t mask_len, int64_t *high, uint64_t *low);
+
+/* The first position whose item is not below a value, or the number of items; a null is below every value. Few blocks are read.
+   C owes that the array is sorted, as flcol_is_sorted says: a call that looked at it would read all of it.
+   FLCOL_NO_ARRAY. FLCOL_WRONG_TYPE. */
+int32_t flcol_lower_bound_u8(flcol_array *array, uint8_t value, size_t *position);
+int32_t flcol_lower_bound_u16(flcol_array *array, uint16_t value, size_t *position);
+int32_t flcol_lower_bound_u32(flcol_array *array, uint32_t value, size_t *position);
+int32_t flcol_lower_bound_u64(flcol_array *array, uint64_t value, size_t *position);
+int32_t flcol_lower_bound_i8(flcol_array *array, int8_t value, size_t *position);
+int32_t flcol_lower_bound_i16(flcol_array *array, int16_t value, size_t *position);
+int32_t flcol_lower_bound_i32(flcol_array *array, int32_t value, size_t *position);
+int32_t flcol_lower_bound_i64(flcol_array *array, int64_t value, size_t *position);
+
+/* A plain array of u64: the positions of the set bits of the first `len`, in their order, as flcol_take takes them.
+   FLCOL_WRONG_LENGTH: `bits_len` is not (len + 7) / 8. */
+int32_t flcol_indices_of(const uint8_t *bits, size_t bits_len, size_t len, flcol_array *out);
 
 /* ---- Answers ---- */
 

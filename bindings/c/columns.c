@@ -139,6 +139,9 @@ static void booleans(void) {
     CHECK(flcol_between_u8(&array, 0, 1, 0, 0, &byte, 1, NULL, 0) == FLCOL_WRONG_TYPE);
     CHECK(flcol_count_u8(&array, FLCOL_EQ, 1, &number) == FLCOL_WRONG_TYPE && flcol_count_between_u8(&array, 0, 1, 0, 0, &number) == FLCOL_WRONG_TYPE);
     CHECK(flcol_min_max_u8(&array, written, written + 1, &byte) == FLCOL_WRONG_TYPE && flcol_sum_unsigned(&array, &bytes, &bytes) == FLCOL_WRONG_TYPE);
+    CHECK(flcol_is_in_u8(&array, written, 1, &byte, 1, NULL, 0) == FLCOL_WRONG_TYPE && flcol_lower_bound_u8(&array, 1, &number) == FLCOL_WRONG_TYPE);
+    CHECK(flcol_count_under_u8(&array, &bits, 1, FLCOL_EQ, 1, &number) == FLCOL_WRONG_TYPE && flcol_sum_under_signed(&array, &bits, 1, (int64_t *)&bytes, &bytes) == FLCOL_WRONG_TYPE);
+    CHECK(flcol_min_max_under_u8(&array, &bits, 1, written, written + 1, &byte) == FLCOL_WRONG_TYPE && flcol_sum_under_unsigned(&array, &bits, 1, &bytes, &bytes) == FLCOL_WRONG_TYPE);
     CHECK(flcol_filter_by_u8(&array, FLCOL_EQ, 1, &out) == FLCOL_WRONG_TYPE && flcol_filter_between_u8(&array, 0, 1, 0, 0, &out) == FLCOL_WRONG_TYPE);
     CHECK(number == 2 && bytes == 1 && byte == FLCOL_BOOL && out.at == held && memcmp(written, container, sizeof written) == 0);
     flcol_free(&array), flcol_free(&out);

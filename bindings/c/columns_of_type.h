@@ -176,6 +176,8 @@ static int32_t FN(sum_of_other_sign)(flcol_array *array, uint64_t *high, uint64_
     return NUMBER < FLCOL_I8 ? flcol_sum_signed(array, (int64_t *)high, low) : flcol_sum_unsigned(array, high, low);
 }
 
+#include "selections_of_type.h"
+
 /* Sums and extremes beside a loop with carries. */
 static void FN(gathers)(flcol_array *array, const ITEM *items, const uint8_t *validity, size_t n) {
     uint64_t high = 0, low = 0, sum_high = 1, sum_low = 1;
@@ -241,6 +243,8 @@ static void FN(totals)(flcol_array *array, const ITEM *items, const uint8_t *val
     CHECK(flcol_slice(array, from, to, &part) == FLCOL_OK);
     FN(gathers)(&part, items + from, valid, to - from);
     FN(counts)(&part, items + from, valid, to - from);
+    FN(selects)(array, n), FN(selects)(&part, to - from);
+    FN(lists)(array, items, validity, n), FN(lists)(&part, items + from, valid, to - from);
     flcol_free(&part);
 }
 
@@ -405,5 +409,7 @@ static void FN(columns)(void) {
     }
     FN(constants)();
     FN(far_totals)();
+    FN(finds)();
     FN(refusals)();
+    FN(refuses_selections)();
 }

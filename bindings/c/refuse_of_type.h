@@ -36,6 +36,13 @@ static int32_t FN(attempt)(int call) {
                                  : flcol_sum_signed(&array, (int64_t *)&totals.high, &totals.low);
     case 25: return CALL(filter_by)(&array, FLCOL_LT, 20, &out);
     case 26: return CALL(filter_between)(&array, 3, 20, 0, 1, &out);
+    case 27: return CALL(is_in)(&array, FN(items), 3, bits, ITEM_BYTES, written, ITEM_BYTES);
+    case 28: return CALL(count_under)(&array, validity, ITEM_BYTES, FLCOL_LT, 20, &totals.count);
+    case 29: return CALL(min_max_under)(&array, validity, ITEM_BYTES, &FN(values)[0], &FN(values)[1], bits);
+    case 30:
+        return NUMBER < FLCOL_I8 ? flcol_sum_under_unsigned(&array, validity, ITEM_BYTES, &totals.high, &totals.low)
+                                 : flcol_sum_under_signed(&array, validity, ITEM_BYTES, (int64_t *)&totals.high, &totals.low);
+    case 31: return flcol_indices_of(validity, ITEM_BYTES, ITEMS, &out);
     default: return LAST_CALL;
     }
 }

@@ -16,6 +16,30 @@ static void FN(ask_totals)(flcol_array *array, const ITEM *values, const uint8_t
     flcol_free(&chosen);
 }
 
+/* What is asked under a mask, here that of the valid items, and of a list is what the items say that were read. */
+static void FN(ask_selected)(flcol_array *array, const ITEM *values, const uint8_t *valid, size_t n) {
+    const ITEM list[] = {3, 9};
+    const size_t bytes = (n + 7) / 8;
+    uint8_t *bits = (uint8_t *)malloc(bytes), *known = (uint8_t *)malloc(bytes), is_none = 0, is_sorted = 0;
+    uint64_t high = 0, low = 0, sum = 0;
+    size_t count = 0, met = 0, position = 0;
+    ITEM least = 0, greatest = 0;
+    flcol_array positions = {NULL};
+    CHECK(bits != NULL && known != NULL);
+    for (size_t i = 0; i < n; i++) sum += bit(valid, i) ? (uint64_t)values[i] : 0, met += bit(valid, i) && values[i] >= 3;
+    int is_summed = answers(NUMBER < FLCOL_I8 ? flcol_sum_under_unsigned(array, valid, bytes, &high, &low)
+                                              : flcol_sum_under_signed(array, valid, bytes, (int64_t *)&high, &low));
+    CHECK(!is_summed || low == sum);
+    CHECK(!answers(CALL(count_under)(array, valid, bytes, FLCOL_GTE, 3, &count)) || count == met);
+    CHECK(!answers(CALL(min_max_under)(array, valid, bytes, &least, &greatest, &is_none)) || is_none || least <= greatest);
+    int is_listed = answers(CALL(is_in)(array, list, 2, bits, bytes, known, bytes));
+    for (size_t i = 0; i < n && is_listed; i++) CHECK(!bit(valid, i) || bit(bits, i) == (values[i] == 3 || values[i] == 9));
+    if (answers(flcol_is_sorted(array, 0, &is_sorted)) && is_sorted)
+        CHECK(!answers(CALL(lower_bound)(array, 3, &position)) || position == n - met);
+    answers(flcol_indices_of(valid, bytes, n, &positions));
+    free(bits), free(known), flcol_free(&positions);
+}
+
 /* An array of this type answers all calls alike, or finds no memory. */
 static void FN(ask)(flcol_array *array, size_t n) {
     ITEM *values = (ITEM *)malloc((n + 1) * sizeof(ITEM)), value = 0;
@@ -30,6 +54,7 @@ static void FN(ask)(flcol_array *array, size_t n) {
         CHECK(is_null == !bit(valid, i) && (is_null || (value == values[i] && bit(bits, i) == (value >= 3))));
     }
     FN(ask_totals)(array, values, valid, is_compared ? n : 0);
+    if (is_compared && n > 0) FN(ask_selected)(array, values, valid, n);
     if (answers(flcol_slice(array, n / 3, n, &part))) answers(CALL(read)(&part, values, n - n / 3, valid, (n - n / 3 + 7) / 8));
     free(values), free(valid), free(bits), flcol_free(&part);
 }

@@ -32,31 +32,53 @@ Datum sql_flcol_slice(PG_FUNCTION_ARGS) {
     PG_RETURN_DATUM(array_value(part));
 }
 
-/* Gathers from all items of a value. It can be cancelled between two windows. */
-static void gather_all(Datum value, gather_fn *gather, void *gathered) {
-    struct column *column = open_value(value);
+void gather_all(struct column *column, const uint8_t *mask, gather_fn *gather, void *gathered) {
     for (size_t from = 0; from < column->len; from += COLUMN_WINDOW) {
         CHECK_FOR_INTERRUPTS();
-        check(column_gather(column, from, gather, gathered));
+        check(column_gather(column, from, mask, gather, gathered));
     }
+}
+
+/* Gathers from the items of the first argument: from all, or where there is a second one from those that it is true for. */
+static void gather_asked(FunctionCallInfo fcinfo, gather_fn *gather, void *gathered) {
+    struct column *column = open_value(PG_GETARG_DATUM(0));
+    struct answers answers = {0};
+    if (PG_NARGS() > 1) {
+        read_bits(&answers, PG_GETARG_DATUM(1));
+        check(answers_as_mask(&answers, column));
+    }
+    gather_all(column, answers.bits, gather, gathered);
+    if (PG_NARGS() > 1) answers_close(&answers);
     column_close(column);
+}
+
+/* How many items of the first argument meet a condition. */
+static Datum count_items(FunctionCallInfo fcinfo, struct condition condition) {
+    struct column *column = open_value(PG_GETARG_DATUM(0));
+    struct counted counted = {.condition = condition};
+    gather_all(column, NULL, gather_count, &counted);
+    column_close(column);
+    PG_RETURN_INT64(counted.count);
+}
+
+uint8_t operator_argument(Datum value) {
+    const char *text = DatumGetCString(DirectFunctionCall1(enum_out, value));
+    uint8_t op = 0;
+    check(operator_of(text, strlen(text), &op));
+    return op;
 }
 
 PG_FUNCTION_INFO_V1(sql_flcol_count);
 Datum sql_flcol_count(PG_FUNCTION_ARGS) {
-    const char *operator = DatumGetCString(DirectFunctionCall1(enum_out, PG_GETARG_DATUM(1)));
-    struct counted counted = {.condition = {.constant = PG_GETARG_INT64(2)}};
-    check(operator_of(operator, strlen(operator), &counted.condition.op));
-    gather_all(PG_GETARG_DATUM(0), gather_count, &counted);
-    PG_RETURN_INT64(counted.count);
+    const struct condition condition = {.op = operator_argument(PG_GETARG_DATUM(1)), .constant = PG_GETARG_INT64(2)};
+    return count_items(fcinfo, condition);
 }
 
 PG_FUNCTION_INFO_V1(sql_flcol_between);
 Datum sql_flcol_between(PG_FUNCTION_ARGS) {
-    struct counted counted = {
-        .condition = {.is_between = true, .lower = PG_GETARG_INT64(1), .upper = PG_GETARG_INT64(2)}};
-    gather_all(PG_GETARG_DATUM(0), gather_count, &counted);
-    PG_RETURN_INT64(counted.count);
+    const struct condition condition = {
+        .is_between = true, .lower = PG_GETARG_INT64(1), .upper = PG_GETARG_INT64(2)};
+    return count_items(fcinfo, condition);
 }
 
 /* ---- Sums and extremes: null where no item is an integer ---- */
@@ -74,7 +96,7 @@ static Datum numeric_of(wide integer) {
 PG_FUNCTION_INFO_V1(sql_flcol_sum);
 Datum sql_flcol_sum(PG_FUNCTION_ARGS) {
     struct summed summed = {0};
-    gather_all(PG_GETARG_DATUM(0), gather_sum, &summed);
+    gather_asked(fcinfo, gather_sum, &summed);
     if (summed.count == 0) PG_RETURN_NULL();
     PG_RETURN_DATUM(numeric_of(summed.sum));
 }
@@ -83,7 +105,7 @@ Datum sql_flcol_sum(PG_FUNCTION_ARGS) {
 PG_FUNCTION_INFO_V1(sql_flcol_avg);
 Datum sql_flcol_avg(PG_FUNCTION_ARGS) {
     struct summed summed = {0};
-    gather_all(PG_GETARG_DATUM(0), gather_sum, &summed);
+    gather_asked(fcinfo, gather_sum, &summed);
     if (summed.count == 0) PG_RETURN_NULL();
     PG_RETURN_DATUM(DirectFunctionCall2(numeric_div, numeric_of(summed.sum), numeric_of(summed.count)));
 }
@@ -91,7 +113,7 @@ Datum sql_flcol_avg(PG_FUNCTION_ARGS) {
 static Datum extreme(FunctionCallInfo fcinfo, bool is_greatest) {
     struct extremes extremes = {0};
     int64_t value = 0;
-    gather_all(PG_GETARG_DATUM(0), gather_extremes, &extremes);
+    gather_asked(fcinfo, gather_extremes, &extremes);
     if (!extremes.is_some) PG_RETURN_NULL();
     check(narrowed(is_greatest ? extremes.greatest : extremes.least, &value));
     PG_RETURN_INT64(value);

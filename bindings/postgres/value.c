@@ -116,15 +116,13 @@ Datum array_value(flcol_array *array) {
     return PointerGetDatum(value);
 }
 
-/* ---- The type's functions ---- */
+/* ---- Values of text, messages and bytes ---- */
 
-/* Bytes as a value, once they are seen to be a container whose column can be asked. What they are refused for is an
-   error, or is noted where the caller has asked for that by a context. */
-static Datum accept(bytea *bytes, Node *context) {
-    struct column column;
+/* Bytes as a value, once they were tried. What they are refused for is an error, or is noted where the caller has asked for
+   that by a context. */
+static Datum accept(bytea *bytes, try_fn *try_bytes, Node *context) {
     char text[REFUSAL_TEXT];
-    const int32_t status = column_open(&column, VARDATA_ANY(bytes), VARSIZE_ANY_EXHDR(bytes));
-    column_close(&column);
+    const int32_t status = try_bytes(VARDATA_ANY(bytes), VARSIZE_ANY_EXHDR(bytes));
     if (status == FLCOL_OK) return PointerGetDatum(bytes);
     if (status == FLCOL_OUT_OF_MEMORY) refuse(status);
     refusal_text(status, text);
@@ -132,19 +130,46 @@ static Datum accept(bytea *bytes, Node *context) {
 }
 
 /* The container of `\x` and hexadecimal digits. */
-PG_FUNCTION_INFO_V1(sql_flcol_in);
-Datum sql_flcol_in(PG_FUNCTION_ARGS) {
+Datum value_of_text(FunctionCallInfo fcinfo, const char *type, try_fn *try_bytes) {
     const char *text = PG_GETARG_CSTRING(0);
     if (text[0] != '\\' || text[1] != 'x')
         ereturn(fcinfo->context, (Datum)0,
-                (errcode(ERRCODE_INVALID_TEXT_REPRESENTATION), errmsg("invalid input syntax for type flcol"),
+                (errcode(ERRCODE_INVALID_TEXT_REPRESENTATION), errmsg("invalid input syntax for type %s", type),
                  errdetail("A column is written as \\x and the hexadecimal digits of its container.")));
     const size_t digits = strlen(text + 2);
     bytea *bytes = palloc(VARHDRSZ + digits / 2 + 1);
     const uint64 len = hex_decode_safe(text + 2, digits, VARDATA(bytes), fcinfo->context);
     if (SOFT_ERROR_OCCURRED(fcinfo->context)) PG_RETURN_NULL();
     SET_VARSIZE(bytes, VARHDRSZ + len);
-    PG_RETURN_DATUM(accept(bytes, fcinfo->context));
+    PG_RETURN_DATUM(accept(bytes, try_bytes, fcinfo->context));
+}
+
+Datum value_of_message(FunctionCallInfo fcinfo, try_fn *try_bytes) {
+    StringInfo message = (StringInfo)PG_GETARG_POINTER(0);
+    const int len = message->len - message->cursor;
+    bytea *bytes = palloc(VARHDRSZ + len);
+    SET_VARSIZE(bytes, VARHDRSZ + len);
+    pq_copymsgbytes(message, VARDATA(bytes), len);
+    PG_RETURN_DATUM(accept(bytes, try_bytes, NULL));
+}
+
+Datum value_of_bytea(FunctionCallInfo fcinfo, try_fn *try_bytes) {
+    PG_RETURN_DATUM(accept(PG_GETARG_BYTEA_P_COPY(0), try_bytes, NULL));
+}
+
+/* ---- The type's functions ---- */
+
+/* Whether bytes are a container whose column can be asked. */
+static int32_t try_column(const void *bytes, size_t len) {
+    struct column column;
+    const int32_t status = column_open(&column, bytes, len);
+    column_close(&column);
+    return status;
+}
+
+PG_FUNCTION_INFO_V1(sql_flcol_in);
+Datum sql_flcol_in(PG_FUNCTION_ARGS) {
+    return value_of_text(fcinfo, "flcol", try_column);
 }
 
 PG_FUNCTION_INFO_V1(sql_flcol_out);
@@ -160,12 +185,7 @@ Datum sql_flcol_out(PG_FUNCTION_ARGS) {
 
 PG_FUNCTION_INFO_V1(sql_flcol_recv);
 Datum sql_flcol_recv(PG_FUNCTION_ARGS) {
-    StringInfo message = (StringInfo)PG_GETARG_POINTER(0);
-    const int len = message->len - message->cursor;
-    bytea *bytes = palloc(VARHDRSZ + len);
-    SET_VARSIZE(bytes, VARHDRSZ + len);
-    pq_copymsgbytes(message, VARDATA(bytes), len);
-    PG_RETURN_DATUM(accept(bytes, NULL));
+    return value_of_message(fcinfo, try_column);
 }
 
 PG_FUNCTION_INFO_V1(sql_flcol_send);
@@ -176,5 +196,5 @@ Datum sql_flcol_send(PG_FUNCTION_ARGS) {
 /* The container of a bytea. */
 PG_FUNCTION_INFO_V1(sql_flcol_of_bytea);
 Datum sql_flcol_of_bytea(PG_FUNCTION_ARGS) {
-    PG_RETURN_DATUM(accept(PG_GETARG_BYTEA_P_COPY(0), NULL));
+    return value_of_bytea(fcinfo, try_column);
 }

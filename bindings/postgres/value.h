@@ -28,6 +28,23 @@ extern flcol_array *hold_array(void);
 /* A value of an array, which is given back. */
 extern Datum array_value(flcol_array *array);
 
+/* Gathers from all items of a column, or from those of a mask where it is not NULL. It can be cancelled between two windows. */
+extern void gather_all(struct column *column, const uint8_t *mask, gather_fn *gather, void *gathered);
+
+/* The operator of a value of the type `flcol_operator`. */
+extern uint8_t operator_argument(Datum value);
+
+/* The answers of a value of the type `flcol_bits`, in memory of the current context. */
+extern void read_bits(struct answers *answers, Datum value);
+
+/* How the bytes of a value are tried: a status. */
+typedef int32_t try_fn(const void *bytes, size_t len);
+
+/* A value of the text, the message or the bytes of a function's argument, once they were tried. */
+extern Datum value_of_text(FunctionCallInfo fcinfo, const char *type, try_fn *try_bytes);
+extern Datum value_of_message(FunctionCallInfo fcinfo, try_fn *try_bytes);
+extern Datum value_of_bytea(FunctionCallInfo fcinfo, try_fn *try_bytes);
+
 /* The items of a builder by its scheme, as an array that is given back with the current memory context. The statement
    can be cancelled meanwhile. */
 extern flcol_array *encoded_items(const struct builder *items);

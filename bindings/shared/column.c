@@ -8,6 +8,15 @@ void refusal_text(int32_t status, char text[REFUSAL_TEXT]) {
     snprintf(text, REFUSAL_TEXT, "flcol: %s: %s", flcol_status_name(status), flcol_status_message(status));
 }
 
+static size_t smaller(size_t a, size_t b) {
+    return a < b ? a : b;
+}
+
+/* The bytes of a bitmap. */
+static size_t bitmap_bytes(size_t len) {
+    return (len + 7) / 8;
+}
+
 /* ---- The eight types ---- */
 
 /* The calls of flcol.h that have a type in their names, with integers of 64 bits in place of its own. */
@@ -17,9 +26,12 @@ struct integer_type {
     int32_t (*item)(const void *values, size_t index, int64_t *value);
     int32_t (*get)(flcol_array *array, size_t index, struct item *item);
     int32_t (*read)(flcol_array *array, void *values, size_t len, uint8_t *validity, size_t validity_len);
-    int32_t (*count)(flcol_array *array, uint8_t op, int64_t constant, size_t *count);
+    int32_t (*count)(struct part *part, uint8_t op, int64_t constant, size_t *count);
     int32_t (*count_between)(flcol_array *array, int64_t lower, int64_t upper, size_t *count);
-    int32_t (*min_max)(flcol_array *array, struct extremes *extremes);
+    int32_t (*min_max)(struct part *part, struct extremes *extremes);
+    int32_t (*compare)(flcol_array *array, uint8_t op, int64_t constant, uint8_t *bits, uint8_t *validity, size_t len);
+    int32_t (*is_in)(flcol_array *array, const void *list, size_t list_len, uint8_t *bits, uint8_t *validity, size_t len);
+    void (*put)(void *list, size_t index, int64_t value);
 };
 
 #define DEFINE_TYPE(T, C)                                                                                             \
@@ -41,18 +53,35 @@ struct integer_type {
     static int32_t read_##T(flcol_array *array, void *values, size_t len, uint8_t *validity, size_t validity_len) {   \
         return flcol_read_##T(array, values, len, validity, validity_len);                                            \
     }                                                                                                                 \
-    static int32_t count_##T(flcol_array *array, uint8_t op, int64_t constant, size_t *count) {                       \
-        return flcol_count_##T(array, op, (C)constant, count);                                                        \
+    static int32_t count_##T(struct part *part, uint8_t op, int64_t constant, size_t *count) {                        \
+        if (part->mask == NULL) return flcol_count_##T(&part->array, op, (C)constant, count);                         \
+        return flcol_count_under_##T(&part->array, part->mask, bitmap_bytes(part->len), op, (C)constant, count);      \
     }                                                                                                                 \
     static int32_t count_between_##T(flcol_array *array, int64_t lower, int64_t upper, size_t *count) {               \
         return flcol_count_between_##T(array, (C)lower, (C)upper, 0, 0, count);                                       \
     }                                                                                                                 \
-    static int32_t min_max_##T(flcol_array *array, struct extremes *extremes) {                                       \
+    static int32_t min_max_##T(struct part *part, struct extremes *extremes) {                                        \
+        const size_t bytes = bitmap_bytes(part->len);                                                                 \
         C least, greatest;                                                                                            \
         uint8_t is_none;                                                                                              \
-        const int32_t status = flcol_min_max_##T(array, &least, &greatest, &is_none);                                 \
+        const int32_t status =                                                                                        \
+            part->mask == NULL                                                                                        \
+                ? flcol_min_max_##T(&part->array, &least, &greatest, &is_none)                                        \
+                : flcol_min_max_under_##T(&part->array, part->mask, bytes, &least, &greatest, &is_none);              \
         if (status == FLCOL_OK) *extremes = (struct extremes){!is_none, (wide)least, (wide)greatest};                 \
         return status;                                                                                                \
+    }                                                                                                                 \
+    static int32_t compare_##T(flcol_array *array, uint8_t op, int64_t constant, uint8_t *bits, uint8_t *validity,    \
+                               size_t len) {                                                                          \
+        return flcol_compare_##T(array, op, (C)constant, bits, len, validity, validity ? len : 0);                    \
+    }                                                                                                                 \
+    static int32_t is_in_##T(flcol_array *array, const void *list, size_t list_len, uint8_t *bits, uint8_t *validity, \
+                             size_t len) {                                                                            \
+        return flcol_is_in_##T(array, list, list_len, bits, len, validity, validity ? len : 0);                       \
+    }                                                                                                                 \
+    static void put_##T(void *list, size_t index, int64_t value) {                                                    \
+        const C item = (C)value;                                                                                      \
+        memcpy((char *)list + index * sizeof item, &item, sizeof item);                                               \
     }
 
 DEFINE_TYPE(u8, uint8_t)
@@ -65,7 +94,8 @@ DEFINE_TYPE(i32, int32_t)
 DEFINE_TYPE(i64, int64_t)
 
 #define TYPE_OF(T, LEAST, GREATEST) \
-    {LEAST, GREATEST, item_##T, get_##T, read_##T, count_##T, count_between_##T, min_max_##T}
+    {LEAST,     GREATEST,          item_##T,    get_##T,     read_##T,  count_##T, \
+     count_between_##T, min_max_##T, compare_##T, is_in_##T, put_##T}
 
 static const struct integer_type types[] = {
     [FLCOL_U8] = TYPE_OF(u8, 0, UINT8_MAX),           [FLCOL_U16] = TYPE_OF(u16, 0, UINT16_MAX),
@@ -73,15 +103,6 @@ static const struct integer_type types[] = {
     [FLCOL_I8] = TYPE_OF(i8, INT8_MIN, INT8_MAX),     [FLCOL_I16] = TYPE_OF(i16, INT16_MIN, INT16_MAX),
     [FLCOL_I32] = TYPE_OF(i32, INT32_MIN, INT32_MAX), [FLCOL_I64] = TYPE_OF(i64, INT64_MIN, INT64_MAX),
 };
-
-static size_t smaller(size_t a, size_t b) {
-    return a < b ? a : b;
-}
-
-/* The bytes of a bitmap. */
-static size_t bitmap_bytes(size_t len) {
-    return (len + 7) / 8;
-}
 
 /* ---- Columns that are kept ---- */
 
@@ -178,16 +199,17 @@ static bool is_decided(const struct integer_type *type, uint8_t op, int64_t cons
     return true;
 }
 
-static int32_t count_valid(flcol_array *part, size_t len, int64_t *count) {
-    size_t nulls = 0;
-    const int32_t status = flcol_null_count(part, &nulls);
-    if (status == FLCOL_OK) *count += (int64_t)(len - nulls);
+/* Counts a part's items that are asked and not null. */
+static int32_t count_valid(const struct integer_type *type, struct part *part, int64_t *count) {
+    size_t counted = 0;
+    const int32_t status = part->mask == NULL ? flcol_null_count(&part->array, &counted)
+                                              : type->count(part, FLCOL_GTE, type->least, &counted);
+    if (status == FLCOL_OK) *count += (int64_t)(part->mask == NULL ? part->len - counted : counted);
     return status;
 }
 
 /* Counts a part's items that meet a condition. */
-static int32_t count_in(const struct integer_type *type, flcol_array *part, size_t len, struct condition condition,
-                        int64_t *count) {
+static int32_t count_in(const struct integer_type *type, struct part *part, struct condition condition, int64_t *count) {
     bool is_met;
     size_t met = 0;
     int32_t status = FLCOL_OK;
@@ -195,9 +217,9 @@ static int32_t count_in(const struct integer_type *type, flcol_array *part, size
         if (condition.lower < type->least) condition.lower = type->least;
         if (condition.upper > type->greatest) condition.upper = type->greatest;
         if (condition.lower > condition.upper) return FLCOL_OK;
-        status = type->count_between(part, condition.lower, condition.upper, &met);
+        status = type->count_between(&part->array, condition.lower, condition.upper, &met);
     } else if (is_decided(type, condition.op, condition.constant, &is_met)) {
-        return is_met ? count_valid(part, len, count) : FLCOL_OK;
+        return is_met ? count_valid(type, part, count) : FLCOL_OK;
     } else {
         status = type->count(part, condition.op, condition.constant, &met);
     }
@@ -205,35 +227,43 @@ static int32_t count_in(const struct integer_type *type, flcol_array *part, size
     return status;
 }
 
-int32_t gather_count(struct column *column, flcol_array *part, size_t len, void *gathered) {
+int32_t gather_count(struct column *column, struct part *part, void *gathered) {
     struct counted *counted = gathered;
-    return count_in(&types[column->type], part, len, counted->condition, &counted->count);
+    return count_in(&types[column->type], part, counted->condition, &counted->count);
 }
 
 /* ---- Sums and extremes ---- */
 
-static int32_t sum_of(struct column *column, flcol_array *part, wide *sum) {
-    const wide high_one = (wide)1 << 64;
+static int32_t sum_unsigned(struct part *part, wide *sum) {
     uint64_t high = 0, low = 0;
-    int64_t signed_high = 0;
-    const bool is_signed = column->type >= FLCOL_I8;
     const int32_t status =
-        is_signed ? flcol_sum_signed(part, &signed_high, &low) : flcol_sum_unsigned(part, &high, &low);
-    *sum = (is_signed ? (wide)signed_high : (wide)high) * high_one + (wide)low;
+        part->mask == NULL ? flcol_sum_unsigned(&part->array, &high, &low)
+                           : flcol_sum_under_unsigned(&part->array, part->mask, bitmap_bytes(part->len), &high, &low);
+    *sum = ((wide)high << 64) + (wide)low;
     return status;
 }
 
-int32_t gather_sum(struct column *column, flcol_array *part, size_t len, void *gathered) {
+static int32_t sum_signed(struct part *part, wide *sum) {
+    const wide high_one = (wide)1 << 64;
+    int64_t high = 0;
+    uint64_t low = 0;
+    const int32_t status =
+        part->mask == NULL ? flcol_sum_signed(&part->array, &high, &low)
+                           : flcol_sum_under_signed(&part->array, part->mask, bitmap_bytes(part->len), &high, &low);
+    *sum = (wide)high * high_one + (wide)low;
+    return status;
+}
+
+int32_t gather_sum(struct column *column, struct part *part, void *gathered) {
     struct summed *summed = gathered;
     wide sum = 0;
-    int32_t status = sum_of(column, part, &sum);
-    if (status == FLCOL_OK) status = count_valid(part, len, &summed->count);
+    int32_t status = column->type >= FLCOL_I8 ? sum_signed(part, &sum) : sum_unsigned(part, &sum);
+    if (status == FLCOL_OK) status = count_valid(&types[column->type], part, &summed->count);
     if (status == FLCOL_OK) summed->sum += sum;
     return status;
 }
 
-int32_t gather_extremes(struct column *column, flcol_array *part, size_t len, void *gathered) {
-    (void)len;
+int32_t gather_extremes(struct column *column, struct part *part, void *gathered) {
     struct extremes *all = gathered, of_part = {0};
     const int32_t status = types[column->type].min_max(part, &of_part);
     if (status != FLCOL_OK || !of_part.is_some) return status;
@@ -243,17 +273,54 @@ int32_t gather_extremes(struct column *column, flcol_array *part, size_t len, vo
     return FLCOL_OK;
 }
 
+/* ---- Tests that are answered ---- */
+
+/* The room for the answers of a part. */
+static uint8_t *room_at(uint8_t *bitmap, const struct part *part) {
+    return bitmap == NULL ? NULL : bitmap + part->from / 8;
+}
+
+int32_t gather_compared(struct column *column, struct part *part, void *gathered) {
+    const struct compared *compared = gathered;
+    const struct integer_type *type = &types[column->type];
+    uint8_t op = compared->op;
+    int64_t constant = compared->constant;
+    bool answer;
+    if (is_decided(type, op, constant, &answer)) {
+        op = answer ? FLCOL_GTE : FLCOL_LT;
+        constant = type->least;
+    }
+    return type->compare(&part->array, op, constant, room_at(compared->answers->bits, part),
+                         room_at(compared->answers->validity, part), bitmap_bytes(part->len));
+}
+
+int32_t gather_listed(struct column *column, struct part *part, void *gathered) {
+    const struct listed *listed = gathered;
+    return types[column->type].is_in(&part->array, listed->list, listed->len, room_at(listed->answers->bits, part),
+                                     room_at(listed->answers->validity, part), bitmap_bytes(part->len));
+}
+
+void column_narrow(const struct column *column, int64_t *list, size_t *len) {
+    const struct integer_type *type = &types[column->type];
+    size_t kept = 0;
+    for (size_t i = 0; i < *len; i++) {
+        int64_t value;
+        memcpy(&value, (const char *)list + i * sizeof value, sizeof value);
+        if (value >= type->least && value <= type->greatest) type->put(list, kept++, value);
+    }
+    *len = kept;
+}
+
 int32_t narrowed(wide integer, int64_t *value) {
     if (integer < INT64_MIN || integer > INT64_MAX) return FLCOL_CAST_OUT_OF_RANGE;
     *value = (int64_t)integer;
     return FLCOL_OK;
 }
 
-int32_t column_gather(struct column *column, size_t from, gather_fn *gather, void *gathered) {
-    flcol_array part = FLCOL_EMPTY;
-    size_t len = 0;
-    int32_t status = part_of(column, from, &part, &len);
-    if (status == FLCOL_OK) status = gather(column, &part, len, gathered);
-    flcol_free(&part);
+int32_t column_gather(struct column *column, size_t from, const uint8_t *mask, gather_fn *gather, void *gathered) {
+    struct part part = {FLCOL_EMPTY, from, 0, mask == NULL ? NULL : mask + from / 8};
+    int32_t status = part_of(column, from, &part.array, &part.len);
+    if (status == FLCOL_OK) status = gather(column, &part, gathered);
+    flcol_free(&part.array);
     return status;
 }

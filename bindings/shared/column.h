@@ -73,12 +73,21 @@ int32_t column_item(struct column *column, struct window *window, size_t index, 
 /* An integer of 128 bits, which the sum of a column is. */
 __extension__ typedef __int128 wide;
 
-/* Adds to what is gathered from a column what a part of so many items says. */
-typedef int32_t gather_fn(struct column *column, flcol_array *part, size_t len, void *gathered);
+/* Some of a column's items, one behind the other. */
+struct part {
+    flcol_array array;
+    size_t from; /* the index of the first one, a multiple of COLUMN_WINDOW */
+    size_t len;
+    const uint8_t *mask; /* the bitmap of those that are asked, or NULL: all are */
+};
+
+/* Adds to what is gathered from a column what a part of it says. */
+typedef int32_t gather_fn(struct column *column, struct part *part, void *gathered);
 
 /* Gathers from the COLUMN_WINDOW items from `from` on, or from as many as there are, so that whoever goes over a column can
-   stop in between. */
-int32_t column_gather(struct column *column, size_t from, gather_fn *gather, void *gathered);
+   stop in between. Where `mask` is not NULL it is a bitmap of the column's items, of which those are asked whose bits are
+   set. */
+int32_t column_gather(struct column *column, size_t from, const uint8_t *mask, gather_fn *gather, void *gathered);
 
 /* What items are counted: those that compare so with a constant, or lie between two bounds, which belong to it. */
 struct condition {
@@ -108,7 +117,7 @@ struct extremes {
     wide greatest;
 };
 
-/* Each gathers to the struct of its name. */
+/* Each gathers to the struct of its name. No mask goes with a condition. */
 gather_fn gather_count, gather_sum, gather_extremes;
 
 /* The operator of the text `=`, `<>`, `!=`, `>`, `>=`, `<` or `<=`. FLCOL_BAD_OPERATOR. */
@@ -117,10 +126,71 @@ int32_t operator_of(const char *text, size_t len, uint8_t *op);
 /* The integer in 64 bits. FLCOL_CAST_OUT_OF_RANGE. */
 int32_t narrowed(wide integer, int64_t *value);
 
-/* ---- Making a column ---- */
+/* ---- Answers ---- */
 
 /* Gives memory of `size` bytes in place of `memory`, or NULL. */
 typedef void *resize_fn(void *owner, void *memory, size_t size);
+
+/* Answers of a test: a bit for each item, and which of them are known, bitmaps as those of flcol.h. One of zeros but for
+   `resize` and `owner` has none. `resize` is asked for new memory and to give it back, and never jumps. */
+struct answers {
+    resize_fn *resize;
+    void *owner; /* handed to `resize` */
+    size_t len;
+    uint8_t *bits;
+    uint8_t *validity; /* NULL where no answer is null */
+};
+
+/* The answers of a container of booleans. FLCOL_BAD_CONTAINER, any of 2 to 40: as flcol_deserialize. FLCOL_WRONG_TYPE: a
+   column of integers. FLCOL_LENGTH_OVERFLOW: more than COLUMN_ITEMS. */
+int32_t answers_read(struct answers *answers, const void *container, size_t len);
+
+/* Room for an answer of each item of a column. */
+int32_t answers_begin(struct answers *answers, const struct column *column);
+
+/* The answers as an array of booleans. */
+int32_t answers_array(const struct answers *answers, flcol_array *out);
+
+/* Joins others to answers by flcol_and or flcol_or. FLCOL_MASK_LENGTH: they are more or fewer. */
+typedef int32_t join_fn(uint8_t *bits, size_t bits_len, uint8_t *validity, size_t validity_len, const uint8_t *other,
+                        size_t other_len, const uint8_t *other_validity, size_t other_validity_len);
+int32_t answers_join(struct answers *answers, const struct answers *other, join_fn *join);
+
+/* Turns each answer that is not null. */
+int32_t answers_turn(struct answers *answers);
+
+/* How many answers are true. */
+int32_t answers_count(const struct answers *answers, int64_t *count);
+
+/* Makes the answers the mask of a column: a bit is set where an answer is true. FLCOL_MASK_LENGTH: the column has not as many
+   items. */
+int32_t answers_as_mask(struct answers *answers, const struct column *column);
+
+/* Gives memory back by `resize` with the size 0. */
+void answers_close(struct answers *answers);
+
+/* How items compare with a constant, and the room for the answers of all. */
+struct compared {
+    uint8_t op;
+    int64_t constant;
+    struct answers *answers;
+};
+
+/* Which items are one of a list, and the room for the answers of all. */
+struct listed {
+    int64_t *list; /* which column_narrow has made the column's */
+    size_t len;
+    struct answers *answers;
+};
+
+/* Each writes answers to the struct of its name. No mask goes with them. */
+gather_fn gather_compared, gather_listed;
+
+/* Writes the integers of a list that the column's type has over the list, as integers of that type; `len` becomes how many
+   they are. */
+void column_narrow(const struct column *column, int64_t *list, size_t *len);
+
+/* ---- Making a column ---- */
 
 /* Items that are gathered to be encoded. One of zeros but for `type`, `most`, `resize` and `owner` has none. */
 struct builder {

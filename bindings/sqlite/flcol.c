@@ -13,5 +13,6 @@ __attribute__((visibility("default"))) int sqlite3_flcol_init(sqlite3 *db, char 
     int code = add_functions(db);
     if (code == SQLITE_OK) code = add_aggregates(db);
     if (code == SQLITE_OK) code = add_each(db);
+    if (code == SQLITE_OK) code = add_bits(db);
     return code;
 }

@@ -60,8 +60,7 @@ static void answer_item(sqlite3_context *context, struct item item) {
     }
 }
 
-/* An integer, which no other type is turned into. */
-static int32_t integer_value(sqlite3_value *value, int64_t *integer) {
+int32_t integer_value(sqlite3_value *value, int64_t *integer) {
     if (sqlite3_value_type(value) != SQLITE_INTEGER) return FLCOL_NOT_INTEGER;
     *integer = sqlite3_value_int64(value);
     return FLCOL_OK;
@@ -83,24 +82,20 @@ static int32_t new_column(sqlite3_value *value, struct column **column) {
     return status;
 }
 
-/* What a function does with the column of its first value. */
-typedef int32_t column_fn(sqlite3_context *context, struct column *column, sqlite3_value **values);
-
-static bool has_null(int count, sqlite3_value **values) {
+bool has_null(int count, sqlite3_value **values) {
     for (int i = 0; i < count; i++)
         if (sqlite3_value_type(values[i]) == SQLITE_NULL) return true;
     return false;
 }
 
-/* Calls a function with the column of its first value; with a null the answer is null. Where the blob is the same in
-   each row of a statement, SQLite keeps its column from one row to the next. */
-static void with_column(sqlite3_context *context, int count, sqlite3_value **values, column_fn *function) {
+/* Where the blob is the same in each row of a statement, SQLite keeps its column from one row to the next. */
+void with_column(sqlite3_context *context, int count, sqlite3_value **values, column_fn *function) {
     if (has_null(count, values)) return;
     struct column *column = sqlite3_get_auxdata(context, 0);
     const bool is_kept = column != NULL;
     int32_t status = is_kept ? FLCOL_OK : new_column(values[0], &column);
     if (status == FLCOL_OK) {
-        status = function(context, column, values);
+        status = function(context, column, count, values);
         if (!is_kept) sqlite3_set_auxdata(context, 0, column, drop_column);
     }
     if (status != FLCOL_OK) refuse(context, status);
@@ -108,13 +103,14 @@ static void with_column(sqlite3_context *context, int count, sqlite3_value **val
 
 /* ---- The functions ---- */
 
-static int32_t answer_len(sqlite3_context *context, struct column *column, sqlite3_value **values) {
-    (void)values;
+static int32_t answer_len(sqlite3_context *context, struct column *column, int count, sqlite3_value **values) {
+    (void)count, (void)values;
     sqlite3_result_int64(context, (sqlite3_int64)column->len);
     return FLCOL_OK;
 }
 
-static int32_t answer_get(sqlite3_context *context, struct column *column, sqlite3_value **values) {
+static int32_t answer_get(sqlite3_context *context, struct column *column, int count, sqlite3_value **values) {
+    (void)count;
     int64_t index = 0;
     struct item item = {0};
     int32_t status = integer_value(values[1], &index);
@@ -123,7 +119,8 @@ static int32_t answer_get(sqlite3_context *context, struct column *column, sqlit
     return status;
 }
 
-static int32_t answer_slice(sqlite3_context *context, struct column *column, sqlite3_value **values) {
+static int32_t answer_slice(sqlite3_context *context, struct column *column, int count, sqlite3_value **values) {
+    (void)count;
     int64_t from = 0, to = 0;
     flcol_array part = FLCOL_EMPTY;
     int32_t status = integer_value(values[1], &from);
@@ -143,11 +140,10 @@ static bool is_interrupted(sqlite3_context *context) {
 #endif
 }
 
-/* Gathers from all items, unless the statement is to end early. */
-static int32_t gather_all(sqlite3_context *context, struct column *column, gather_fn *gather, void *gathered) {
+int32_t gather_all(sqlite3_context *context, struct column *column, const uint8_t *mask, gather_fn *gather, void *gathered) {
     for (size_t from = 0; from < column->len; from += COLUMN_WINDOW) {
         if (is_interrupted(context)) return INTERRUPTED;
-        const int32_t status = column_gather(column, from, gather, gathered);
+        const int32_t status = column_gather(column, from, mask, gather, gathered);
         if (status != FLCOL_OK) return status;
     }
     return FLCOL_OK;
@@ -155,12 +151,13 @@ static int32_t gather_all(sqlite3_context *context, struct column *column, gathe
 
 static int32_t answer_condition(sqlite3_context *context, struct column *column, struct condition condition) {
     struct counted counted = {.condition = condition};
-    const int32_t status = gather_all(context, column, gather_count, &counted);
+    const int32_t status = gather_all(context, column, NULL, gather_count, &counted);
     if (status == FLCOL_OK) sqlite3_result_int64(context, counted.count);
     return status;
 }
 
-static int32_t answer_count(sqlite3_context *context, struct column *column, sqlite3_value **values) {
+static int32_t answer_count(sqlite3_context *context, struct column *column, int count, sqlite3_value **values) {
+    (void)count;
     struct condition condition = {.is_between = false};
     const char *text = (const char *)sqlite3_value_text(values[1]);
     if (text == NULL) return FLCOL_OUT_OF_MEMORY;
@@ -169,19 +166,33 @@ static int32_t answer_count(sqlite3_context *context, struct column *column, sql
     return status == FLCOL_OK ? answer_condition(context, column, condition) : status;
 }
 
-static int32_t answer_count_between(sqlite3_context *context, struct column *column, sqlite3_value **values) {
+static int32_t answer_count_between(sqlite3_context *context, struct column *column, int count, sqlite3_value **values) {
+    (void)count;
     struct condition condition = {.is_between = true};
     int32_t status = integer_value(values[1], &condition.lower);
     if (status == FLCOL_OK) status = integer_value(values[2], &condition.upper);
     return status == FLCOL_OK ? answer_condition(context, column, condition) : status;
 }
 
+/* ---- What is gathered from all items, or from those whose bits in a second value are true ---- */
+
+/* Gathers from the items of a column that a call asks: those of its second value where it has one. */
+static int32_t gather_asked(sqlite3_context *context, struct column *column, int count, sqlite3_value **values,
+                            gather_fn *gather, void *gathered) {
+    if (count == 1) return gather_all(context, column, NULL, gather, gathered);
+    struct answers answers = no_answers();
+    int32_t status = read_bits(&answers, values[1]);
+    if (status == FLCOL_OK) status = answers_as_mask(&answers, column);
+    if (status == FLCOL_OK) status = gather_all(context, column, answers.bits, gather, gathered);
+    answers_close(&answers);
+    return status;
+}
+
 /* The sum, as SQLite's own: null where no item is one, and an error beyond 64 bits. */
-static int32_t answer_sum(sqlite3_context *context, struct column *column, sqlite3_value **values) {
-    (void)values;
+static int32_t answer_sum(sqlite3_context *context, struct column *column, int count, sqlite3_value **values) {
     struct summed summed = {0};
     int64_t sum = 0;
-    const int32_t status = gather_all(context, column, gather_sum, &summed);
+    const int32_t status = gather_asked(context, column, count, values, gather_sum, &summed);
     if (status != FLCOL_OK || summed.count == 0) return status;
     if (narrowed(summed.sum, &sum) == FLCOL_OK) {
         sqlite3_result_int64(context, sum);
@@ -192,38 +203,37 @@ static int32_t answer_sum(sqlite3_context *context, struct column *column, sqlit
 }
 
 /* The mean as a float: what comes before the point is exact until it is rounded at the end. */
-static int32_t answer_avg(sqlite3_context *context, struct column *column, sqlite3_value **values) {
-    (void)values;
+static int32_t answer_avg(sqlite3_context *context, struct column *column, int count, sqlite3_value **values) {
     struct summed summed = {0};
-    const int32_t status = gather_all(context, column, gather_sum, &summed);
+    const int32_t status = gather_asked(context, column, count, values, gather_sum, &summed);
     if (status != FLCOL_OK || summed.count == 0) return status;
     const long double whole = (long double)(summed.sum / summed.count), rest = (long double)(summed.sum % summed.count);
     sqlite3_result_double(context, (double)(whole + rest / (long double)summed.count));
     return FLCOL_OK;
 }
 
-static int32_t answer_extreme(sqlite3_context *context, struct column *column, bool is_greatest) {
+static int32_t answer_min(sqlite3_context *context, struct column *column, int count, sqlite3_value **values) {
     struct extremes extremes = {0};
     int64_t value = 0;
-    int32_t status = gather_all(context, column, gather_extremes, &extremes);
+    int32_t status = gather_asked(context, column, count, values, gather_extremes, &extremes);
     if (status != FLCOL_OK || !extremes.is_some) return status;
-    status = narrowed(is_greatest ? extremes.greatest : extremes.least, &value);
+    status = narrowed(extremes.least, &value);
     if (status == FLCOL_OK) sqlite3_result_int64(context, value);
     return status;
 }
 
-static int32_t answer_min(sqlite3_context *context, struct column *column, sqlite3_value **values) {
-    (void)values;
-    return answer_extreme(context, column, false);
+static int32_t answer_max(sqlite3_context *context, struct column *column, int count, sqlite3_value **values) {
+    struct extremes extremes = {0};
+    int64_t value = 0;
+    int32_t status = gather_asked(context, column, count, values, gather_extremes, &extremes);
+    if (status != FLCOL_OK || !extremes.is_some) return status;
+    status = narrowed(extremes.greatest, &value);
+    if (status == FLCOL_OK) sqlite3_result_int64(context, value);
+    return status;
 }
 
-static int32_t answer_max(sqlite3_context *context, struct column *column, sqlite3_value **values) {
-    (void)values;
-    return answer_extreme(context, column, true);
-}
-
-static int32_t answer_nulls(sqlite3_context *context, struct column *column, sqlite3_value **values) {
-    (void)values;
+static int32_t answer_nulls(sqlite3_context *context, struct column *column, int count, sqlite3_value **values) {
+    (void)count, (void)values;
     size_t nulls = 0;
     const int32_t status = flcol_null_count(&column->array, &nulls);
     if (status == FLCOL_OK) sqlite3_result_int64(context, (sqlite3_int64)nulls);
@@ -272,6 +282,11 @@ DEFINE_FUNCTION(min)
 DEFINE_FUNCTION(max)
 DEFINE_FUNCTION(nulls)
 
+int add_function(sqlite3 *db, const char *name, int count, void (*function)(sqlite3_context *, int, sqlite3_value **)) {
+    const int flags = SQLITE_UTF8 | SQLITE_DETERMINISTIC | SQLITE_INNOCUOUS;
+    return sqlite3_create_function_v2(db, name, count, flags, NULL, function, NULL, NULL, NULL);
+}
+
 int add_functions(sqlite3 *db) {
     static const struct {
         const char *name;
@@ -284,15 +299,17 @@ int add_functions(sqlite3 *db) {
                      {"flcol_count_between", 3, flcol_count_between_sql},
                      {"flcol_between", 3, flcol_count_between_sql},
                      {"flcol_sum", 1, flcol_sum_sql},
+                     {"flcol_sum", 2, flcol_sum_sql},
                      {"flcol_avg", 1, flcol_avg_sql},
+                     {"flcol_avg", 2, flcol_avg_sql},
                      {"flcol_min", 1, flcol_min_sql},
+                     {"flcol_min", 2, flcol_min_sql},
                      {"flcol_max", 1, flcol_max_sql},
+                     {"flcol_max", 2, flcol_max_sql},
                      {"flcol_nulls", 1, flcol_nulls_sql},
                      {"flcol_inspect", 1, flcol_inspect_sql}};
-    const int flags = SQLITE_UTF8 | SQLITE_DETERMINISTIC | SQLITE_INNOCUOUS;
     for (size_t i = 0; i < sizeof functions / sizeof *functions; i++) {
-        const int code = sqlite3_create_function_v2(db, functions[i].name, functions[i].count, flags, NULL,
-                                                    functions[i].function, NULL, NULL, NULL);
+        const int code = add_function(db, functions[i].name, functions[i].count, functions[i].function);
         if (code != SQLITE_OK) return code;
     }
     return SQLITE_OK;

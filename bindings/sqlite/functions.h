@@ -8,10 +8,12 @@
 
 extern const sqlite3_api_routines *sqlite3_api;
 
-/* Adds the functions, the aggregates and the table of values to a connection; each answers a code of SQLite. */
+/* Adds the functions, the aggregates, the table of values and the functions of bits to a connection; each answers a code of
+   SQLite. */
 int add_functions(sqlite3 *db);
 int add_aggregates(sqlite3 *db);
 int add_each(sqlite3 *db);
+int add_bits(sqlite3 *db);
 
 /* Opens the column of a value. FLCOL_BAD_CONTAINER: it is no blob. */
 int32_t open_value(struct column *column, sqlite3_value *value);
@@ -21,5 +23,30 @@ void refuse(sqlite3_context *context, int32_t status);
 
 /* The array as the function's result, in a container, and gives it back; or the error of a status. */
 void answer_array(sqlite3_context *context, int32_t status, flcol_array *array);
+
+/* An integer, which no other type is turned into. FLCOL_NOT_INTEGER. */
+int32_t integer_value(sqlite3_value *value, int64_t *integer);
+
+/* What a function does with the column of its first value. */
+typedef int32_t column_fn(sqlite3_context *context, struct column *column, int count, sqlite3_value **values);
+
+/* Calls a function with the column of its first value; with a null the answer is null. */
+void with_column(sqlite3_context *context, int count, sqlite3_value **values, column_fn *function);
+
+/* Whether a value is null. */
+bool has_null(int count, sqlite3_value **values);
+
+/* Gathers from all items, or from those of a mask where it is not NULL, unless the statement is to end early, which is a status
+   too. */
+int32_t gather_all(sqlite3_context *context, struct column *column, const uint8_t *mask, gather_fn *gather, void *gathered);
+
+/* No answers yet, which are to have SQLite's memory. */
+struct answers no_answers(void);
+
+/* The answers of a value. FLCOL_BAD_CONTAINER: it is no blob. */
+int32_t read_bits(struct answers *answers, sqlite3_value *value);
+
+/* Adds a function to a connection; the answer is a code of SQLite. */
+int add_function(sqlite3 *db, const char *name, int count, void (*function)(sqlite3_context *, int, sqlite3_value **));
 
 #endif

@@ -101,6 +101,36 @@ class Columns(Case):
         else:
             self.overflows(blob)
 
+    def select(self, blob, items):
+        """Bits are what the table answers, alone and joined, and what is gathered under them is that of the table's rows."""
+        constants = self.constants(items)
+        tests = (("flcol_where(:c, :op, :a)", "x {op} :a"), ("flcol_not(flcol_where(:c, :op, :a))", "NOT x {op} :a"),
+                 ("flcol_and(flcol_where(:c, :op, :a), flcol_where(:c, '>', :b))", "x {op} :a AND x > :b"),
+                 ("flcol_or(flcol_where(:c, :op, :a), flcol_where(:c, '=', :b))", "x {op} :a OR x = :b"),
+                 ("flcol_is_in(:c, :a, :b)", "x IN (:a, :b)"), ("flcol_not(flcol_is_in(:c, :a))", "x NOT IN (:a)"))  # fmt: skip
+        for op in OPERATORS:
+            words = {"c": blob, "op": op, "a": self.chance.choice(constants), "b": self.chance.choice(constants)}
+            for bits, condition in tests:
+                with self.subTest(bits=bits, **{name: word for name, word in words.items() if name != "c"}):
+                    self.select_by(bits, f"SELECT x FROM plain WHERE {condition.format(op=op)}", words)
+
+    def select_by(self, bits, statement, words):
+        """What is gathered under bits, beside the rows of a statement."""
+        met = [item for item, in self.base.execute(statement, words)]
+        asked = f"SELECT flcol_count({bits}), flcol_min(:c, {bits}), flcol_max(:c, {bits}), flcol_avg(:c, {bits})"
+        *found, mean = self.base.execute(asked, words).fetchone()
+        self.assertEqual(found, [len(met), min(met, default=None), max(met, default=None)])
+        if met:
+            self.assertAlmostEqual(mean, sum(met) / len(met), delta=abs(sum(met) / len(met)) * 2**-52)
+        else:
+            self.assertIsNone(mean)
+        asked = f"SELECT flcol_sum(:c, {bits})"
+        if -(2**63) <= sum(met) < 2**63:
+            self.assertEqual(self.base.execute(asked, words).fetchone()[0], sum(met) if met else None)
+        else:
+            with self.assertRaisesRegex(sqlite3.OperationalError, r"\Ainteger overflow\Z"):
+                self.base.execute(asked, words).fetchone()
+
     def overflows(self, blob):
         with self.assertRaisesRegex(sqlite3.OperationalError, r"\Ainteger overflow\Z"):
             self.ask("SELECT flcol_sum(?)", blob)
@@ -119,6 +149,7 @@ class Columns(Case):
                 self.look(blob, items)
                 self.count(blob, items)
                 self.gather(blob, items)
+                self.select(blob, items)
                 self.cut(blob, items)
 
     def test_columns_of_each_scheme_answer_as_tables(self):
@@ -148,6 +179,7 @@ class Columns(Case):
                 self.look(blob, items)
                 self.count(blob, items + [max(-(2**63), least - 1), min(2**63 - 1, greatest + 1)])
                 self.gather(blob, items)
+                self.select(blob, items + [max(-(2**63), least - 1), min(2**63 - 1, greatest + 1)])
 
     def test_a_column_without_items_has_no_totals(self):
         for name in containers.TYPES:
@@ -169,6 +201,30 @@ class Columns(Case):
                     self.assertEqual(self.ask("SELECT flcol_max(?)", blob), greatest)
                 else:
                     self.overflows(blob)
+
+    def test_bits_of_all_windows(self):
+        """Bits of a column of more than two windows, which slices and the column's neighbours in SQL have too."""
+        items = [None if at % 11 == 4 else at % 1000 for at in range(140_003)]
+        self.fill(items)
+        blob = containers.plain("i16", items)
+        for a, b in ((0, 140_003), (1, 70_000), (65_535, 140_003), (65_536, 131_072)):
+            part = self.ask("SELECT flcol_slice(?, ?, ?)", blob, a, b)
+            bits = "flcol_and(flcol_where(?1, '>=', 300), flcol_not(flcol_is_in(?1, 400, 999, 1000000)))"
+            asked = f"SELECT flcol_count({bits}), flcol_sum(?1, {bits}), flcol_max(?1, {bits})"
+            plain = "SELECT count(*), sum(x), max(x) FROM plain WHERE i >= ?1 AND i < ?2 AND x >= 300 AND x NOT IN (400, 999)"
+            self.assertEqual(self.base.execute(asked, (part,)).fetchone(), self.base.execute(plain, (a, b)).fetchone())
+
+    def test_bits_are_columns_of_booleans(self):
+        """What other languages read of them, and what they write, is the same."""
+        blob = containers.plain("i8", [3, None, 5])
+        bits = self.ask("SELECT flcol_where(?, '>', 4)", blob)
+        self.assertRegex(self.ask("SELECT flcol_inspect(?)", bits), r"\Abool\?, 3 items")
+        self.assertEqual(self.ask("SELECT flcol_count(?)", b"FLC1" + containers.bools([1, 0, 1])), 2)
+        self.assertEqual(self.ask("SELECT flcol_sum(?, ?)", blob, b"FLC1" + containers.bools([1, 1, 0])), 3)
+        for items in ([], [None], [7]):
+            blob = containers.plain("u16", items)
+            for bits in ("flcol_where(?1, '=', 7)", "flcol_or(flcol_where(?1, '=', 7), flcol_not(flcol_where(?1, '<', 9)))"):
+                self.assertEqual(self.ask(f"SELECT flcol_count({bits})", blob), items.count(7))
 
     def test_sums_at_the_ends_of_64_bits(self):
         self.assertEqual(self.ask("SELECT flcol_sum(?)", containers.plain("i64", [2**63 - 2, 1])), 2**63 - 1)
@@ -280,7 +336,8 @@ class Worked(Case):
     def try_all(self, blob):
         """Asks everything of a blob, and counts the answers that are a refusal; nothing else may be one."""
         asked = ("flcol_len(?1)", "flcol_inspect(?1)", "flcol_get(?1, 0)", "flcol_slice(?1, 0, 1)", "flcol_count(?1, '<', 2)",
-                 "flcol_count_between(?1, 1, 2)", "flcol_min(?1)", "flcol_max(?1)", "flcol_avg(?1)", "flcol_nulls(?1)",
+                 "flcol_count_between(?1, 1, 2)", "flcol_count(flcol_where(?1, '<', 2))", "flcol_count(flcol_is_in(?1, 3))",
+                 "flcol_sum(?1, flcol_where(?1, '>', 2))", "flcol_min(?1, flcol_where(?1, '>', 2))", "flcol_min(?1)", "flcol_max(?1)", "flcol_avg(?1)", "flcol_nulls(?1)",
                  "(SELECT count(value) FROM (SELECT value FROM flcol_each(?1) LIMIT 9))")  # fmt: skip
         refused = 0
         for function in asked:
@@ -300,6 +357,22 @@ class Worked(Case):
         for blob in self.hostile():
             for cut in containers.cuts(blob)[:: max(1, len(blob) // 400)]:
                 self.refused("flcol: BadContainer", "SELECT flcol_len(?)", cut)
+
+    def test_bits_from_strangers(self):
+        """Each cut of bits and each byte changed is answered, or refused."""
+        column = containers.plain("u8", [7, None, 9])
+        for bits in (b"FLC1" + containers.bools([1, 0, 1]), self.ask("SELECT flcol_where(?, '>', 7)", column)):
+            for blob in containers.cuts(bits):
+                for call in ("flcol_count(?)", "flcol_not(?)"):
+                    self.refused("flcol: BadContainer", f"SELECT {call}", blob)
+            for blob in containers.changes(bits):
+                words = {"it": blob, "bits": bits, "column": column}
+                for call in ("flcol_count(:it)", "flcol_not(:it)", "flcol_and(:it, :bits)", "flcol_or(:bits, :it)",
+                             "flcol_sum(:column, :it)", "flcol_max(:column, :it)"):  # fmt: skip
+                    try:
+                        self.base.execute(f"SELECT {call}", words).fetchall()
+                    except (sqlite3.OperationalError, MemoryError) as error:
+                        self.assertTrue(isinstance(error, MemoryError) or REFUSAL.match(str(error)), error)
 
     def test_each_changed_byte_is_answered_or_refused(self):
         for blob in self.hostile():
@@ -333,6 +406,26 @@ class Errors(Case):
         for start, end in ((-1, 2), (2, 1), (0, 4), (0, -1), (4, 4)):
             self.refused("flcol: RangeOutOfBounds", "SELECT flcol_slice(?, ?, ?)", containers.PACKED, start, end)
 
+    def test_what_is_no_bits(self):
+        bits, column = b"FLC1" + containers.bools([1, 0]), containers.PACKED
+        for value in (b"", b"FLC1", "text", 3, 2.5):
+            for call in ("flcol_count(?)", "flcol_not(?)"):
+                self.refused("flcol: BadContainer", f"SELECT {call}", value)
+            self.refused("flcol: BadContainer", "SELECT flcol_and(?, ?)", bits, value)
+            self.refused("flcol: BadContainer", "SELECT flcol_sum(?, ?)", column, value)
+        for call in ("flcol_count(?)", "flcol_not(?)"):
+            self.refused("flcol: WrongType", f"SELECT {call}", column)
+        self.refused("flcol: WrongType", "SELECT flcol_or(?, ?)", bits, column)
+        self.refused("flcol: WrongType", "SELECT flcol_min(?, ?)", column, column)
+        self.refused("flcol: MaskLength", "SELECT flcol_sum(?, ?)", column, bits)
+        self.refused("flcol: MaskLength", "SELECT flcol_and(?, flcol_where(?, '<', 3))", bits, column)
+        self.refused("flcol: NotInteger", "SELECT flcol_sum(?, ?)", bits, bits)
+        self.refused("flcol: NotInteger", "SELECT flcol_where(?, '<', 3)", bits)
+        self.refused("flcol: BadOperator", "SELECT flcol_where(?, '==', 3)", column)
+        for value in ("3", 3.0, b"3"):
+            self.refused("flcol: NotInteger", "SELECT flcol_where(?, '<', ?)", column, value)
+            self.refused("flcol: NotInteger", "SELECT flcol_is_in(?, 3, ?)", column, value)
+
     def test_other_types_than_integers(self):
         for value in ("3", 3.0, b"3"):
             self.refused("flcol: NotInteger", "SELECT flcol(?)", value)
@@ -354,7 +447,8 @@ class Errors(Case):
         kinds = ("NULL", "''", "'abc'", "x''", "x'00'", "-1", "2.5", "1e999", "-1e999", "9223372036854775807", "-9223372036854775808",
                  "9223372036854775808", "'9223372036854775808'", "zeroblob(1000)", "char(0)", "x'ff' || 'a'")  # fmt: skip
         calls = {"flcol_len": ("?1",), "flcol_inspect": ("?1",), "flcol_sum": ("?1",), "flcol_max": ("?1",), "flcol_nulls": ("?1",), "flcol_get": ("?1", "0"), "flcol_slice": ("?1", "0", "1"),
-                 "flcol_count": ("?1", "'='", "1"), "flcol_count_between": ("?1", "1", "1"), "flcol": ("1", "'for(bitpacked)'")}  # fmt: skip
+                 "flcol_where": ("?1", "'='", "1"), "flcol_is_in": ("?1", "1", "2"), "flcol_not": ("?1",), "flcol_and": ("?1", "?1"),
+                 "flcol_min": ("?1", "?1"), "flcol_count": ("?1", "'='", "1"), "flcol_count_between": ("?1", "1", "1"), "flcol": ("1", "'for(bitpacked)'")}  # fmt: skip
         for name, words in calls.items():
             for at in range(len(words)):
                 for kind in kinds:
@@ -367,7 +461,8 @@ class Errors(Case):
         self.assertEqual(self.ask("SELECT flcol_len(?)", containers.PACKED), 3)
 
     def test_as_many_arguments_as_there_are(self):
-        for call in ("flcol()", "flcol(1, 'for', 2)", "flcol_len()", "flcol_get(?)", "flcol_count(?, '=')", "flcol_inspect(?, 1)"):
+        for call in ("flcol()", "flcol(1, 'for', 2)", "flcol_len()", "flcol_get(?)", "flcol_count(?, '=')", "flcol_inspect(?, 1)", "flcol_is_in()",
+                     "flcol_where(?)", "flcol_and(?)", "flcol_not(?, ?)", "flcol_sum(?, 1, 2)"):
             with self.assertRaisesRegex(sqlite3.OperationalError, "wrong number of arguments"):
                 self.base.execute(f"SELECT {call}", (containers.PACKED,) if "?" in call else ())
 
@@ -385,7 +480,8 @@ class Errors(Case):
         self.refused("flcol: NoArray", "SELECT * FROM flcol_each")
 
     def test_nulls_are_passed_on(self):
-        for function in ("flcol_len(NULL)", "flcol_sum(NULL)", "flcol_avg(NULL)", "flcol_nulls(NULL)", "flcol_get(NULL, 1)", "flcol_count(?, NULL, 1)", "flcol_slice(?, 0, NULL)"):
+        for function in ("flcol_len(NULL)", "flcol_sum(NULL)", "flcol_avg(NULL)", "flcol_nulls(NULL)", "flcol_where(NULL, '<', 1)", "flcol_is_in(?, 1, NULL)", "flcol_sum(?, NULL)",
+                         "flcol_not(NULL)", "flcol_and(NULL, NULL)", "flcol_count(NULL)", "flcol_get(NULL, 1)", "flcol_count(?, NULL, 1)", "flcol_slice(?, 0, NULL)"):
             values = (containers.PACKED,) if "?" in function else ()
             self.assertIsNone(self.ask(f"SELECT {function}", *values))
         self.assertIsNone(self.ask("SELECT flcol(1) WHERE 0"))

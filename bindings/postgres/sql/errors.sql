@@ -60,6 +60,19 @@ SELECT flcol_count('\x464c433110766f727465782e7072696d69746976650302000000000000
 SELECT flcol_get('\x464c433110766f727465782e7072696d6974697665030200000000000000000000000110000000000000000100000000000000000000000000008000', 1);
 SELECT flcol_unnest('\x464c433110766f727465782e7072696d6974697665030200000000000000000000000110000000000000000100000000000000000000000000008000');
 
+-- Bits of other columns, and what is none.
+SELECT 'abc'::flcol_bits;
+SELECT '\x00'::flcol_bits;
+SELECT :packed::flcol_bits;
+SELECT :packed::flcol::bytea::flcol_bits;
+SELECT '\x464c43310f766f727465782e636f6e7374616e740001000010000000000200000020030000'::flcol_bits;
+SELECT flcol_sum(:packed, flcol_where(flcol_slice(:packed, 0, 2), '<', 1));
+SELECT flcol_where(:packed, '<', 1) & flcol_where(flcol_slice(:packed, 0, 2), '<', 1);
+SELECT flcol_where(:packed, '==', 1);
+SELECT flcol_is_in(:packed, '{1,NULL}');
+SELECT flcol_sum(:packed, :packed);
+SELECT flcol_count(:packed::flcol);
+
 -- States of the aggregate are not to be made by hand.
 SELECT flcol_finish(NULL);
 SELECT flcol_deserialize('\x00', NULL);

@@ -31,10 +31,21 @@ SELECT flcol_sum(items), flcol_avg(items), flcol_min(items), flcol_max(items), f
 FROM (SELECT flcol_agg(NULL::bigint) AS items FROM generate_series(1, 70000)) made;
 SELECT flcol_sum(flcol_slice(:packed, 1, 1)) AS "of none";
 
+-- Bits: the answers of a test, joined and turned by SQL's logic, counted, and as a mask.
+SELECT operator, constant, flcol_count(flcol_where(:framed, operator, constant)) AS met, flcol_count(!flcol_where(:framed, operator, constant)) AS "not"
+FROM unnest(enum_range(NULL::flcol_operator)) operator, unnest('{102,-1}'::bigint[]) constant;
+SELECT flcol_count(low & high) AS "both", flcol_count(low | high) AS "one", flcol_count(!low & !high) AS "none",
+       flcol_count(listed) AS "listed", flcol_count(!listed) AS "unlisted"
+FROM (SELECT flcol_where(:framed, '<=', 101) AS low, flcol_where(:framed, '>=', 101) AS high, flcol_is_in(:framed, '{103,7,9223372036854775807}') AS listed) each;
+SELECT flcol_sum(:framed, bits), flcol_avg(:framed, bits), flcol_min(:framed, bits), flcol_max(:framed, bits)
+FROM (VALUES (flcol_where(:framed, '>', 101)), (flcol_where(:framed, '<', 0)), (flcol_is_in(:framed, '{}'))) each(bits);
+SELECT bits::text::flcol_bits::bytea = bits::bytea AS "the same", flcol_count(bits::bytea::flcol_bits) FROM (SELECT flcol_where(:packed, '>', 1) AS bits) each;
+
 -- A null is passed on.
 SELECT flcol_len(NULL), flcol_get(NULL, 0), flcol_get(:packed, NULL), flcol_count(:packed, NULL, 1),
        flcol_slice(NULL, 0, 1), flcol_count_between(:packed, 1, NULL), flcol_inspect(NULL), flcol_sum(NULL), flcol_max(NULL);
 SELECT flcol_unnest(NULL);
+SELECT flcol_where(NULL, '<', 1), flcol_where(:packed, '<', NULL), flcol_is_in(:packed, NULL), flcol_sum(:packed, NULL), flcol_count(NULL::flcol_bits), !NULL::flcol_bits, NULL & flcol_where(:packed, '<', 1);
 
 -- What is written as text or as bytes is read as the same.
 CREATE TABLE kept (items flcol);

@@ -43,6 +43,19 @@ FROM columns, LATERAL (VALUES (cardinality(plain) / 3, cardinality(plain) * 2 / 
     LATERAL (SELECT sum(x) AS total, max(x) AS greatest FROM unnest(plain[a + 1 : b]) x) part
 WHERE flcol_sum(flcol_slice(items, a, b)) IS DISTINCT FROM total OR flcol_max(flcol_slice(items, a, b)) IS DISTINCT FROM greatest;
 
+SELECT 'bits', count(*) FROM columns JOIN answers USING (k) WHERE flcol_count(flcol_where(items, o, c)) <> met;
+SELECT 'joined bits', count(*) FROM columns JOIN betweens USING (k) WHERE flcol_count(flcol_where(items, '>=', a) & flcol_where(items, '<=', b)) <> met;
+CREATE TABLE outsides AS
+    SELECT k, a.c AS a, b.c AS b, sum(x) FILTER (WHERE x < a.c OR x > b.c) AS total, avg(x) FILTER (WHERE x < a.c OR x > b.c) AS mean,
+        min(x) FILTER (WHERE x < a.c OR x > b.c) AS least, max(x) FILTER (WHERE x < a.c OR x > b.c) AS greatest,
+        sum(x) FILTER (WHERE x NOT IN (a.c, b.c)) AS others
+    FROM plain JOIN constants a USING (k) JOIN constants b USING (k) GROUP BY k, a.c, b.c;
+SELECT 'under bits', count(*)
+FROM columns JOIN outsides USING (k), LATERAL (SELECT flcol_where(items, '<', a) | flcol_where(items, '>', b) AS bits) each
+WHERE flcol_sum(items, bits) IS DISTINCT FROM total OR flcol_avg(items, bits) IS DISTINCT FROM mean
+    OR flcol_min(items, bits) IS DISTINCT FROM least OR flcol_max(items, bits) IS DISTINCT FROM greatest
+    OR flcol_sum(items, !flcol_is_in(items, ARRAY[a, b])) IS DISTINCT FROM others;
+
 -- Workers that each gather a part give the same items, in whatever order.
 SET parallel_setup_cost = 0;
 SET min_parallel_table_scan_size = 0;

@@ -20,5 +20,7 @@ INSERT INTO refusals VALUES
     ($$SELECT flcol_get('\x464c433110766f727465782e7072696d6974697665030200000000000000000000000110000000000000000100000000000000000000000000008000', 1)$$,
      '22003', 'CastOutOfRange'),
     ($$SELECT flcol_max('\x464c433110766f727465782e7072696d6974697665030200000000000000000000000110000000000000000100000000000000000000000000008000')$$,
-     '22003', 'CastOutOfRange');
+     '22003', 'CastOutOfRange'),
+    ($$SELECT flcol_sum(flcol_agg(1), flcol_where(flcol_slice(flcol_agg(1), 0, 0), '<', 1))$$, '22000', 'MaskLength'),
+    ($$SELECT flcol_agg(1)::bytea::flcol_bits$$, '22P03', 'WrongType');
 SELECT name, count(*) FILTER (WHERE said(statement) !~ format('^%s flcol: %s: .+$', code, name)) FROM refusals GROUP BY name;

@@ -1,8 +1,9 @@
 """Arrays of integers."""
 from __future__ import annotations
 
+from array import array as list_of_numbers
 from ctypes import byref, c_int64, c_size_t, c_uint8, c_uint64
-from typing import Any, Optional, Union
+from typing import Any, Iterable, Optional, Union
 
 from ._bits import bytes_of_bits, integer_of, unpack_bits
 from ._bools import BoolArray
@@ -23,7 +24,11 @@ class Array(Column):
     Threads may share one. Decoding it stops no other thread of Python; a second call on the same array waits.
     """
 
-    __slots__ = ()
+    __slots__ = ("_is_sorted",)
+
+    def __init__(self, handle: Handle) -> None:
+        super().__init__(handle)
+        self._is_sorted: Optional[bool] = None  # until it is asked for
 
     def __repr__(self) -> str:
         bits = f", {8 * self.nbytes / self._size:.2f} bits an item" if self._size else ""
@@ -92,40 +97,42 @@ class Array(Column):
             item = int(item)
         return integer_of(item) is not None and self.count_where("==", item) > 0
 
-    # All items at once
+    # All items at once, or those that a mask is True for
 
-    def sum(self, axis: Any = None, dtype: Any = None, out: Any = None, **more: Any) -> int:
-        """The sum of the items that are not null, exactly; 0 where there is none."""
+    def sum(self, axis: Any = None, dtype: Any = None, out: Any = None, where: Any = True, **more: Any) -> int:
+        """The sum of the items that are not null, exactly; 0 where there is none.
+
+        ``where`` is a mask as of ``filter``, here and below: what it is True for is asked, and no other block is read.
+        """
         check_whole("sum", axis, dtype, out, more)
-        high, low = c_int64() if self._kind.least else c_uint64(), c_uint64()
-        self._call("sum_signed" if self._kind.least else "sum_unsigned", byref(high), byref(low))
-        return high.value * 2**64 + low.value
+        return self._sum(self._mask_of(where))
 
-    def mean(self, axis: Any = None, dtype: Any = None, out: Any = None, **more: Any) -> Optional[float]:
+    def mean(self, axis: Any = None, dtype: Any = None, out: Any = None, where: Any = True, **more: Any) -> Optional[float]:
         """The mean of the items that are not null, the float next to it; None where there is none."""
         check_whole("mean", axis, dtype, out, more)
-        count = self.count()
-        return self.sum() / count if count else None
+        mask = self._mask_of(where)
+        count = self.count() if mask is None else self._count_under(mask)
+        return self._sum(mask) / count if count else None
 
-    def min(self, axis: Any = None, out: Any = None, **more: Any) -> Optional[int]:
+    def min(self, axis: Any = None, out: Any = None, where: Any = True, **more: Any) -> Optional[int]:
         """The least item that is not null; None where there is none."""
         check_whole("min", axis, None, out, more)
-        return self.min_max()[0]
+        return self.min_max(where)[0]
 
-    def max(self, axis: Any = None, out: Any = None, **more: Any) -> Optional[int]:
+    def max(self, axis: Any = None, out: Any = None, where: Any = True, **more: Any) -> Optional[int]:
         """The greatest item that is not null; None where there is none."""
         check_whole("max", axis, None, out, more)
-        return self.min_max()[1]
+        return self.min_max(where)[1]
 
-    def min_max(self) -> tuple[Optional[int], Optional[int]]:
+    def min_max(self, where: Any = True) -> tuple[Optional[int], Optional[int]]:
         """The least and the greatest item that is not null, found at once; two times None where there is none."""
         least, greatest, is_none = self._kind.value(), self._kind.value(), c_uint8()
-        self._call(f"min_max_{self._kind.short}", byref(least), byref(greatest), byref(is_none))
+        self._gather(self._mask_of(where), "min_max", self._kind.short, byref(least), byref(greatest), byref(is_none))
         return (None, None) if is_none.value else (least.value, greatest.value)
 
-    def count_where(self, op: str, constant: int) -> int:
+    def count_where(self, op: str, constant: int, where: Any = True) -> int:
         """How many items compare so with an integer, by ``==``, ``!=``, ``<``, ``<=``, ``>`` or ``>=``; no null does."""
-        return self._ask(f"count_{self._kind.short}", c_size_t, *self._comparison(_operator(op), constant))
+        return self._count(self._mask_of(where), *self._comparison(_operator(op), constant))
 
     def count_between(self, lower: int, upper: int, inclusive: str = "both") -> int:
         """How many items lie between two bounds; ``inclusive`` is that of ``between``."""
@@ -140,6 +147,56 @@ class Array(Column):
     def where_between(self, lower: int, upper: int, inclusive: str = "both") -> Array:
         """The items that lie between two bounds, in their order, as a plain array; ``inclusive`` is that of ``between``."""
         return self._made(f"filter_between_{self._kind.short}", *self._bounds(lower, upper, inclusive))
+
+    def lower_bound(self, value: int) -> int:
+        """The first index whose item is not below an integer, or the length. Few blocks of a sorted array are read.
+
+        A null is below every integer. The first time all items are looked at: ``ValueError`` where they are not sorted.
+        """
+        return self._first_from(_constant(value))
+
+    def searchsorted(self, v: int, side: str = "left", sorter: Any = None) -> int:
+        """The index at which an integer would stand in the sorted array: before the items equal to it, or behind them.
+
+        ``left`` is ``lower_bound``, ``right`` that of the next integer, as NumPy has them.
+        """
+        if side not in ("left", "right"):
+            raise ValueError(f"side is left or right, and not {side!r}")
+        if sorter is not None:
+            raise TypeError("the array itself is sorted, and has no sorter")
+        return self._first_from(_constant(v) + (side == "right"))
+
+    def _first_from(self, value: int) -> int:
+        """The first index whose item is not below an integer of any size."""
+        if self._is_sorted is None:
+            self._is_sorted = self.is_sorted()
+        if not self._is_sorted:
+            raise ValueError("the items are not sorted, and only a sorted array is searched")
+        if value > self._kind.greatest:
+            return self._size
+        return self._ask(f"lower_bound_{self._kind.short}", c_size_t, max(value, self._kind.least))
+
+    # The calls below, of all items or of those that a bitmap keeps
+
+    def _gather(self, mask: Optional[bytes], name: str, ending: str, *arguments: Any) -> None:
+        if mask is None:
+            self._call(f"{name}_{ending}", *arguments)
+        else:
+            with address(mask) as at:
+                self._call(f"{name}_under_{ending}", at, len(mask), *arguments)
+
+    def _sum(self, mask: Optional[bytes]) -> int:
+        high, low = c_int64() if self._kind.least else c_uint64(), c_uint64()
+        self._gather(mask, "sum", "signed" if self._kind.least else "unsigned", byref(high), byref(low))
+        return high.value * 2**64 + low.value
+
+    def _count(self, mask: Optional[bytes], op: int, constant: int) -> int:
+        count = c_size_t()
+        self._gather(mask, "count", self._kind.short, op, constant, byref(count))
+        return count.value
+
+    def _count_under(self, mask: bytes) -> int:
+        return self._count(mask, _GTE, self._kind.least)
 
     def _as_places(self, length: int) -> Places:
         """The items as indices into so many others."""
@@ -187,6 +244,14 @@ class Array(Column):
     def between(self, lower: int, upper: int, inclusive: str = "both") -> BoolArray:
         """Whether each item lies between two bounds; ``inclusive`` is ``both``, ``left``, ``right`` or ``neither``."""
         return self._answers("between_", *self._bounds(lower, upper, inclusive))
+
+    def is_in(self, values: Iterable[int]) -> BoolArray:
+        """Whether each item is one of these integers, as NumPy's ``isin``; null at a null."""
+        least, greatest = self._kind.least, self._kind.greatest
+        wanted = {_constant(value) for value in values}
+        words = list_of_numbers(self._kind.code, sorted(value for value in wanted if least <= value <= greatest))
+        with address(words) as at:
+            return self._answers("is_in_", at, len(words))
 
     def _compared(self, op: int, other: Any) -> BoolArray:
         return self._answers("compare_", *self._comparison(op, other))

@@ -146,10 +146,14 @@ class BoolArray(Column):
             return False
         return None if nulls else True
 
-    def sum(self, axis: Any = None, dtype: Any = None, out: Any = None, **more: Any) -> int:
-        """How many answers are True; as in SQL nulls are left out."""
+    def sum(self, axis: Any = None, dtype: Any = None, out: Any = None, where: Any = True, **more: Any) -> int:
+        """How many answers are True, of all or of those that a mask is True for; as in SQL nulls are left out."""
         check_whole("sum", axis, dtype, out, more)
-        return self.true_count
+        mask = self._mask_of(where)
+        return self.true_count if mask is None else count(both(self.mask(), mask), None, self._size)
+
+    def _count_under(self, mask: bytes) -> int:
+        return count(mask, self.validity, self._size)
 
     def __bool__(self) -> bool:
         raise ValueError("the truth value of an array is ambiguous: use any() or all(), or between() for two bounds")
@@ -168,6 +172,15 @@ class BoolArray(Column):
         return bits if validity is None else both(bits, validity)
 
     _as_mask = mask
+
+    def indices(self) -> Any:
+        """The indices of the answers that are True, in their order: an ``Array`` of ``uint64`` that ``take`` takes."""
+        from ._array import Array  # which stands on this module
+
+        handle, bits = Handle(), self.mask()
+        with address(bits) as at:
+            call("indices_of", at, len(bits), self._size, byref(handle))
+        return Array(handle)
 
     def __and__(self, other: Any) -> BoolArray:
         return self._joined("and", other)

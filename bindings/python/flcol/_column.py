@@ -6,7 +6,7 @@ from ctypes import byref, c_size_t, c_uint8, c_uint64, create_string_buffer
 from typing import Any, Iterable, Iterator, Optional, TypeVar
 
 from ._arrow import capsules_of, schema_of, stream_of
-from ._bits import bytes_of_bits, packed
+from ._bits import bytes_of_bits, is_flag, packed
 from ._buffers import address, new_bytes
 from ._dtypes import KINDS, NULLABLE, DType, Kind, name_of, numpy
 from ._indexing import Places, is_mask, places_of, plain_key, range_words
@@ -65,9 +65,10 @@ class Column:
         """How many items are null."""
         return self._ask("null_count", c_size_t) if self.nullable else 0
 
-    def count(self) -> int:
-        """How many items are not null."""
-        return self._size - self.null_count
+    def count(self, where: Any = True) -> int:
+        """How many items are not null, of all or of those that a mask is True for."""
+        mask = self._mask_of(where)
+        return self._size - self.null_count if mask is None else self._count_under(mask)
 
     @property
     def scheme(self) -> str:
@@ -158,6 +159,18 @@ class Column:
         bits = self._bits_of(mask if hasattr(mask, "__len__") else list(mask))
         with address(bits) as at:
             return self._chosen("filter", at, len(bits))
+
+    def _mask_of(self, where: Any) -> Optional[bytes]:
+        """The bitmap of a mask, as of ``filter``; None for True, which stands for all items."""
+        if where is True:
+            return None
+        if where is None or is_flag(where):
+            raise TypeError(f"where is a mask as long as the array, or True for all items, and not {where!r}")
+        return self._bits_of(where if hasattr(where, "__len__") else list(where))
+
+    def _count_under(self, mask: bytes) -> int:
+        """How many items that a bitmap keeps are not null."""
+        raise NotImplementedError
 
     def _bits_of(self, mask: Any) -> bytes:
         """The bitmap of a mask for this array."""

@@ -5,7 +5,7 @@ from ctypes import POINTER, Structure, c_char_p, c_int16, c_int32, c_int64, c_in
 from typing import Any
 
 #: The version of the package and of the library, the version of the interface, and the file that the loader finds.
-VERSION = "1.2.0"
+VERSION = "1.3.0"
 ABI_VERSION = 2
 LIBRARY = "libflcol.so.1"
 
@@ -95,6 +95,14 @@ CALLS: dict[str, tuple[Any, list[Any]]] = {
     "flcol_between_i16": (c_int32, [POINTER(Handle), c_int16, c_int16, c_uint8, c_uint8, c_void_p, c_size_t, c_void_p, c_size_t]),
     "flcol_between_i32": (c_int32, [POINTER(Handle), c_int32, c_int32, c_uint8, c_uint8, c_void_p, c_size_t, c_void_p, c_size_t]),
     "flcol_between_i64": (c_int32, [POINTER(Handle), c_int64, c_int64, c_uint8, c_uint8, c_void_p, c_size_t, c_void_p, c_size_t]),
+    "flcol_is_in_u8": (c_int32, [POINTER(Handle), c_void_p, c_size_t, c_void_p, c_size_t, c_void_p, c_size_t]),
+    "flcol_is_in_u16": (c_int32, [POINTER(Handle), c_void_p, c_size_t, c_void_p, c_size_t, c_void_p, c_size_t]),
+    "flcol_is_in_u32": (c_int32, [POINTER(Handle), c_void_p, c_size_t, c_void_p, c_size_t, c_void_p, c_size_t]),
+    "flcol_is_in_u64": (c_int32, [POINTER(Handle), c_void_p, c_size_t, c_void_p, c_size_t, c_void_p, c_size_t]),
+    "flcol_is_in_i8": (c_int32, [POINTER(Handle), c_void_p, c_size_t, c_void_p, c_size_t, c_void_p, c_size_t]),
+    "flcol_is_in_i16": (c_int32, [POINTER(Handle), c_void_p, c_size_t, c_void_p, c_size_t, c_void_p, c_size_t]),
+    "flcol_is_in_i32": (c_int32, [POINTER(Handle), c_void_p, c_size_t, c_void_p, c_size_t, c_void_p, c_size_t]),
+    "flcol_is_in_i64": (c_int32, [POINTER(Handle), c_void_p, c_size_t, c_void_p, c_size_t, c_void_p, c_size_t]),
     "flcol_count_u8": (c_int32, [POINTER(Handle), c_uint8, c_uint8, POINTER(c_size_t)]),
     "flcol_count_u16": (c_int32, [POINTER(Handle), c_uint8, c_uint16, POINTER(c_size_t)]),
     "flcol_count_u32": (c_int32, [POINTER(Handle), c_uint8, c_uint32, POINTER(c_size_t)]),
@@ -137,6 +145,33 @@ CALLS: dict[str, tuple[Any, list[Any]]] = {
     "flcol_filter_between_i16": (c_int32, [POINTER(Handle), c_int16, c_int16, c_uint8, c_uint8, POINTER(Handle)]),
     "flcol_filter_between_i32": (c_int32, [POINTER(Handle), c_int32, c_int32, c_uint8, c_uint8, POINTER(Handle)]),
     "flcol_filter_between_i64": (c_int32, [POINTER(Handle), c_int64, c_int64, c_uint8, c_uint8, POINTER(Handle)]),
+    "flcol_count_under_u8": (c_int32, [POINTER(Handle), c_void_p, c_size_t, c_uint8, c_uint8, POINTER(c_size_t)]),
+    "flcol_count_under_u16": (c_int32, [POINTER(Handle), c_void_p, c_size_t, c_uint8, c_uint16, POINTER(c_size_t)]),
+    "flcol_count_under_u32": (c_int32, [POINTER(Handle), c_void_p, c_size_t, c_uint8, c_uint32, POINTER(c_size_t)]),
+    "flcol_count_under_u64": (c_int32, [POINTER(Handle), c_void_p, c_size_t, c_uint8, c_uint64, POINTER(c_size_t)]),
+    "flcol_count_under_i8": (c_int32, [POINTER(Handle), c_void_p, c_size_t, c_uint8, c_int8, POINTER(c_size_t)]),
+    "flcol_count_under_i16": (c_int32, [POINTER(Handle), c_void_p, c_size_t, c_uint8, c_int16, POINTER(c_size_t)]),
+    "flcol_count_under_i32": (c_int32, [POINTER(Handle), c_void_p, c_size_t, c_uint8, c_int32, POINTER(c_size_t)]),
+    "flcol_count_under_i64": (c_int32, [POINTER(Handle), c_void_p, c_size_t, c_uint8, c_int64, POINTER(c_size_t)]),
+    "flcol_min_max_under_u8": (c_int32, [POINTER(Handle), c_void_p, c_size_t, POINTER(c_uint8), POINTER(c_uint8), POINTER(c_uint8)]),
+    "flcol_min_max_under_u16": (c_int32, [POINTER(Handle), c_void_p, c_size_t, POINTER(c_uint16), POINTER(c_uint16), POINTER(c_uint8)]),
+    "flcol_min_max_under_u32": (c_int32, [POINTER(Handle), c_void_p, c_size_t, POINTER(c_uint32), POINTER(c_uint32), POINTER(c_uint8)]),
+    "flcol_min_max_under_u64": (c_int32, [POINTER(Handle), c_void_p, c_size_t, POINTER(c_uint64), POINTER(c_uint64), POINTER(c_uint8)]),
+    "flcol_min_max_under_i8": (c_int32, [POINTER(Handle), c_void_p, c_size_t, POINTER(c_int8), POINTER(c_int8), POINTER(c_uint8)]),
+    "flcol_min_max_under_i16": (c_int32, [POINTER(Handle), c_void_p, c_size_t, POINTER(c_int16), POINTER(c_int16), POINTER(c_uint8)]),
+    "flcol_min_max_under_i32": (c_int32, [POINTER(Handle), c_void_p, c_size_t, POINTER(c_int32), POINTER(c_int32), POINTER(c_uint8)]),
+    "flcol_min_max_under_i64": (c_int32, [POINTER(Handle), c_void_p, c_size_t, POINTER(c_int64), POINTER(c_int64), POINTER(c_uint8)]),
+    "flcol_sum_under_unsigned": (c_int32, [POINTER(Handle), c_void_p, c_size_t, POINTER(c_uint64), POINTER(c_uint64)]),
+    "flcol_sum_under_signed": (c_int32, [POINTER(Handle), c_void_p, c_size_t, POINTER(c_int64), POINTER(c_uint64)]),
+    "flcol_lower_bound_u8": (c_int32, [POINTER(Handle), c_uint8, POINTER(c_size_t)]),
+    "flcol_lower_bound_u16": (c_int32, [POINTER(Handle), c_uint16, POINTER(c_size_t)]),
+    "flcol_lower_bound_u32": (c_int32, [POINTER(Handle), c_uint32, POINTER(c_size_t)]),
+    "flcol_lower_bound_u64": (c_int32, [POINTER(Handle), c_uint64, POINTER(c_size_t)]),
+    "flcol_lower_bound_i8": (c_int32, [POINTER(Handle), c_int8, POINTER(c_size_t)]),
+    "flcol_lower_bound_i16": (c_int32, [POINTER(Handle), c_int16, POINTER(c_size_t)]),
+    "flcol_lower_bound_i32": (c_int32, [POINTER(Handle), c_int32, POINTER(c_size_t)]),
+    "flcol_lower_bound_i64": (c_int32, [POINTER(Handle), c_int64, POINTER(c_size_t)]),
+    "flcol_indices_of": (c_int32, [c_void_p, c_size_t, c_size_t, POINTER(Handle)]),
     "flcol_and": (c_int32, [c_void_p, c_size_t, c_void_p, c_size_t, c_void_p, c_size_t, c_void_p, c_size_t]),
     "flcol_or": (c_int32, [c_void_p, c_size_t, c_void_p, c_size_t, c_void_p, c_size_t, c_void_p, c_size_t]),
     "flcol_xor": (c_int32, [c_void_p, c_size_t, c_void_p, c_size_t, c_void_p, c_size_t, c_void_p, c_size_t]),

@@ -32,6 +32,17 @@ def is_long(array):
     return array.size > 1 << 20
 
 
+def ask_selections(array, items, known):
+    """What is asked under a mask, of a list and of a sorted array, beside its items."""
+    high, mask = [item for item in known if item >= 3], array >= 3
+    assert (array.sum(where=mask), array.count(where=mask)) == (sum(high), len(high))
+    assert array.min_max(where=mask) == ((min(high), max(high)) if high else (None, None))
+    assert array.is_in([3, 4]).to_list() == [None if item is None else item in (3, 4) for item in items]
+    assert array.take(mask.indices()).to_list() == high
+    if array.is_sorted():
+        assert array.lower_bound(3) == len(items) - len(high)
+
+
 def ask(container):
     """Asks an array of the bytes for all that it can do, where there is one."""
     try:
@@ -53,6 +64,7 @@ def ask(container):
             assert array.is_sorted() in (False, True)
             assert (array.min(), array.max()) == ((min(known), max(known)) if known else (None, None))
             assert array.where(">=", 3).to_list() == [item for item in known if item >= 3]
+            ask_selections(array, items, known)
     except MemoryError:
         pass
     return True

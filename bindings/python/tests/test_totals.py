@@ -132,7 +132,8 @@ class WithoutNumPy(unittest.TestCase):
             for wrong, error in (
                 ({"axis": 1}, ValueError), ({"axis": (0, 1)}, ValueError), ({"axis": "x"}, ValueError), ({"axis": True}, ValueError),
                 ({"dtype": int}, TypeError), ({"out": [0]}, TypeError), ({"keepdims": True}, TypeError), ({"initial": 0}, TypeError),
-                ({"where": [True, False, True]}, TypeError), ({"ddof": 1}, TypeError),
+                ({"where": None}, TypeError), ({"where": False}, TypeError), ({"where": [True, False]}, IndexError),
+                ({"ddof": 1}, TypeError),
             ):  # fmt: skip
                 with self.subTest(wrong), self.assertRaises(error):
                     ask(**wrong)
@@ -166,7 +167,7 @@ class WithNumPy(unittest.TestCase):
             with self.assertRaises(TypeError):
                 ask(array, keepdims=True)
             with self.assertRaises(TypeError):
-                ask(array, where=np.array([True, False, True]))
+                ask(array, where=False)
             with self.assertRaises(TypeError):
                 ask(array, out=np.zeros(()))
         for ask in (np.sum, np.mean):

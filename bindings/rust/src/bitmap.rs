@@ -1,5 +1,6 @@
 //! Lists of bits.
 
+use crate::array::Array;
 use crate::error::{checked, Error};
 use crate::ffi;
 use crate::indexed::{ByIndex, Indexed};
@@ -105,6 +106,22 @@ impl Bitmap {
         let (bits, bytes, mut count) = (self.bytes.as_ptr(), self.bytes.len(), 0);
         sound(checked(|| unsafe { ffi::flcol_count_bits(bits, bytes, ptr::null(), 0, self.len, &mut count) }));
         count
+    }
+
+    /// The positions of the bits that are set, in their order: an array of `u64`.
+    ///
+    /// ```
+    /// # use flcol::Bitmap;
+    /// let mask: Bitmap = [true, false, true].into_iter().collect();
+    /// assert_eq!(mask.indices()?.to_vec::<u64>()?, [0, 2]);
+    /// # Ok::<(), flcol::Error>(())
+    /// ```
+    ///
+    /// # Errors
+    /// `OutOfMemory`.
+    pub fn indices(&self) -> Result<Array, Error> {
+        let (bits, bytes) = (self.bytes.as_ptr(), self.bytes.len());
+        Array::make(|out| unsafe { ffi::flcol_indices_of(bits, bytes, self.len, out) })
     }
 
     /// The bits, one by one.

@@ -13,16 +13,18 @@ macro_rules! errors {
             $($(#[doc = $doc])+ $name,)+
             /// The library that is linked has this version of its interface, which is not the one of this crate.
             LibraryVersion(u32),
+            /// The items are not sorted, and only sorted ones are searched.
+            NotSorted,
             /// A status that this crate has no name for.
             Other(i32),
         }
 
         impl Error {
-            /// The status of `flcol.h` that stands for it, -1 for `LibraryVersion`, which is no status.
+            /// The status of `flcol.h` that stands for it, -1 for `LibraryVersion` and `NotSorted`, which are no status.
             pub fn number(self) -> i32 {
                 match self {
                     $(Error::$name => $number,)+
-                    Error::LibraryVersion(_) => -1,
+                    Error::LibraryVersion(_) | Error::NotSorted => -1,
                     Error::Other(number) => number,
                 }
             }
@@ -42,6 +44,7 @@ macro_rules! errors {
                     Error::LibraryVersion(found) => {
                         write!(f, "libflcol has version {found} of its interface, and {} is needed", ffi::ABI_VERSION)
                     }
+                    Error::NotSorted => f.write_str("the items are not sorted, and only sorted ones are searched"),
                     Error::Other(number) => write!(f, "status {number}"),
                 }
             }

@@ -51,7 +51,7 @@ mod memory;
 mod types;
 
 pub use answers::Answers;
-pub use array::{Array, Element};
+pub use array::{Array, Element, Sorted};
 pub use bitmap::Bitmap;
 pub use chunks::{Chunk, Chunks};
 pub use error::Error;

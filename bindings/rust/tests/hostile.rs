@@ -124,10 +124,14 @@ fn ask_huge_totals<T: Item>(array: &Array, first: Option<T>) {
         assert_eq!(array.count_between(T::MIN..), Ok(valid));
         assert_eq!(array.count_where(Op::Lt, T::MIN), Ok(0));
         assert!(array.sum::<T>().is_ok());
+        assert_eq!(array.lower_bound(i128::MAX), Ok(array.len()));
+        assert!(array.lower_bound(T::MIN).is_ok());
     } else {
         assert!(refused(array.min_max::<T>().err()) && refused(array.sum::<T>().err()));
         assert!(refused(array.count_where(Op::Lt, 3).err()) && refused(array.count_between(1..3).err()));
     }
+    assert!(refused(array.is_in(&[3]).err()));
+    assert_eq!(array.count_under(&Bitmap::zeros(9), Op::Lt, 3).err(), Some(Error::MaskLength));
     assert!(valid == 0 || refused(array.filter_by(Op::Gte, T::MIN).err()));
     assert!(valid == 0 || refused(array.filter_between(T::MIN..).err()));
 }
@@ -143,6 +147,12 @@ fn ask_few<T: Item>(array: &Array) {
     assert_eq!(array.filter(threes.as_mask()).unwrap().len(), threes.count_true());
     assert_eq!(array.count_where(Op::Eq, 3), Ok(threes.count_true()));
     assert_eq!(array.filter_by(Op::Eq, 3).unwrap().len(), threes.count_true());
+    let mask = threes.as_mask();
+    assert_eq!(array.count_under(mask, Op::Eq, 3), Ok(mask.count_ones()));
+    assert_eq!(array.is_in(&[3]).unwrap(), threes);
+    assert_eq!(mask.indices().unwrap().len(), mask.count_ones());
+    assert_eq!(array.min_max_under::<T>(mask).unwrap().is_some(), mask.count_ones() > 0);
+    assert!(array.sum_under::<T>(mask).is_ok() && array.lower_bound(3).map_or(true, |index| index <= items.len()));
     let known = || items.iter().flatten().copied();
     assert_eq!(array.min_max(), Ok(known().min().zip(known().max())));
     let _ = (array.nbytes(), array.is_constant(), array.is_sorted(), array.to_blocked(), array.to_string());

@@ -1,10 +1,13 @@
 -- Answers of tests.
-use Rattle.std.proofs.Common.{inl, inr, ◌≡◌, ℕ, ℤ, pos, List, [], ◌∷◌, length, map, Bool, true, false, not, Option, Some, None, Result, Ok, Err, option_map, count_by, ◌∙◌, ap, sym, subst, refl}
-use Rattle.std.specs.Prelude.{is_none}
+use Rattle.std.proofs.Common.{inl, inr, arith, ◌≡◌, ◌+◌, ℕ, ℤ, pos, List, [], ◌∷◌, length, map, Bool, true, false, not, Option, Some, None, Result, Ok, Err, option_map, count_by, ◌∙◌, ap, sym, subst, refl}
+use Rattle.std.specs.Prelude.{All, is_none}
+use Rattle.std.specs.List.{list_all}
 use Rattle.std.specs.Ordering.{int_eq}
 use Rattle.std.proofs.lemmas.List.{length-map}
 use Rattle.std.proofs.lemmas.Bool.{eq-eqb}
+use Rattle.fl_types.specs.declared.dtype.DType.{DType}
 use Rattle.fl_types.specs.declared.dtype.PType.{PType}
+use Rattle.fl_types.specs.declared.scalar.PValue.{PValue}
 use Rattle.fl_types.specs.declared.error.FastLanesError.{FastLanesError}
 use Rattle.fl_types.specs.declared.error.FastLanesError.TheVariants.{OutOfMemory}
 use Rattle.fl_types.specs.Refusals.{Refuses}
@@ -12,10 +15,11 @@ use Rattle.fl_types.proofs.RefusalLaws.{Refuses_cases}
 use Rattle.fl_types.specs.declared.query.CompareOperator.{CompareOperator}
 use Rattle.fl_types.specs.declared.query.BetweenOptions.{BetweenOptions}
 use Rattle.fl_types.specs.Types.{has_ptype, is_integer}
-use Rattle.fl_types.specs.Values.{ScalarParts, bool_number}
+use Rattle.fl_types.specs.Values.{ScalarParts, bool_number, ptype_of_value}
 use Rattle.fl_column.specs.Columns.{BoolParts, Column, bools, column_of_bools}
 use Rattle.fl_column.specs.Queries.{holds, is_between, tested}
 use Rattle.fl_ops.specs.Queries.{between_scalars, compare_scalar, integer_in, nullable_with}
+use Rattle.fl_scan.specs.Totals.{of_integers}
 use Rattle.flcol_c.specs.Answering.{AreAnswers, compare_fault, operator_of, test_fault}
 use Rattle.fl_column.specs.Bitmaps.{bitmap_len, bits_in}
 use Rattle.fl_bitmaps.specs.Bitmaps.{items_in}
@@ -72,6 +76,30 @@ lies_between lower upper low high options c b q is_low is_high typed e =
     subst (λ (k : ℤ). bools b ≡ map (option_map (is_between options low k)) c.items) is_high
     (subst (λ (k : ℤ). bools b ≡ map (option_map (is_between options k (integer_in upper))) c.items) is_low
     (answers_of test c b (ap (λ (d : Column). d.items) (ok_is made (column_of_bools b) answer))))
+
+-- what a test of integers answered
+pub tests_answered : (test : ℤ → Bool) (c : Column) (b : BoolParts) (q : PType) → has_ptype q c.dtype ≡ true → of_integers c (tested test c) ≡ Ok (column_of_bools b) → bools b ≡ map (option_map test) c.items
+tests_answered test c b q typed e =
+    let integers : is_integer c.dtype ≡ true = integers_of_type q c.dtype typed in
+    let answer : ◌≡◌ {A = Result Column FastLanesError} (Ok (tested test c)) (Ok (column_of_bools b)) = (rw integers refl) ∙ e in
+    answers_of test c b (ap (λ (d : Column). d.items) (ok_is (tested test c) (column_of_bools b) answer))
+
+-- a test of integers is not refused
+pub tests_memory : (test : ℤ → Bool) (c : Column) (q : PType) (e : FastLanesError) → has_ptype q c.dtype ≡ true → Refuses e (of_integers c (tested test c)) → e ≡ OutOfMemory
+tests_memory test c q e typed refused = elim (Refuses_cases e (of_integers c (tested test c)) refused) [
+  | inl memory ↦ memory
+  | inr same ↦
+      let integers : is_integer c.dtype ≡ true = integers_of_type q c.dtype typed in
+      let wrong : ◌≡◌ {A = Result Column FastLanesError} (Ok (tested test c)) (Err e) = (rw integers refl) ∙ same in
+      absurd (let none : ⊥ = cc in none)
+]
+
+-- values of a type are of a column's
+pub listed_of_type : (q : PType) (d : DType) (values : List PValue) → has_ptype q d ≡ true → All (λ value. ptype_of_value value ≡ q) values → list_all (λ value. has_ptype (ptype_of_value value) d) values ≡ true
+listed_of_type q d [] typed all = refl
+listed_of_type q d (value ∷ values) typed all =
+    let first : has_ptype (ptype_of_value value) d ≡ true = ap (λ p. has_ptype p d) (all 0 value (omega arith)) ∙ typed in
+    rw (first, listed_of_type q d values typed (λ k other within. all (k + 1) other (omega arith))) refl
 
 -- as many answers are null as items
 pub nulls_answered : (test : ℤ → Bool) (c : Column) (b : BoolParts) → bools b ≡ map (option_map test) c.items → count_by is_none (bools b) ≡ count_by is_none c.items

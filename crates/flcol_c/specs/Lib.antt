@@ -15,6 +15,7 @@ pub mod Values
 pub mod Compressing
 pub mod Blocks
 pub mod Schemes
+pub mod Selections
 pub mod Booleans
 pub mod Logic
 pub mod Plain

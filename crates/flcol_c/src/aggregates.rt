@@ -26,7 +26,7 @@ use std::alloc::Global;
 const WORDS: u128 = 18_446_744_073_709_551_616;
 
 /// A value as the scalar of its type.
-fn scalar_of<T: NativePType>(value: T) -> Scalar
+pub(crate) fn scalar_of<T: NativePType>(value: T) -> Scalar
     ensures { scalar_parts result ≡ record { dtype = Primitive T.PTYPE NonNullable; value = Some (T.value value) } }
 {
     Scalar::primitive(value.into_pvalue(), Nullability::NonNullable)
@@ -292,14 +292,14 @@ fn signed_sum(alloc: Global, array: &ArrayRef) -> Result<i128, Fault>
 }
 
 /// The two words of 64 bits of an integer, the high one first.
-fn words_of_unsigned(sum: u128) -> (u64, u64)
+pub(crate) fn words_of_unsigned(sum: u128) -> (u64, u64)
     ensures { result.0 * 2 ^ 64 + result.1 ≡ sum }
 {
     ((sum / WORDS) as u64, (sum % WORDS) as u64)
 }
 
 /// The same of an integer with a sign: the high one has it.
-fn words_of_signed(sum: i128) -> (i64, u64)
+pub(crate) fn words_of_signed(sum: i128) -> (i64, u64)
     ensures { result.0 *ℤ pos (2 ^ 64) +ℤ pos result.1 ≡ sum }
 {
     let words = WORDS as i128;

@@ -1,8 +1,10 @@
 //! Tests of items, answered by bitmaps.
 
-ghost use Rattle.std.specs.Prelude.{◌≡◌, IfSome, OnErr, OnOk, length};
+ghost use Rattle.std.specs.Prelude.{◌≡◌, All, IfOk, IfSome, OnErr, OnOk, length, map};
+ghost use Rattle.fl_types.specs.Values.{integer_of, ptype_of_value};
 ghost use Rattle.fl_array.specs.Trees.{column};
 ghost use Rattle.fl_column.specs.Queries.{holds, is_between};
+ghost use Rattle.fl_scan.specs.Membership.{is_one_of};
 ghost use Rattle.flcol_c.specs.Answering.{AreAnswers, compare_fault, operator_of, options_of, strictness_of, test_fault};
 ghost use Rattle.fl_bitmaps.specs.Bitmaps.{IsClearFrom};
 ghost use Rattle.flcol_c.specs.Reading.{nulls_fault};
@@ -14,10 +16,10 @@ use crate::reading::is_of;
 use fl_array::ArrayRef;
 use fl_column::bitmaps::bitmap_len;
 use fl_column::{
-    BetweenOptions, CompareOperator, NativePType, Nullability, Scalar, StrictComparison,
+    BetweenOptions, CompareOperator, NativePType, Nullability, PValue, Scalar, StrictComparison,
 };
 use fl_ops::ArrayOps;
-use std::alloc::Global;
+use std::alloc::{AllocError, Global};
 
 /// The operator that a number names, if there is one.
 pub(crate) fn operator_of(number: u8) -> Option<CompareOperator>
@@ -117,6 +119,49 @@ pub(crate) fn between<T: NativePType>(
     let upper = Scalar::primitive(bounds.1.into_pvalue(), Nullability::NonNullable);
     let options = options_of(strict.0, strict.1);
     let answers = array.between(alloc, &lower, &upper, &options)?;
+    let _count = answers.len();
+    write_booleans(&answers, bits, validity)
+}
+
+/// The values of a list.
+///
+/// # Errors
+/// Only where memory runs out.
+fn values_of<T: NativePType>(alloc: Global, list: &[T]) -> Result<Vec<PValue>, AllocError>
+    ensures integers { IfOk result (λ values. map integer_of values.items ≡ map T.value list.now) }
+    ensures typed { IfOk result (λ values. All (λ value. ptype_of_value value ≡ T.PTYPE) values.items) }
+{
+    let mut values = Vec::with_capacity(alloc, list.len())?;
+    for value in list {
+        values.push(value.into_pvalue())?;
+    }
+    Ok(values)
+}
+
+/// Writes whether each item is one of a list, and which items are valid. Bits after theirs are not set.
+///
+/// # Errors
+/// As of `between`.
+pub(crate) fn is_in<T: NativePType>(
+    alloc: Global,
+    array: &ArrayRef,
+    list: &[T],
+    bits: &mut [u8],
+    validity: &mut [u8],
+) -> Result<(), Fault>
+    ensures tested { GivesAfter (test_fault T.PTYPE (length bits.old) (column array.now)) (nulls_fault (length validity.old) (column array.now)) (λ _. AreAnswers (is_one_of (map T.value list.now)) (column array.now) bits.new validity.new) result }
+    ensures clear { OnOk result (IsClearFrom (length (column array.now).items) bits.new) }
+    ensures clear_valid { OnOk result (IsClearFrom (length (column array.now).items) validity.new) }
+    ensures unwritten { OnErr result ((bits.new ≡ bits.old) × (validity.new ≡ validity.old)) }
+{
+    if !is_of::<T>(array) {
+        return Err(Fault::WrongType);
+    }
+    if bits.len() != bitmap_len(array.len()) {
+        return Err(Fault::WrongLength);
+    }
+    let values = values_of(alloc, list)?;
+    let answers = fl_scan::is_in(alloc, array, &values)?;
     let _count = answers.len();
     write_booleans(&answers, bits, validity)
 }

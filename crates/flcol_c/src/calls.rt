@@ -10,3 +10,4 @@ pub mod make;
 pub mod operate;
 pub mod queries;
 pub mod read;
+pub mod selections;

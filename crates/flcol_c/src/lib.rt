@@ -21,6 +21,7 @@ mod plain;
 pub mod ranges;
 mod reading;
 mod schemes;
+mod selections;
 mod typed;
 pub mod unboxed;
 mod validities;

@@ -3,6 +3,7 @@
 ghost use Rattle.std.specs.Prelude.{◌≡◌, ◌≢◌, IfSome, None, Some, length, map, pos, slice_index_or};
 ghost use Rattle.fl_array.specs.Trees.{Constant, Primitive, column};
 ghost use Rattle.fl_column.specs.Queries.{holds, is_between};
+ghost use Rattle.fl_scan.specs.Membership.{is_one_of};
 ghost use Rattle.flcol_c.specs.Answering.{AreAnswers, compare_fault, operator_of, options_of, test_fault};
 ghost use Rattle.fl_bitmaps.specs.Bitmaps.{IsClearFrom, items_in};
 ghost use Rattle.flcol_c.specs.Bitmaps.{short_fault};
@@ -130,4 +131,24 @@ pub(crate) fn between<T: NativePType>(
         return Fault::NoArray.status();
     };
     status_of(answering::between(alloc, source, bounds, strict, bits, validity))
+}
+
+/// Writes whether each item is one of a list, and which items are valid.
+pub(crate) fn is_in<T: NativePType>(
+    alloc: Global,
+    array: &mut ArrayHandle,
+    list: &[T],
+    bits: &mut [u8],
+    validity: &mut [u8],
+) -> i32
+    ensures kept { IsKept array.old array.new }
+    ensures status { IsStatusOn (λ t. test_fault T.PTYPE (length bits.old) (column t)) (λ t. nulls_fault (length validity.old) (column t)) array.old.tree result }
+    ensures tested { result ≡ pos 0 → IfSome array.old.tree (λ t. AreAnswers (is_one_of (map T.value list.now)) (column t) bits.new validity.new) }
+    ensures clear { result ≡ pos 0 → IfSome array.old.tree (λ t. IsClearFrom (length (column t).items) bits.new × IsClearFrom (length (column t).items) validity.new) }
+    ensures unwritten { result ≢ pos 0 → (bits.new ≡ bits.old) × (validity.new ≡ validity.old) }
+{
+    let Some(source) = array.array() else {
+        return Fault::NoArray.status();
+    };
+    status_of(answering::is_in(alloc, source, list, bits, validity))
 }

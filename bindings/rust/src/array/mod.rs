@@ -4,9 +4,12 @@ mod aggregate;
 mod compare;
 mod make;
 mod read;
+mod search;
 mod select;
+mod under;
 
 pub use make::Element;
+pub use search::Sorted;
 
 use crate::error::{checked, Error};
 use crate::ffi::{self, Handle};
