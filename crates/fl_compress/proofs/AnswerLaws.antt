@@ -240,24 +240,24 @@ allowed_runs limits p first r e a = answers_same r _ _ (ap (cheaper first) (sym 
 pub no_runs : (limits : Limits) (p : PrimitiveParts) (first : Option (Shape × ℕ)) → has_level limits.rle limits.depth ≡ false → Gives (cheaper first (cheapest (encoded_bytes p) (run_schemes limits limits.depth))) first
 no_runs limits p first e = gives _ _ (ap (cheaper first) (no_run_list limits limits.depth p e) ∙ cheaper_none first)
 
--- the choice that both steps of the search find
-pub whole_search : (limits : Limits) (p : PrimitiveParts) (best with_runs : Option (Shape × ℕ)) (r : Result Choice FastLanesError) → has_level limits.dict limits.depth ≡ true → Gives (cheapest (encoded_bytes p) (delta_schemes limits limits.depth)) best
-    → Gives (cheaper best (cheapest (encoded_bytes p) (run_schemes limits limits.depth))) with_runs
-    → Answers chosen r (Ok (cheaper with_runs (cheapest (encoded_bytes p) (over_runs Dictionary (delta_schemes limits (limits.depth - 1)) (delta_schemes limits (limits.depth - 1)) (framed_schemes limits (limits.depth - 1))))))
-    → Answers chosen r (Ok (cheapest (encoded_bytes p) (candidates limits)))
-whole_search limits p best with_runs r e f g a =
-    let runs = cheapest (encoded_bytes p) (run_schemes limits limits.depth) in
-    let dictionaries = cheapest (encoded_bytes p) (dictionary_schemes limits limits.depth) in
-    answers_same r _ _ (sym (candidate_list limits p
-    ∙ (ap (λ c. cheaper (cheaper c runs) dictionaries) (ok_is _ _ f) ∙ (ap (λ c. cheaper c dictionaries) (ok_is _ _ g) ∙ ap (cheaper with_runs) (dictionary_list limits limits.depth p e))))) a
+-- the same of dictionaries
+pub allowed_dictionaries : (limits : Limits) (p : PrimitiveParts) (first : Option (Shape × ℕ)) (r : Result Choice FastLanesError) → has_level limits.dict limits.depth ≡ true
+    → Answers chosen r (Ok (cheaper first (cheapest (encoded_bytes p) (over_runs Dictionary (delta_schemes limits (limits.depth - 1)) (delta_schemes limits (limits.depth - 1)) (framed_schemes limits (limits.depth - 1))))))
+    → Answers chosen r (Ok (cheaper first (cheapest (encoded_bytes p) (dictionary_schemes limits limits.depth))))
+allowed_dictionaries limits p first r e a = answers_same r _ _ (ap (cheaper first) (sym (dictionary_list limits limits.depth p e))) a
 
-pub search_without_dictionaries : (limits : Limits) (p : PrimitiveParts) (best with_runs : Option (Shape × ℕ)) → has_level limits.dict limits.depth ≡ false → Gives (cheapest (encoded_bytes p) (delta_schemes limits limits.depth)) best
-    → Gives (cheaper best (cheapest (encoded_bytes p) (run_schemes limits limits.depth))) with_runs → Gives (cheapest (encoded_bytes p) (candidates limits)) with_runs
-search_without_dictionaries limits p best with_runs e f g =
+pub no_dictionaries : (limits : Limits) (p : PrimitiveParts) (first : Option (Shape × ℕ)) → has_level limits.dict limits.depth ≡ false → Gives (cheaper first (cheapest (encoded_bytes p) (dictionary_schemes limits limits.depth))) first
+no_dictionaries limits p first e = gives _ _ (ap (cheaper first) (no_dictionary_list limits limits.depth p e) ∙ cheaper_none first)
+
+-- the choice that all steps of the search find
+pub whole_search : (limits : Limits) (p : PrimitiveParts) (best with_runs : Option (Shape × ℕ)) (r : Result Choice FastLanesError) → Gives (cheapest (encoded_bytes p) (delta_schemes limits limits.depth)) best
+    → Gives (cheaper best (cheapest (encoded_bytes p) (run_schemes limits limits.depth))) with_runs
+    → Answers chosen r (Ok (cheaper with_runs (cheapest (encoded_bytes p) (dictionary_schemes limits limits.depth))))
+    → Answers chosen r (Ok (cheapest (encoded_bytes p) (candidates limits)))
+whole_search limits p best with_runs r f g a =
     let runs = cheapest (encoded_bytes p) (run_schemes limits limits.depth) in
     let dictionaries = cheapest (encoded_bytes p) (dictionary_schemes limits limits.depth) in
-    gives _ _ (candidate_list limits p
-    ∙ (ap (λ c. cheaper (cheaper c runs) dictionaries) (ok_is _ _ f) ∙ (ap (λ c. cheaper c dictionaries) (ok_is _ _ g) ∙ (ap (cheaper with_runs) (no_dictionary_list limits limits.depth p e) ∙ cheaper_none with_runs))))
+    answers_same r _ _ (sym (candidate_list limits p ∙ (ap (λ c. cheaper (cheaper c runs) dictionaries) (ok_is _ _ f) ∙ ap (λ c. cheaper c dictionaries) (ok_is _ _ g)))) a
 
 -- ---- the array
 pub smallest_made : (limits : Limits) (p : PrimitiveParts) (scheme : Shape) (n : ℕ) (r : Result Tree FastLanesError) → Gives (cheapest (encoded_bytes p) (candidates limits)) (Some (scheme, n)) → EncodesAs scheme p r → IfOk r (IsSmallest (candidates limits) p)

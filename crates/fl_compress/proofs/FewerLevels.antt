@@ -6,19 +6,20 @@ use Rattle.std.proofs.lemmas.Bool.Decides.{nat_tests}
 use Rattle.std.proofs.lemmas.List.Elements.{All-append, All-cons, All-head, All-map, All-nil, All-same, All-tail, All-weaker}
 use Rattle.fl_column.specs.Columns.{PrimitiveParts}
 use Rattle.fl_codec.specs.declared.for_.ItemOrder.TheVariants.{Natural, Signed}
+use Rattle.fl_codec.specs.Dictionaries.{encode_dictionaries}
 use Rattle.fl_codec.specs.Parts.{encode_runs}
 use Rattle.fl_array.proofs.EncodedRLE.{ok_is}
 use Rattle.fl_encode.specs.declared.scheme.Packing.TheVariants.{BestWidth, BestWidths}
 use Rattle.fl_encode.specs.Encodings.{runs_by}
-use Rattle.fl_encode.specs.Shapes.{BitPacked, Constant, Delta, FoR, FoRChunked, Primitive, Runs, RunValues, Shape}
+use Rattle.fl_encode.specs.Shapes.{BitPacked, Constant, Delta, Dictionary, FoR, FoRChunked, Primitive, Runs, RunValues, Shape}
 use Rattle.fl_compress.specs.declared.limits.Limits.{Limits}
-use Rattle.fl_compress.specs.Candidates.{delta_schemes, framed_schemes, has_level, over_deltas, over_frames, over_runs, packed_schemes, run_schemes, where_allowed}
+use Rattle.fl_compress.specs.Candidates.{delta_schemes, dictionary_schemes, framed_schemes, has_level, over_deltas, over_frames, over_runs, packed_schemes, run_schemes, where_allowed}
 use Rattle.fl_compress.specs.Cheapest.{cheaper, cheapest, combined}
 use Rattle.fl_compress.specs.Choices.{CostsNoMore, runs_of, two}
 use Rattle.fl_compress.specs.EncodedBytes.{encoded_bytes}
 use Rattle.fl_compress.proofs.AnswerLaws.{Gives, gives}
 use Rattle.fl_compress.proofs.CheapestLaws.{first_cheapest}
-use Rattle.fl_compress.proofs.ListLaws.{run_list, runs_list}
+use Rattle.fl_compress.proofs.ListLaws.{dictionary_list, run_list, runs_list}
 
 -- ---- parts of lists
 all_first : {A : Type 0} (Q : A → Type 0) (xs ys : List A) → All Q (xs ++ ys) → All Q xs
@@ -140,6 +141,13 @@ pub single_runs : (limits : Limits) (p : PrimitiveParts) (s : Shape) (n : ℕ) �
 single_runs limits p s n e most same =
     let others = framed_schemes limits (limits.depth - 1) in
     gives _ _ (ap (cheaper (Some (s, n))) (run_list limits limits.depth p e) ∙ single_choice Runs limits (limits.depth - 1) p s n others others most same)
+
+pub single_dictionaries : (limits : Limits) (p : PrimitiveParts) (s : Shape) (n : ℕ) → has_level limits.dict limits.depth ≡ true → CostsNoMore n (cheapest (encoded_bytes p) (delta_schemes limits (limits.depth - 1))) → (encode_dictionaries p).values ≡ p
+    → Gives (cheaper (Some (s, n)) (cheapest (encoded_bytes p) (dictionary_schemes limits limits.depth))) (Some (s, n))
+single_dictionaries limits p s n e most same =
+    let indices = delta_schemes limits (limits.depth - 1) in
+    let offsets = framed_schemes limits (limits.depth - 1) in
+    gives _ _ (ap (cheaper (Some (s, n))) (dictionary_list limits limits.depth p e) ∙ single_choice Dictionary limits (limits.depth - 1) p s n indices offsets most same)
 
 -- what costs no more than the cheapest of these costs no more than that of fewer
 costs_within : (cost : Shape → Option ℕ) (few many : List Shape) (s : Shape) (n m : ℕ) → IsWithin few many → m ≤ n → cheapest cost many ≡ Some (s, n) → CostsNoMore m (cheapest cost few)

@@ -3,7 +3,7 @@
 ghost use Rattle.std.specs.Prelude.{◌≡◌, ◌-◌, ◌<◌, ◌≤◌, ◌^◌, ℤ, List, [], ◌∷◌, IfOk, Ok, Some, map, option_map, true};
 ghost use Rattle.fl_types.specs.Refusals.{Answers};
 ghost use Rattle.fl_encode.specs.Shapes as shapes;
-ghost use Rattle.fl_compress.specs.Candidates.{candidates, delta_schemes, framed_schemes, over_chunk_references, over_deltas, over_one_reference, over_runs, packed_schemes, run_schemes, where_allowed};
+ghost use Rattle.fl_compress.specs.Candidates.{candidates, delta_schemes, dictionary_schemes, framed_schemes, over_chunk_references, over_deltas, over_one_reference, over_runs, packed_schemes, run_schemes, where_allowed};
 ghost use Rattle.fl_codec.specs.FoRColumns.{chunk_references, chunked_slots, least_by, reading};
 ghost use Rattle.fl_codec.specs.Parts.{items_of_primitive, non_nullable, subtract_reference};
 ghost use Rattle.fl_serde.specs.ByteCounts.{primitive_bytes};
@@ -20,10 +20,10 @@ use crate::parts::{
     leasts, plain_bytes, ptype_of,
 };
 use crate::single_runs::are_runs_single;
+use crate::sorted::{are_items_distinct, dictionaries_of};
 use fl_codec::delta::blocks::delta_bases;
 use fl_codec::for_::{ItemOrder, common_reference};
 use fl_codec::rle::blocks::run_values;
-use fl_codec::rle::dictionary;
 use fl_column::laws::stored_integers_are_in_range;
 use fl_column::{FastLanesError, PhysicalPType, PrimitiveArray};
 use fl_encode::Scheme;
@@ -551,9 +551,9 @@ fn choose_dictionaries(
 ) -> Result<Choice, FastLanesError>
     ensures { Answers chosen result (Ok (cheaper (chosen first) (cheapest (encoded_bytes array.now) (over_runs shapes.Dictionary (delta_schemes limits.now depth) (delta_schemes limits.now depth) (framed_schemes limits.now depth))))) }
 {
-    let runs = dictionary::encode(alloc, array)?;
-    let indices = choose_framed_or_deltas(alloc, &runs.indices, limits, depth)?;
-    if first.bytes <= indices.bytes {
+    let runs = dictionaries_of(alloc, array)?;
+    let ranks = choose_framed_or_deltas(alloc, &runs.indices, limits, depth)?;
+    if first.bytes <= ranks.bytes {
         return Ok(first);
     }
     let which = RunValues::Dictionary;
@@ -561,12 +561,33 @@ fn choose_dictionaries(
         alloc,
         which,
         &runs.values,
-        indices,
+        ranks,
         &runs.offsets,
         limits,
         depth,
         first,
     )
+}
+
+/// The cheaper of another choice, which takes no more bytes than framed arrays and deltas of a level less, and of the cheapest
+/// run-length encoded array of dictionaries, where they are allowed. Where the distinct items are the array itself,
+/// dictionaries are not tried.
+fn choose_with_dictionaries(
+    alloc: Global,
+    array: &PrimitiveArray,
+    limits: &Limits,
+    first: Choice,
+) -> Result<Choice, FastLanesError>
+    requires { CostsNoMore first.bytes (cheapest (encoded_bytes array.now) (delta_schemes limits.now (limits.now.depth - 1))) }
+    ensures { Answers chosen result (Ok (cheaper (chosen first) (cheapest (encoded_bytes array.now) (dictionary_schemes limits.now limits.now.depth)))) }
+{
+    if !has_level(limits.dict, limits.depth) {
+        return Ok(first);
+    }
+    if are_items_distinct(array) {
+        return Ok(first);
+    }
+    choose_dictionaries(alloc, array, limits, limits.depth - 1, first)
 }
 
 /// The first scheme of the candidates by which the array takes fewest bytes, and these.
@@ -581,9 +602,6 @@ pub(crate) fn choose(
     if best.bytes == 0 {
         return Ok(best);
     }
-    let best = choose_with_runs(alloc, array, limits, best)?;
-    if !has_level(limits.dict, limits.depth) {
-        return Ok(best);
-    }
-    choose_dictionaries(alloc, array, limits, limits.depth - 1, best)
+    let with_runs = choose_with_runs(alloc, array, limits, best)?;
+    choose_with_dictionaries(alloc, array, limits, with_runs)
 }

@@ -12,10 +12,10 @@ use crate::parts::{
     Part, count_bits, count_bits_less, is_all_null, is_constant, is_less_constant, leasts,
     plain_bytes, ptype_of,
 };
+use crate::sorted::dictionaries_of;
 use fl_codec::delta::blocks::delta_bases;
 use fl_codec::for_::{ItemOrder, common_reference};
 use fl_codec::rle::blocks::run_values;
-use fl_codec::rle::dictionary;
 use fl_column::{FastLanesError, PhysicalPType, PrimitiveArray};
 use fl_serde::byte_counts::validity_bytes;
 use fl_types::match_each_integer_ptype;
@@ -304,7 +304,7 @@ fn dictionary_sizes(
 ) -> Result<DictionarySizes, FastLanesError>
     ensures { Answers (λ sizes. sizes) result (Ok (dictionary_sizes array.now)) }
 {
-    let runs = dictionary::encode(alloc, array)?;
+    let runs = dictionaries_of(alloc, array)?;
     let values = delta_sizes(alloc, &runs.values)?;
     let indices = delta_sizes(alloc, &runs.indices)?;
     let offsets = framed_sizes(alloc, &runs.offsets, Part::Items)?;
