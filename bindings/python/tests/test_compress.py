@@ -33,6 +33,7 @@ def schemes(chance, count):
     yield from chance.sample(DELTAS[1], count)
     for _ in range(count):
         yield f"rle({chance.choice(DELTAS[0])},{chance.choice(FRAMED[1])},{chance.choice(FRAMED[1])})"
+        yield f"dict({chance.choice(DELTAS[0])},{chance.choice(DELTAS[0])},{chance.choice(FRAMED[1])})"
 
 
 def columns(chance):

@@ -21,6 +21,7 @@ fn limits_of(depth: &str, left_out: &[&str]) -> Limits {
             "-for" => limits.for_ = false,
             "-delta" => limits.delta = false,
             "-rle" => limits.rle = false,
+            "-dict" => limits.dict = false,
             _ => {}
         }
     }

@@ -11,26 +11,27 @@ use Rattle.fl_column.specs.Columns.{ConstantParts, PrimitiveParts, column_of_pri
 use Rattle.fl_column.specs.Queries.{are_constant}
 use Rattle.fl_codec.specs.declared.for_.ItemOrder.{ItemOrder}
 use Rattle.fl_codec.specs.declared.for_.ItemOrder.TheVariants.{Natural, Signed}
-use Rattle.fl_codec.specs.Parts.{ByChunk, Nulls, OneReference, Whole, compress_deltas, encode_chunked_by, encode_global_by, encode_runs}
+use Rattle.fl_codec.specs.Dictionaries.{encode_dictionaries}
+use Rattle.fl_codec.specs.Parts.{ByChunk, Nulls, OneReference, RunParts, Whole, compress_deltas, encode_chunked_by, encode_global_by}
 use Rattle.fl_bitpacking.specs.Encoders.{AnswersUnless}
 use Rattle.fl_array.specs.Trees.{Tree, column}
 use Rattle.fl_array.specs.Trees as tree
 use Rattle.fl_array.proofs.EncodedRLE.{ok_is}
 use Rattle.fl_encode.specs.declared.scheme.Packing.TheVariants.{BestWidth, BestWidths}
-use Rattle.fl_encode.specs.Encodings.{EncodesAs}
+use Rattle.fl_encode.specs.Encodings.{EncodesAs, runs_by}
 use Rattle.fl_encode.specs.Packings.{constant_of}
-use Rattle.fl_encode.specs.Shapes.{BitPacked, Constant, Delta, FoR, FoRChunked, Primitive, Shape}
+use Rattle.fl_encode.specs.Shapes.{BitPacked, Constant, Delta, Dictionary, FoR, FoRChunked, Primitive, Runs, RunValues, Shape}
 use Rattle.fl_serde.specs.ByteCounts.{primitive_bytes, tree_bytes, validity_bytes}
 use Rattle.fl_compress.specs.declared.choice.Choice.{Choice}
 use Rattle.fl_compress.specs.declared.limits.Limits.{Limits}
-use Rattle.fl_compress.specs.Candidates.{candidates, delta_schemes, framed_schemes, has_level, over_chunk_references, over_deltas, over_one_reference, over_runs, packed_schemes, where_allowed}
+use Rattle.fl_compress.specs.Candidates.{candidates, delta_schemes, dictionary_schemes, framed_schemes, has_level, over_chunk_references, over_deltas, over_one_reference, over_runs, packed_schemes, run_schemes, where_allowed}
 use Rattle.fl_compress.specs.Cheapest.{beside, cheaper, cheapest, combined}
 use Rattle.fl_compress.specs.Choices.{chosen, or_frames, runs_of, two, with_bytes}
 use Rattle.fl_compress.specs.EncodedBytes.{encoded_bytes}
 use Rattle.fl_compress.specs.Smallest.{IsSmallest}
 use Rattle.fl_compress.proofs.AlikeLaws.{AreAlike, frames_alike}
 use Rattle.fl_compress.proofs.CheapestLaws.{cheaper_none, cheapest_append, first_cheapest, free_first, wrapped}
-use Rattle.fl_compress.proofs.ListLaws.{candidate_list, chunk_list, delta_list, deltas_list, framed_list, no_candidate_list, no_delta_list, no_list, not_framed_list, nulls_list, one_list, packed_list, packings_there, runs_list, whole_list}
+use Rattle.fl_compress.proofs.ListLaws.{candidate_list, chunk_list, delta_list, deltas_list, dictionary_list, framed_list, no_delta_list, no_dictionary_list, no_list, no_run_list, not_framed_list, nulls_list, one_list, packed_list, packings_there, run_list, runs_list, whole_list}
 use Rattle.fl_compress.proofs.MadeBytes.{free_of_refusal}
 use Rattle.fl_compress.proofs.SmallestLaws.{constant_is_constant, empty_is_plain, never_larger, smallest_is}
 
@@ -187,53 +188,76 @@ pub no_delta_choice : (limits : Limits) (depth : ℕ) (p : PrimitiveParts) (fram
 no_delta_choice limits depth p framed e f = gives _ _ (no_delta_list limits depth p e ∙ ok_is _ _ f)
 
 -- ---- runs
-pub runs_choice : (p v o : PrimitiveParts) (i : Option (Shape × ℕ)) (values others : List Shape) (first : Option (Shape × ℕ)) (r : Result Choice FastLanesError) → ◌≡◌ {A = PrimitiveParts × PrimitiveParts} ((encode_runs p).values, (encode_runs p).offsets) (v, o) → Gives (cheapest (encoded_bytes (encode_runs p).indices) others) i
-    → Answers chosen r (Ok (cheaper first (combined runs_of (cheapest (encoded_bytes v) values) (combined two i (cheapest (encoded_bytes o) others)))))
-    → Answers chosen r (Ok (cheaper first (cheapest (encoded_bytes p) (over_runs values others))))
-runs_choice p v o i values others first r e f a =
-    answers_same r _ _ (ap (cheaper first) (sym (runs_list p values others
-    ∙ (ap (λ x. combined runs_of (cheapest (encoded_bytes (encode_runs p).values) values) (combined two x (cheapest (encoded_bytes (encode_runs p).offsets) others))) (ok_is _ _ f)
-    ∙ ap (λ (x : PrimitiveParts × PrimitiveParts). combined runs_of (cheapest (encoded_bytes x.0) values) (combined two i (cheapest (encoded_bytes x.1) others))) e)))) a
+pub runs_choice : (which : RunValues) (p v o : PrimitiveParts) (i : Option (Shape × ℕ)) (values indices offsets : List Shape) (first : Option (Shape × ℕ)) (r : Result Choice FastLanesError) → ◌≡◌ {A = PrimitiveParts × PrimitiveParts} ((runs_by which p).values, (runs_by which p).offsets) (v, o) → Gives (cheapest (encoded_bytes (runs_by which p).indices) indices) i
+    → Answers chosen r (Ok (cheaper first (combined (runs_of which) (cheapest (encoded_bytes v) values) (combined two i (cheapest (encoded_bytes o) offsets)))))
+    → Answers chosen r (Ok (cheaper first (cheapest (encoded_bytes p) (over_runs which values indices offsets))))
+runs_choice which p v o i values indices offsets first r e f a =
+    answers_same r _ _ (ap (cheaper first) (sym (runs_list which p values indices offsets
+    ∙ (ap (λ x. combined (runs_of which) (cheapest (encoded_bytes (runs_by which p).values) values) (combined two x (cheapest (encoded_bytes (runs_by which p).offsets) offsets))) (ok_is _ _ f)
+    ∙ ap (λ (x : PrimitiveParts × PrimitiveParts). combined (runs_of which) (cheapest (encoded_bytes x.0) values) (combined two i (cheapest (encoded_bytes x.1) offsets))) e)))) a
 
 -- run indices that take as many bytes as another choice
-dear_first : (first : Shape × ℕ) (values : Option (Shape × ℕ)) (i : Shape × ℕ) (offsets : Option (Shape × ℕ)) → first.1 ≤ i.1 → cheaper (Some first) (combined runs_of values (combined two (Some i) offsets)) ≡ Some first
-dear_first first None i None h = refl
-dear_first first None i (Some o) h = refl
-dear_first first (Some v) i None h = refl
-dear_first first (Some v) i (Some o) h = grind (arith, nat_tests)
+dear_first : (which : RunValues) (first : Shape × ℕ) (values : Option (Shape × ℕ)) (i : Shape × ℕ) (offsets : Option (Shape × ℕ)) → first.1 ≤ i.1 → cheaper (Some first) (combined (runs_of which) values (combined two (Some i) offsets)) ≡ Some first
+dear_first which first None i None h = refl
+dear_first which first None i (Some o) h = refl
+dear_first which first (Some v) i None h = refl
+dear_first which first (Some v) i (Some o) h = grind (arith, nat_tests)
 
-pub dear_indices : (p : PrimitiveParts) (first : Shape) (n : ℕ) (values others : List Shape) (i : Shape × ℕ) → Gives (cheapest (encoded_bytes (encode_runs p).indices) others) (Some i) → n ≤ i.1
-    → Gives (cheaper (Some (first, n)) (cheapest (encoded_bytes p) (over_runs values others))) (Some (first, n))
-dear_indices p first n values others i e h =
-    let v = cheapest (encoded_bytes (encode_runs p).values) values in
-    let o = cheapest (encoded_bytes (encode_runs p).offsets) others in
-    gives _ _ (ap (cheaper (Some (first, n))) (runs_list p values others) ∙ (ap (λ x. cheaper (Some (first, n)) (combined runs_of v (combined two x o))) (ok_is _ _ e) ∙ dear_first (first, n) v i o h))
+pub dear_indices : (which : RunValues) (p : PrimitiveParts) (first : Shape) (n : ℕ) (values indices offsets : List Shape) (i : Shape × ℕ) → Gives (cheapest (encoded_bytes (runs_by which p).indices) indices) (Some i) → n ≤ i.1
+    → Gives (cheaper (Some (first, n)) (cheapest (encoded_bytes p) (over_runs which values indices offsets))) (Some (first, n))
+dear_indices which p first n values indices offsets i e h =
+    let v = cheapest (encoded_bytes (runs_by which p).values) values in
+    let o = cheapest (encoded_bytes (runs_by which p).offsets) offsets in
+    gives _ _ (ap (cheaper (Some (first, n))) (runs_list which p values indices offsets) ∙ (ap (λ x. cheaper (Some (first, n)) (combined (runs_of which) v (combined two x o))) (ok_is _ _ e) ∙ dear_first which (first, n) v i o h))
 
 -- two parts that take as many bytes as another choice
-dear_parts : (first : Shape × ℕ) (values : Option (Shape × ℕ)) (i o : Shape × ℕ) → first.1 ≤ i.1 + o.1 → cheaper (Some first) (combined runs_of values (combined two (Some i) (Some o))) ≡ Some first
-dear_parts first None i o h = refl
-dear_parts first (Some v) i o h = grind (arith, nat_tests)
+dear_parts : (which : RunValues) (first : Shape × ℕ) (values : Option (Shape × ℕ)) (i o : Shape × ℕ) → first.1 ≤ i.1 + o.1 → cheaper (Some first) (combined (runs_of which) values (combined two (Some i) (Some o))) ≡ Some first
+dear_parts which first None i o h = refl
+dear_parts which first (Some v) i o h = grind (arith, nat_tests)
 
-pub dear_runs : (first : Shape) (n : ℕ) (values indices offsets : Option (Shape × ℕ)) (i o : Shape × ℕ) → Gives indices (Some i) → Gives offsets (Some o) → n ≤ i.1 + o.1
-    → Gives (cheaper (Some (first, n)) (combined runs_of values (combined two indices offsets))) (Some (first, n))
-dear_runs first n values indices offsets i o e f h =
-    gives _ _ (ap (λ x. cheaper (Some (first, n)) (combined runs_of values (combined two x offsets))) (ok_is _ _ e)
-    ∙ (ap (λ x. cheaper (Some (first, n)) (combined runs_of values (combined two (Some i) x))) (ok_is _ _ f) ∙ dear_parts (first, n) values i o h))
+pub dear_runs : (which : RunValues) (first : Shape) (n : ℕ) (values indices offsets : Option (Shape × ℕ)) (i o : Shape × ℕ) → Gives indices (Some i) → Gives offsets (Some o) → n ≤ i.1 + o.1
+    → Gives (cheaper (Some (first, n)) (combined (runs_of which) values (combined two indices offsets))) (Some (first, n))
+dear_runs which first n values indices offsets i o e f h =
+    gives _ _ (ap (λ x. cheaper (Some (first, n)) (combined (runs_of which) values (combined two x offsets))) (ok_is _ _ e)
+    ∙ (ap (λ x. cheaper (Some (first, n)) (combined (runs_of which) values (combined two (Some i) x))) (ok_is _ _ f) ∙ dear_parts which (first, n) values i o h))
 
-pub run_parts_choice : (first values indices offsets i o made choice : Option (Shape × ℕ)) → Gives indices i → Gives offsets o → Gives (combined runs_of values (combined two i o)) made → choice ≡ cheaper first made
-    → Gives (cheaper first (combined runs_of values (combined two indices offsets))) choice
-run_parts_choice first values indices offsets i o made choice e f g c =
-    gives _ _ (ap (λ x. cheaper first (combined runs_of values (combined two x offsets))) (ok_is _ _ e)
-    ∙ (ap (λ x. cheaper first (combined runs_of values (combined two i x))) (ok_is _ _ f) ∙ (ap (cheaper first) (ok_is _ _ g) ∙ sym c)))
+pub run_parts_choice : (which : RunValues) (first values indices offsets i o made choice : Option (Shape × ℕ)) → Gives indices i → Gives offsets o → Gives (combined (runs_of which) values (combined two i o)) made → choice ≡ cheaper first made
+    → Gives (cheaper first (combined (runs_of which) values (combined two indices offsets))) choice
+run_parts_choice which first values indices offsets i o made choice e f g c =
+    gives _ _ (ap (λ x. cheaper first (combined (runs_of which) values (combined two x offsets))) (ok_is _ _ e)
+    ∙ (ap (λ x. cheaper first (combined (runs_of which) values (combined two i x))) (ok_is _ _ f) ∙ (ap (cheaper first) (ok_is _ _ g) ∙ sym c)))
 
-pub whole_search : (limits : Limits) (p : PrimitiveParts) (best : Option (Shape × ℕ)) (r : Result Choice FastLanesError) → has_level limits.rle limits.depth ≡ true → Gives (cheapest (encoded_bytes p) (delta_schemes limits limits.depth)) best
-    → Answers chosen r (Ok (cheaper best (cheapest (encoded_bytes p) (over_runs (delta_schemes limits (limits.depth - 1)) (framed_schemes limits (limits.depth - 1)))))) → Answers chosen r (Ok (cheapest (encoded_bytes p) (candidates limits)))
-whole_search limits p best r e f a =
-    let runs = cheapest (encoded_bytes p) (over_runs (delta_schemes limits (limits.depth - 1)) (framed_schemes limits (limits.depth - 1))) in
-    answers_same r _ _ (sym (candidate_list limits p e ∙ ap (λ c. cheaper c runs) (ok_is _ _ f))) a
+-- the choice for the indices of the dictionaries that were made
+pub dictionary_indices : (p : PrimitiveParts) (runs : RunParts) (schemes : List Shape) (i : Option (Shape × ℕ)) → encode_dictionaries p ≡ runs → Gives (cheapest (encoded_bytes runs.indices) schemes) i → Gives (cheapest (encoded_bytes (runs_by Dictionary p).indices) schemes) i
+dictionary_indices p runs schemes i e f = gives _ _ (ap (λ (r : RunParts). cheapest (encoded_bytes r.indices) schemes) e ∙ ok_is _ _ f)
 
-pub search_without_runs : (limits : Limits) (p : PrimitiveParts) (best : Option (Shape × ℕ)) → has_level limits.rle limits.depth ≡ false → Gives (cheapest (encoded_bytes p) (delta_schemes limits limits.depth)) best → Gives (cheapest (encoded_bytes p) (candidates limits)) best
-search_without_runs limits p best e f = gives _ _ (no_candidate_list limits p e ∙ ok_is _ _ f)
+-- where run-length encoded arrays of runs are allowed, and where they are not
+pub allowed_runs : (limits : Limits) (p : PrimitiveParts) (first : Option (Shape × ℕ)) (r : Result Choice FastLanesError) → has_level limits.rle limits.depth ≡ true
+    → Answers chosen r (Ok (cheaper first (cheapest (encoded_bytes p) (over_runs Runs (delta_schemes limits (limits.depth - 1)) (framed_schemes limits (limits.depth - 1)) (framed_schemes limits (limits.depth - 1))))))
+    → Answers chosen r (Ok (cheaper first (cheapest (encoded_bytes p) (run_schemes limits limits.depth))))
+allowed_runs limits p first r e a = answers_same r _ _ (ap (cheaper first) (sym (run_list limits limits.depth p e))) a
+
+pub no_runs : (limits : Limits) (p : PrimitiveParts) (first : Option (Shape × ℕ)) → has_level limits.rle limits.depth ≡ false → Gives (cheaper first (cheapest (encoded_bytes p) (run_schemes limits limits.depth))) first
+no_runs limits p first e = gives _ _ (ap (cheaper first) (no_run_list limits limits.depth p e) ∙ cheaper_none first)
+
+-- the same of dictionaries
+pub allowed_dictionaries : (limits : Limits) (p : PrimitiveParts) (first : Option (Shape × ℕ)) (r : Result Choice FastLanesError) → has_level limits.dict limits.depth ≡ true
+    → Answers chosen r (Ok (cheaper first (cheapest (encoded_bytes p) (over_runs Dictionary (delta_schemes limits (limits.depth - 1)) (delta_schemes limits (limits.depth - 1)) (framed_schemes limits (limits.depth - 1))))))
+    → Answers chosen r (Ok (cheaper first (cheapest (encoded_bytes p) (dictionary_schemes limits limits.depth))))
+allowed_dictionaries limits p first r e a = answers_same r _ _ (ap (cheaper first) (sym (dictionary_list limits limits.depth p e))) a
+
+pub no_dictionaries : (limits : Limits) (p : PrimitiveParts) (first : Option (Shape × ℕ)) → has_level limits.dict limits.depth ≡ false → Gives (cheaper first (cheapest (encoded_bytes p) (dictionary_schemes limits limits.depth))) first
+no_dictionaries limits p first e = gives _ _ (ap (cheaper first) (no_dictionary_list limits limits.depth p e) ∙ cheaper_none first)
+
+-- the choice that all steps of the search find
+pub whole_search : (limits : Limits) (p : PrimitiveParts) (best with_runs : Option (Shape × ℕ)) (r : Result Choice FastLanesError) → Gives (cheapest (encoded_bytes p) (delta_schemes limits limits.depth)) best
+    → Gives (cheaper best (cheapest (encoded_bytes p) (run_schemes limits limits.depth))) with_runs
+    → Answers chosen r (Ok (cheaper with_runs (cheapest (encoded_bytes p) (dictionary_schemes limits limits.depth))))
+    → Answers chosen r (Ok (cheapest (encoded_bytes p) (candidates limits)))
+whole_search limits p best with_runs r f g a =
+    let runs = cheapest (encoded_bytes p) (run_schemes limits limits.depth) in
+    let dictionaries = cheapest (encoded_bytes p) (dictionary_schemes limits limits.depth) in
+    answers_same r _ _ (sym (candidate_list limits p ∙ (ap (λ c. cheaper (cheaper c runs) dictionaries) (ok_is _ _ f) ∙ ap (λ c. cheaper c dictionaries) (ok_is _ _ g)))) a
 
 -- ---- the array
 pub smallest_made : (limits : Limits) (p : PrimitiveParts) (scheme : Shape) (n : ℕ) (r : Result Tree FastLanesError) → Gives (cheapest (encoded_bytes p) (candidates limits)) (Some (scheme, n)) → EncodesAs scheme p r → IfOk r (IsSmallest (candidates limits) p)

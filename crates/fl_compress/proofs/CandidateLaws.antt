@@ -5,9 +5,9 @@ use Rattle.std.specs.List.{All}
 use Rattle.std.proofs.lemmas.List.Elements.{All-append, All-cons, All-head, All-map, All-nil, All-tail, All-weaker}
 use Rattle.fl_codec.specs.declared.for_.ItemOrder.TheVariants.{Natural, Signed}
 use Rattle.fl_encode.specs.declared.scheme.Packing.TheVariants.{BestWidth, BestWidths}
-use Rattle.fl_encode.specs.Shapes.{BitPacked, Constant, Delta, FoR, FoRChunked, Plain, Primitive, RLE, Runs, Shape}
+use Rattle.fl_encode.specs.Shapes.{BitPacked, Constant, Delta, Dictionary, FoR, FoRChunked, Plain, Primitive, RLE, Runs, Shape}
 use Rattle.fl_compress.specs.declared.limits.Limits.{Limits}
-use Rattle.fl_compress.specs.Candidates.{candidates, delta_schemes, framed_schemes, has_level, over_deltas, over_frames, over_runs, packed_schemes, where_allowed}
+use Rattle.fl_compress.specs.Candidates.{candidates, delta_schemes, dictionary_schemes, framed_schemes, has_level, over_deltas, over_frames, over_runs, packed_schemes, run_schemes, where_allowed}
 use Rattle.fl_compress.specs.Statistics.{is_candidate, is_delta, is_framed, is_packed}
 
 -- ---- lists
@@ -22,12 +22,12 @@ all_pairs X Y P f each (x ∷ xs) ys all others =
     (All-map P (f x) ys (All-weaker Y (λ y. P (f x y)) (λ y h. each x y (All-head X x xs all) h) ys others))
     (all_pairs X Y P f each xs ys (All-tail X x xs all) others)
 
-all_threes : (X Y P : Shape → Type 0) (f : Shape → Shape → Shape → Shape) → ((x y z : Shape) → X x → Y y → Y z → P (f x y z)) → (xs ys : List Shape) → All X xs → All Y ys → All P (flat_map (λ x. flat_map (λ y. map (f x y) ys) ys) xs)
-all_threes X Y P f each [] ys all others = All-nil P
-all_threes X Y P f each (x ∷ xs) ys all others =
-    All-append P (flat_map (λ y. map (f x y) ys) ys) (flat_map (λ x. flat_map (λ y. map (f x y) ys) ys) xs)
-    (all_pairs Y Y P (f x) (λ y z h k. each x y z (All-head X x xs all) h k) ys ys others others)
-    (all_threes X Y P f each xs ys (All-tail X x xs all) others)
+all_threes : (X Y Z P : Shape → Type 0) (f : Shape → Shape → Shape → Shape) → ((x y z : Shape) → X x → Y y → Z z → P (f x y z)) → (xs ys zs : List Shape) → All X xs → All Y ys → All Z zs → All P (flat_map (λ x. flat_map (λ y. map (f x y) zs) ys) xs)
+all_threes X Y Z P f each [] ys zs all second third = All-nil P
+all_threes X Y Z P f each (x ∷ xs) ys zs all second third =
+    All-append P (flat_map (λ y. map (f x y) zs) ys) (flat_map (λ x. flat_map (λ y. map (f x y) zs) ys) xs)
+    (all_pairs Y Z P (f x) (λ y z h k. each x y z (All-head X x xs all) h k) ys zs second third)
+    (all_threes X Y Z P f each xs ys zs (All-tail X x xs all) second third)
 
 both_true : (a b : Bool) → a ≡ true → b ≡ true → (a && b) ≡ true
 both_true true b e f = f
@@ -108,10 +108,30 @@ run_candidate : (x y z : Shape) → IsDelta x → IsFramed y → IsFramed z → 
 unfolding is_candidate
 run_candidate x y z e f g = both_true (is_delta x) (is_framed y && is_framed z) e (both_true (is_framed y) (is_framed z) f g)
 
+dictionary_candidate : (x y z : Shape) → IsDelta x → IsDelta y → IsFramed z → IsCandidate (RLE Dictionary x y z)
+unfolding is_candidate
+dictionary_candidate x y z e f g = both_true (is_delta x) (is_delta y && is_framed z) e (both_true (is_delta y) (is_framed z) f g)
+
+all_runs : (limits : Limits) (depth : ℕ) → All IsCandidate (run_schemes limits depth)
+unfolding run_schemes
+all_runs limits depth =
+    let values = delta_schemes limits (depth - 1) in
+    let others = framed_schemes limits (depth - 1) in
+    let are_framed = all_framed limits (depth - 1) in
+    all_allowed IsCandidate (has_level limits.rle depth) (over_runs Runs values others others)
+    (all_threes IsDelta IsFramed IsFramed IsCandidate (RLE Runs) run_candidate values others others (all_deltas limits (depth - 1)) are_framed are_framed)
+
+all_dictionaries : (limits : Limits) (depth : ℕ) → All IsCandidate (dictionary_schemes limits depth)
+unfolding dictionary_schemes
+all_dictionaries limits depth =
+    let values = delta_schemes limits (depth - 1) in
+    let offsets = framed_schemes limits (depth - 1) in
+    let are_deltas = all_deltas limits (depth - 1) in
+    all_allowed IsCandidate (has_level limits.dict depth) (over_runs Dictionary values values offsets)
+    (all_threes IsDelta IsDelta IsFramed IsCandidate (RLE Dictionary) dictionary_candidate values values offsets are_deltas are_deltas (all_framed limits (depth - 1)))
+
 pub all_candidates : (limits : Limits) → All (λ s. IsTrue (is_candidate s)) (candidates limits)
 unfolding candidates
 all_candidates limits =
-    let values = delta_schemes limits (limits.depth - 1) in
-    let others = framed_schemes limits (limits.depth - 1) in
     All-append IsCandidate _ _ (All-weaker IsDelta IsCandidate delta_candidate (delta_schemes limits limits.depth) (all_deltas limits limits.depth))
-    (all_allowed IsCandidate (has_level limits.rle limits.depth) (over_runs values others) (all_threes IsDelta IsFramed IsCandidate (RLE Runs) run_candidate values others (all_deltas limits (limits.depth - 1)) (all_framed limits (limits.depth - 1))))
+    (All-append IsCandidate _ _ (all_runs limits limits.depth) (all_dictionaries limits limits.depth))

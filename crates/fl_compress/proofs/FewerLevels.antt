@@ -6,18 +6,20 @@ use Rattle.std.proofs.lemmas.Bool.Decides.{nat_tests}
 use Rattle.std.proofs.lemmas.List.Elements.{All-append, All-cons, All-head, All-map, All-nil, All-same, All-tail, All-weaker}
 use Rattle.fl_column.specs.Columns.{PrimitiveParts}
 use Rattle.fl_codec.specs.declared.for_.ItemOrder.TheVariants.{Natural, Signed}
+use Rattle.fl_codec.specs.Dictionaries.{encode_dictionaries}
 use Rattle.fl_codec.specs.Parts.{encode_runs}
 use Rattle.fl_array.proofs.EncodedRLE.{ok_is}
 use Rattle.fl_encode.specs.declared.scheme.Packing.TheVariants.{BestWidth, BestWidths}
-use Rattle.fl_encode.specs.Shapes.{BitPacked, Constant, Delta, FoR, FoRChunked, Primitive, Shape}
+use Rattle.fl_encode.specs.Encodings.{runs_by}
+use Rattle.fl_encode.specs.Shapes.{BitPacked, Constant, Delta, Dictionary, FoR, FoRChunked, Primitive, Runs, RunValues, Shape}
 use Rattle.fl_compress.specs.declared.limits.Limits.{Limits}
-use Rattle.fl_compress.specs.Candidates.{candidates, delta_schemes, framed_schemes, has_level, over_deltas, over_frames, over_runs, packed_schemes, where_allowed}
+use Rattle.fl_compress.specs.Candidates.{delta_schemes, dictionary_schemes, framed_schemes, has_level, over_deltas, over_frames, over_runs, packed_schemes, run_schemes, where_allowed}
 use Rattle.fl_compress.specs.Cheapest.{cheaper, cheapest, combined}
 use Rattle.fl_compress.specs.Choices.{CostsNoMore, runs_of, two}
 use Rattle.fl_compress.specs.EncodedBytes.{encoded_bytes}
 use Rattle.fl_compress.proofs.AnswerLaws.{Gives, gives}
 use Rattle.fl_compress.proofs.CheapestLaws.{first_cheapest}
-use Rattle.fl_compress.proofs.ListLaws.{candidate_list, runs_list}
+use Rattle.fl_compress.proofs.ListLaws.{dictionary_list, run_list, runs_list}
 
 -- ---- parts of lists
 all_first : {A : Type 0} (Q : A → Type 0) (xs ys : List A) → All Q (xs ++ ys) → All Q xs
@@ -116,31 +118,52 @@ none_cheaper cost few many best other within e f =
     let at : All Q (other.0 ∷ second.behind) = all_second Q second.before (other.0 ∷ second.behind) (subst (All Q) second.place (within Q all)) in
     All-head Q other.0 second.behind at other.1 second.own
 
-dear_values : (best : Shape × ℕ) (values : Option (Shape × ℕ)) (rest : Option ((Shape × Shape) × ℕ)) → ((v : Shape × ℕ) → values ≡ Some v → best.1 ≤ v.1) → cheaper (Some best) (combined runs_of values rest) ≡ Some best
-dear_values best None rest h = refl
-dear_values best (Some v) None h = refl
-dear_values best (Some v) (Some r) h = let dear = h v refl in grind (arith, nat_tests)
+dear_values : (which : RunValues) (best : Shape × ℕ) (values : Option (Shape × ℕ)) (rest : Option ((Shape × Shape) × ℕ)) → ((v : Shape × ℕ) → values ≡ Some v → best.1 ≤ v.1) → cheaper (Some best) (combined (runs_of which) values rest) ≡ Some best
+dear_values which best None rest h = refl
+dear_values which best (Some v) None h = refl
+dear_values which best (Some v) (Some r) h = let dear = h v refl in grind (arith, nat_tests)
 
--- where the run values are the array itself, no run-length encoded array is cheaper
-pub single_choice : (limits : Limits) (p : PrimitiveParts) (s : Shape) (n : ℕ) → has_level limits.rle limits.depth ≡ true → Gives (cheapest (encoded_bytes p) (delta_schemes limits limits.depth)) (Some (s, n)) → (encode_runs p).values ≡ p
-    → Gives (cheapest (encoded_bytes p) (candidates limits)) (Some (s, n))
-single_choice limits p s n e f same =
-    let values = delta_schemes limits (limits.depth - 1) in
+no_more : (n : ℕ) (choice : Option (Shape × ℕ)) (v : Shape × ℕ) → CostsNoMore n choice → choice ≡ Some v → n ≤ v.1
+no_more n None v most e = cc
+no_more n (Some c) v most e = subst (CostsNoMore n) e most
+
+-- where the run values are the array itself, no array of runs or dictionaries is cheaper than what costs no more than the array with a level less
+pub single_choice : (which : RunValues) (limits : Limits) (depth : ℕ) (p : PrimitiveParts) (s : Shape) (n : ℕ) (indices offsets : List Shape) → CostsNoMore n (cheapest (encoded_bytes p) (delta_schemes limits depth)) → (runs_by which p).values ≡ p
+    → cheaper (Some (s, n)) (cheapest (encoded_bytes p) (over_runs which (delta_schemes limits depth) indices offsets)) ≡ Some (s, n)
+single_choice which limits depth p s n indices offsets most same =
+    let values = delta_schemes limits depth in
+    let rest = combined two (cheapest (encoded_bytes (runs_by which p).indices) indices) (cheapest (encoded_bytes (runs_by which p).offsets) offsets) in
+    ap (cheaper (Some (s, n))) (runs_list which p values indices offsets ∙ ap (λ q. combined (runs_of which) (cheapest (encoded_bytes q) values) rest) same)
+    ∙ dear_values which (s, n) (cheapest (encoded_bytes p) values) rest (λ v g. no_more n (cheapest (encoded_bytes p) values) v most g)
+
+pub single_runs : (limits : Limits) (p : PrimitiveParts) (s : Shape) (n : ℕ) → has_level limits.rle limits.depth ≡ true → CostsNoMore n (cheapest (encoded_bytes p) (delta_schemes limits (limits.depth - 1))) → (encode_runs p).values ≡ p
+    → Gives (cheaper (Some (s, n)) (cheapest (encoded_bytes p) (run_schemes limits limits.depth))) (Some (s, n))
+single_runs limits p s n e most same =
     let others = framed_schemes limits (limits.depth - 1) in
-    let rest = combined two (cheapest (encoded_bytes (encode_runs p).indices) others) (cheapest (encoded_bytes (encode_runs p).offsets) others) in
-    let runs = cheapest (encoded_bytes p) (over_runs values others) in
-    let best = ok_is _ _ f in
-    gives _ _ (candidate_list limits p e
-    ∙ (ap (λ c. cheaper c runs) best
-    ∙ (ap (cheaper (Some (s, n))) (runs_list p values others ∙ ap (λ q. combined runs_of (cheapest (encoded_bytes q) values) rest) same)
-    ∙ dear_values (s, n) (cheapest (encoded_bytes p) values) rest (λ v g. none_cheaper (encoded_bytes p) values (delta_schemes limits limits.depth) (s, n) v (delta_within limits (limits.depth - 1) limits.depth (omega arith)) best g))))
+    gives _ _ (ap (cheaper (Some (s, n))) (run_list limits limits.depth p e) ∙ single_choice Runs limits (limits.depth - 1) p s n others others most same)
+
+pub single_dictionaries : (limits : Limits) (p : PrimitiveParts) (s : Shape) (n : ℕ) → has_level limits.dict limits.depth ≡ true → CostsNoMore n (cheapest (encoded_bytes p) (delta_schemes limits (limits.depth - 1))) → (encode_dictionaries p).values ≡ p
+    → Gives (cheaper (Some (s, n)) (cheapest (encoded_bytes p) (dictionary_schemes limits limits.depth))) (Some (s, n))
+single_dictionaries limits p s n e most same =
+    let indices = delta_schemes limits (limits.depth - 1) in
+    let offsets = framed_schemes limits (limits.depth - 1) in
+    gives _ _ (ap (cheaper (Some (s, n))) (dictionary_list limits limits.depth p e) ∙ single_choice Dictionary limits (limits.depth - 1) p s n indices offsets most same)
+
+-- what costs no more than the cheapest of these costs no more than that of fewer
+costs_within : (cost : Shape → Option ℕ) (few many : List Shape) (s : Shape) (n m : ℕ) → IsWithin few many → m ≤ n → cheapest cost many ≡ Some (s, n) → CostsNoMore m (cheapest cost few)
+costs_within cost few many s n m within most best = by_choice (cheapest cost few) refl
+  where
+    by_choice : (c : Option (Shape × ℕ)) → cheapest cost few ≡ c → CostsNoMore m c
+    by_choice None e = tt
+    by_choice (Some c) e =
+        let low : n ≤ c.1 = none_cheaper cost few many (s, n) c within best e in
+        omega arith
+
+-- with a level less
+pub delta_costs : (limits : Limits) (p : PrimitiveParts) (s : Shape) (n m : ℕ) → m ≤ n → Gives (cheapest (encoded_bytes p) (delta_schemes limits limits.depth)) (Some (s, n)) → CostsNoMore m (cheapest (encoded_bytes p) (delta_schemes limits (limits.depth - 1)))
+delta_costs limits p s n m most best =
+    costs_within (encoded_bytes p) (delta_schemes limits (limits.depth - 1)) (delta_schemes limits limits.depth) s n m (delta_within limits (limits.depth - 1) limits.depth (omega arith)) most (ok_is _ _ best)
 
 -- what costs no more than the cheapest packed array costs no more than that of fewer levels
 pub packed_costs : (limits : Limits) (p : PrimitiveParts) (depth other : ℕ) (s : Shape) (n m : ℕ) → depth ≤ other → m ≤ n → Some (s, n) ≡ cheapest (encoded_bytes p) (packed_schemes limits other) → CostsNoMore m (cheapest (encoded_bytes p) (packed_schemes limits depth))
-packed_costs limits p depth other s n m h most best = by_choice (cheapest (encoded_bytes p) (packed_schemes limits depth)) refl
-  where
-    by_choice : (c : Option (Shape × ℕ)) → cheapest (encoded_bytes p) (packed_schemes limits depth) ≡ c → CostsNoMore m c
-    by_choice None e = tt
-    by_choice (Some c) e =
-        let low : n ≤ c.1 = none_cheaper (encoded_bytes p) (packed_schemes limits depth) (packed_schemes limits other) (s, n) c (packed_within limits depth other h) (sym best) e in
-        omega arith
+packed_costs limits p depth other s n m h most best = costs_within (encoded_bytes p) (packed_schemes limits depth) (packed_schemes limits other) s n m (packed_within limits depth other h) most (sym best)

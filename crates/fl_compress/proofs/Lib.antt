@@ -10,6 +10,7 @@ pub mod SmallestLaws
 pub mod StatisticsLaws
 pub mod FewerLevels
 pub mod SingleRuns
+pub mod SortedChunks
 pub mod PartLaws
 pub mod ZeroLeasts
 pub mod ReferenceLaws

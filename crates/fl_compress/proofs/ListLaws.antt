@@ -9,12 +9,13 @@ use Rattle.fl_column.specs.Queries.{are_constant}
 use Rattle.fl_types.specs.Values.{ScalarParts}
 use Rattle.fl_codec.specs.declared.for_.ItemOrder.{ItemOrder}
 use Rattle.fl_codec.specs.declared.for_.ItemOrder.TheVariants.{Natural, Signed}
-use Rattle.fl_codec.specs.Parts.{ByChunk, FoRParts, Nulls, OneReference, Whole, compress_deltas, encode_chunked_by, encode_global_by, encode_runs}
+use Rattle.fl_codec.specs.Parts.{ByChunk, FoRParts, Nulls, OneReference, Whole, compress_deltas, encode_chunked_by, encode_global_by}
 use Rattle.fl_encode.specs.declared.scheme.Packing.TheVariants.{BestWidth, BestWidths}
-use Rattle.fl_encode.specs.Shapes.{BitPacked, Constant, Delta, FoR, FoRChunked, Primitive, RLE, Runs, Shape}
+use Rattle.fl_encode.specs.Encodings.{runs_by}
+use Rattle.fl_encode.specs.Shapes.{BitPacked, Constant, Delta, Dictionary, FoR, FoRChunked, Primitive, RLE, Runs, RunValues, Shape}
 use Rattle.fl_serde.specs.ByteCounts.{primitive_bytes, validity_bytes}
 use Rattle.fl_compress.specs.declared.limits.Limits.{Limits}
-use Rattle.fl_compress.specs.Candidates.{candidates, delta_schemes, framed_schemes, has_level, over_chunk_references, over_deltas, over_frames, over_one_reference, over_runs, packed_schemes, where_allowed}
+use Rattle.fl_compress.specs.Candidates.{candidates, delta_schemes, dictionary_schemes, framed_schemes, has_level, over_chunk_references, over_deltas, over_frames, over_one_reference, over_runs, packed_schemes, run_schemes, where_allowed}
 use Rattle.fl_compress.specs.Cheapest.{beside, both, cheaper, cheapest, combined}
 use Rattle.fl_compress.specs.Choices.{or_frames, runs_of, two, with_bytes}
 use Rattle.fl_compress.specs.EncodedBytes.{encoded_bytes, over_reference, over_references}
@@ -153,44 +154,56 @@ no_delta_list limits depth p e =
     ap (λ b. cheapest (encoded_bytes p) (framed_schemes limits depth ++ where_allowed b deltas)) e ∙ ap (cheapest (encoded_bytes p)) (append-nil (framed_schemes limits depth))
 
 -- ---- runs
-made_of_pairs : (values : Shape) (others schemes : List Shape) → flat_map (λ i. map (RLE Runs values i) schemes) others ≡ map (runs_of values) (flat_map (λ i. map (two i) schemes) others)
-made_of_pairs values [] schemes = refl
-made_of_pairs values (i ∷ others) schemes =
-    ap (λ rest. map (RLE Runs values i) schemes ++ rest) (made_of_pairs values others schemes)
-    ∙ (ap (λ first. first ++ map (runs_of values) (flat_map (λ j. map (two j) schemes) others)) (each values i schemes)
-    ∙ sym (map-append (runs_of values) (map (two i) schemes) (flat_map (λ j. map (two j) schemes) others)))
+made_of_pairs : (which : RunValues) (values : Shape) (indices offsets : List Shape) → flat_map (λ i. map (RLE which values i) offsets) indices ≡ map (runs_of which values) (flat_map (λ i. map (two i) offsets) indices)
+made_of_pairs which values [] offsets = refl
+made_of_pairs which values (i ∷ indices) offsets =
+    ap (λ rest. map (RLE which values i) offsets ++ rest) (made_of_pairs which values indices offsets)
+    ∙ (ap (λ first. first ++ map (runs_of which values) (flat_map (λ j. map (two j) offsets) indices)) (each values i offsets)
+    ∙ sym (map-append (runs_of which values) (map (two i) offsets) (flat_map (λ j. map (two j) offsets) indices)))
   where
-    each : (v i : Shape) (ss : List Shape) → map (RLE Runs v i) ss ≡ map (runs_of v) (map (two i) ss)
+    each : (v i : Shape) (ss : List Shape) → map (RLE which v i) ss ≡ map (runs_of which v) (map (two i) ss)
     each v i [] = refl
-    each v i (s ∷ ss) = ap (λ rest. RLE Runs v i s ∷ rest) (each v i ss)
+    each v i (s ∷ ss) = ap (λ rest. RLE which v i s ∷ rest) (each v i ss)
 
-run_bytes : (p : PrimitiveParts) (values : Shape) (others : Shape × Shape) → encoded_bytes p (runs_of values others)
-    ≡ both (encoded_bytes (encode_runs p).values values) (both (encoded_bytes (encode_runs p).indices others.0) (encoded_bytes (encode_runs p).offsets others.1))
+run_bytes : (which : RunValues) (p : PrimitiveParts) (values : Shape) (others : Shape × Shape) → encoded_bytes p (runs_of which values others)
+    ≡ both (encoded_bytes (runs_by which p).values values) (both (encoded_bytes (runs_by which p).indices others.0) (encoded_bytes (runs_by which p).offsets others.1))
 unfolding encoded_bytes
-run_bytes p values others = refl
+run_bytes which p values others = refl
 
-pub runs_list : (p : PrimitiveParts) (values others : List Shape) → cheapest (encoded_bytes p) (over_runs values others)
-    ≡ combined runs_of (cheapest (encoded_bytes (encode_runs p).values) values) (combined two (cheapest (encoded_bytes (encode_runs p).indices) others) (cheapest (encoded_bytes (encode_runs p).offsets) others))
-runs_list p values others =
-    let runs = encode_runs p in
+pub runs_list : (which : RunValues) (p : PrimitiveParts) (values indices offsets : List Shape) → cheapest (encoded_bytes p) (over_runs which values indices offsets)
+    ≡ combined (runs_of which) (cheapest (encoded_bytes (runs_by which p).values) values) (combined two (cheapest (encoded_bytes (runs_by which p).indices) indices) (cheapest (encoded_bytes (runs_by which p).offsets) offsets))
+runs_list which p values indices offsets =
+    let runs = runs_by which p in
     let each_other : Shape × Shape → Option ℕ = λ s. both (encoded_bytes runs.indices s.0) (encoded_bytes runs.offsets s.1) in
-    let beside_values = combined two (cheapest (encoded_bytes runs.indices) others) (cheapest (encoded_bytes runs.offsets) others) in
-    let two_by_two : cheapest each_other (flat_map (λ i. map (two i) others) others) ≡ beside_values = cheapest_pairs each_other (encoded_bytes runs.indices) (encoded_bytes runs.offsets) two (λ i o. refl) others others in
-    cheapest_rows (encoded_bytes p) (encoded_bytes runs.values) runs_of beside_values (λ v. flat_map (λ i. map (RLE Runs v i) others) others)
-    (λ v. ap (cheapest (encoded_bytes p)) (made_of_pairs v others others)
-    ∙ (cheapest_row (encoded_bytes p) (encoded_bytes runs.values v) each_other runs_of v (run_bytes p v) (flat_map (λ i. map (two i) others) others)
-    ∙ ap (combined runs_of (with_bytes v (encoded_bytes runs.values v))) two_by_two))
+    let beside_values = combined two (cheapest (encoded_bytes runs.indices) indices) (cheapest (encoded_bytes runs.offsets) offsets) in
+    let two_by_two : cheapest each_other (flat_map (λ i. map (two i) offsets) indices) ≡ beside_values = cheapest_pairs each_other (encoded_bytes runs.indices) (encoded_bytes runs.offsets) two (λ i o. refl) indices offsets in
+    cheapest_rows (encoded_bytes p) (encoded_bytes runs.values) (runs_of which) beside_values (λ v. flat_map (λ i. map (RLE which v i) offsets) indices)
+    (λ v. ap (cheapest (encoded_bytes p)) (made_of_pairs which v indices offsets)
+    ∙ (cheapest_row (encoded_bytes p) (encoded_bytes runs.values v) each_other (runs_of which) v (run_bytes which p v) (flat_map (λ i. map (two i) offsets) indices)
+    ∙ ap (combined (runs_of which) (with_bytes v (encoded_bytes runs.values v))) two_by_two))
     values
 
-pub candidate_list : (limits : Limits) (p : PrimitiveParts) → has_level limits.rle limits.depth ≡ true → cheapest (encoded_bytes p) (candidates limits)
-    ≡ cheaper (cheapest (encoded_bytes p) (delta_schemes limits limits.depth)) (cheapest (encoded_bytes p) (over_runs (delta_schemes limits (limits.depth - 1)) (framed_schemes limits (limits.depth - 1))))
-unfolding candidates
-candidate_list limits p e =
-    let runs = over_runs (delta_schemes limits (limits.depth - 1)) (framed_schemes limits (limits.depth - 1)) in
-    ap (λ b. cheapest (encoded_bytes p) (delta_schemes limits limits.depth ++ where_allowed b runs)) e ∙ cheapest_append (encoded_bytes p) (delta_schemes limits limits.depth) runs
+pub run_list : (limits : Limits) (depth : ℕ) (p : PrimitiveParts) → has_level limits.rle depth ≡ true → cheapest (encoded_bytes p) (run_schemes limits depth)
+    ≡ cheapest (encoded_bytes p) (over_runs Runs (delta_schemes limits (depth - 1)) (framed_schemes limits (depth - 1)) (framed_schemes limits (depth - 1)))
+unfolding run_schemes
+run_list limits depth p e =
+    ap (λ b. cheapest (encoded_bytes p) (where_allowed b (over_runs Runs (delta_schemes limits (depth - 1)) (framed_schemes limits (depth - 1)) (framed_schemes limits (depth - 1))))) e
 
-pub no_candidate_list : (limits : Limits) (p : PrimitiveParts) → has_level limits.rle limits.depth ≡ false → cheapest (encoded_bytes p) (candidates limits) ≡ cheapest (encoded_bytes p) (delta_schemes limits limits.depth)
+pub no_run_list : (limits : Limits) (depth : ℕ) (p : PrimitiveParts) → has_level limits.rle depth ≡ false → cheapest (encoded_bytes p) (run_schemes limits depth) ≡ None
+unfolding run_schemes
+no_run_list limits depth p e = no_list p (has_level limits.rle depth) (over_runs Runs (delta_schemes limits (depth - 1)) (framed_schemes limits (depth - 1)) (framed_schemes limits (depth - 1))) e
+
+pub dictionary_list : (limits : Limits) (depth : ℕ) (p : PrimitiveParts) → has_level limits.dict depth ≡ true → cheapest (encoded_bytes p) (dictionary_schemes limits depth)
+    ≡ cheapest (encoded_bytes p) (over_runs Dictionary (delta_schemes limits (depth - 1)) (delta_schemes limits (depth - 1)) (framed_schemes limits (depth - 1)))
+unfolding dictionary_schemes
+dictionary_list limits depth p e =
+    ap (λ b. cheapest (encoded_bytes p) (where_allowed b (over_runs Dictionary (delta_schemes limits (depth - 1)) (delta_schemes limits (depth - 1)) (framed_schemes limits (depth - 1))))) e
+
+pub no_dictionary_list : (limits : Limits) (depth : ℕ) (p : PrimitiveParts) → has_level limits.dict depth ≡ false → cheapest (encoded_bytes p) (dictionary_schemes limits depth) ≡ None
+unfolding dictionary_schemes
+no_dictionary_list limits depth p e = no_list p (has_level limits.dict depth) (over_runs Dictionary (delta_schemes limits (depth - 1)) (delta_schemes limits (depth - 1)) (framed_schemes limits (depth - 1))) e
+
+pub candidate_list : (limits : Limits) (p : PrimitiveParts) → cheapest (encoded_bytes p) (candidates limits)
+    ≡ cheaper (cheaper (cheapest (encoded_bytes p) (delta_schemes limits limits.depth)) (cheapest (encoded_bytes p) (run_schemes limits limits.depth))) (cheapest (encoded_bytes p) (dictionary_schemes limits limits.depth))
 unfolding candidates
-no_candidate_list limits p e =
-    let runs = over_runs (delta_schemes limits (limits.depth - 1)) (framed_schemes limits (limits.depth - 1)) in
-    ap (λ b. cheapest (encoded_bytes p) (delta_schemes limits limits.depth ++ where_allowed b runs)) e ∙ ap (cheapest (encoded_bytes p)) (append-nil (delta_schemes limits limits.depth))
+candidate_list limits p = cheapest_three (encoded_bytes p) (delta_schemes limits limits.depth) (run_schemes limits limits.depth) (dictionary_schemes limits limits.depth)

@@ -27,14 +27,14 @@ abbrev pub AllDiffer : List ℤ → Type 0
 AllDiffer slots = (i : ℕ) → i + 1 < length slots → int_eq (get_or slots (i + 1) (pos 0)) (get_or slots i (pos 0)) ≡ false
 
 -- ---- items and padding
-item_is : (slots : List ℤ) (i : ℕ) → i < length slots → fill_forward Reset (full slots) i ≡ get_or slots i (pos 0)
+pub item_is : (slots : List ℤ) (i : ℕ) → i < length slots → fill_forward Reset (full slots) i ≡ get_or slots i (pos 0)
 item_is slots i h =
     let place : 1024 * (i / 1024) + i % 1024 ≡ i = omega arith in
     let present : get_or (full slots) i None ≡ Some (get_or slots i (pos 0)) = get_or-map (λ x. Some x) slots i (pos 0) None h in
     ap (fill_forward Reset (full slots)) (sym place)
     ∙ fill_forward-valid Reset (full slots) (i / 1024) (i % 1024) (get_or slots i (pos 0)) (omega arith) (ap (λ n. get_or (full slots) n None) place ∙ present)
 
-padding_is : (slots : List ℤ) (k i : ℕ) → 1024 * k < length slots → length slots ≤ i → i < 1024 * (k + 1) → fill_forward Reset (full slots) i ≡ get_or slots (length slots - 1) (pos 0)
+pub padding_is : (slots : List ℤ) (k i : ℕ) → 1024 * k < length slots → length slots ≤ i → i < 1024 * (k + 1) → fill_forward Reset (full slots) i ≡ get_or slots (length slots - 1) (pos 0)
 padding_is slots k i begun beyond within =
     let xs = full slots in
     let long : length xs ≡ length slots = length-map slots (λ x. Some x) in

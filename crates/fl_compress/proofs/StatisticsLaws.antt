@@ -8,17 +8,19 @@ use Rattle.fl_column.specs.Columns.{PrimitiveParts, column_of_primitive}
 use Rattle.fl_column.specs.Queries.{are_constant}
 use Rattle.fl_array.specs.Trees.{Tree}
 use Rattle.fl_codec.specs.declared.for_.ItemOrder.TheVariants.{Natural, Signed}
-use Rattle.fl_codec.specs.Parts.{ByChunk, FoRParts, Nulls, OneReference, Whole, compress_deltas, encode_chunked_by, encode_global_by, encode_runs}
+use Rattle.fl_codec.specs.Dictionaries.{encode_dictionaries}
+use Rattle.fl_codec.specs.Parts.{ByChunk, FoRParts, Nulls, OneReference, RunParts, Whole, compress_deltas, encode_chunked_by, encode_global_by, encode_runs}
 use Rattle.fl_encode.specs.declared.scheme.Packing.TheVariants.{BestWidth, BestWidths, Width}
 use Rattle.fl_encode.specs.Encodings.{IsEncodedAs, encode_refusal}
 use Rattle.fl_encode.specs.Shapes.{BitPacked, Constant, Delta, Dictionary, FoR, FoRChunked, Plain, Primitive, RLE, Runs, Shape}
 use Rattle.fl_serde.specs.ByteCounts.{primitive_bytes, tree_bytes, validity_bytes}
 use Rattle.fl_compress.specs.declared.statistics.DeltaSizes.{DeltaSizes}
+use Rattle.fl_compress.specs.declared.statistics.DictionarySizes.{DictionarySizes}
 use Rattle.fl_compress.specs.declared.statistics.FramedSizes.{FramedSizes}
 use Rattle.fl_compress.specs.declared.statistics.Statistics.{Statistics}
 use Rattle.fl_compress.specs.Cheapest.{both}
 use Rattle.fl_compress.specs.EncodedBytes.{encoded_bytes, over_reference, over_references, unless}
-use Rattle.fl_compress.specs.Statistics.{capped, chunk_size, chunk_sizes, delta_size, delta_sizes, framed_size, framed_sizes, is_candidate, is_delta, is_framed, is_packed, packed_size, packed_sizes, reference_size, reference_sizes, size_in, statistics_of}
+use Rattle.fl_compress.specs.Statistics.{capped, chunk_size, chunk_sizes, delta_size, delta_sizes, dictionary_sizes, framed_size, framed_sizes, is_candidate, is_delta, is_framed, is_packed, packed_size, packed_sizes, reference_size, reference_sizes, size_in, statistics_of}
 use Rattle.fl_compress.proofs.AnswerLaws.{Gives, gives}
 use Rattle.fl_compress.proofs.MadeBytes.{free_of_refusal, made_bytes}
 
@@ -37,15 +39,24 @@ delta_sizes_are p bases framed b d v own len e f g h o l w =
     ∙ (ap (λ x. all framed x (framed_sizes (compress_deltas p).1) (validity_bytes (length p.slots) p.validity)) g
     ∙ (ap (λ x. all framed b x (validity_bytes (length p.slots) p.validity)) h ∙ ap (all framed b d) (sym bytes)))))
 
-pub statistics_are : (p v o : PrimitiveParts) (items values : DeltaSizes) (indices offsets : FramedSizes) → delta_sizes p ≡ items → ◌≡◌ {A = PrimitiveParts × PrimitiveParts} ((encode_runs p).values, (encode_runs p).offsets) (v, o) → delta_sizes v ≡ values → framed_sizes (encode_runs p).indices ≡ indices → framed_sizes o ≡ offsets
-    → Gives (statistics_of p) (record { items = items; values = values; indices = indices; offsets = offsets })
+pub statistics_are : (p v o : PrimitiveParts) (items values : DeltaSizes) (indices offsets : FramedSizes) (dictionaries : DictionarySizes) → delta_sizes p ≡ items → ◌≡◌ {A = PrimitiveParts × PrimitiveParts} ((encode_runs p).values, (encode_runs p).offsets) (v, o) → delta_sizes v ≡ values → framed_sizes (encode_runs p).indices ≡ indices → framed_sizes o ≡ offsets → dictionary_sizes p ≡ dictionaries
+    → Gives (statistics_of p) (record { items = items; values = values; indices = indices; offsets = offsets; dictionaries = dictionaries })
 unfolding statistics_of
-statistics_are p v o items values indices offsets e f g h l =
-    let all : DeltaSizes → DeltaSizes → FramedSizes → FramedSizes → Statistics = λ first second third last. record { items = first; values = second; indices = third; offsets = last } in
-    gives _ _ (ap (λ x. all x (delta_sizes (encode_runs p).values) (framed_sizes (encode_runs p).indices) (framed_sizes (encode_runs p).offsets)) e
-    ∙ (ap (λ (x : PrimitiveParts × PrimitiveParts). all items (delta_sizes x.0) (framed_sizes (encode_runs p).indices) (framed_sizes x.1)) f
-    ∙ (ap (λ x. all items x (framed_sizes (encode_runs p).indices) (framed_sizes o)) g
-    ∙ (ap (λ x. all items values x (framed_sizes o)) h ∙ ap (all items values indices) l))))
+statistics_are p v o items values indices offsets dictionaries e f g h l m =
+    let all : DeltaSizes → DeltaSizes → FramedSizes → FramedSizes → DictionarySizes → Statistics = λ first second third fourth last. record { items = first; values = second; indices = third; offsets = fourth; dictionaries = last } in
+    gives _ _ (ap (λ x. all x (delta_sizes (encode_runs p).values) (framed_sizes (encode_runs p).indices) (framed_sizes (encode_runs p).offsets) (dictionary_sizes p)) e
+    ∙ (ap (λ (x : PrimitiveParts × PrimitiveParts). all items (delta_sizes x.0) (framed_sizes (encode_runs p).indices) (framed_sizes x.1) (dictionary_sizes p)) f
+    ∙ (ap (λ x. all items x (framed_sizes (encode_runs p).indices) (framed_sizes o) (dictionary_sizes p)) g
+    ∙ (ap (λ x. all items values x (framed_sizes o) (dictionary_sizes p)) h
+    ∙ (ap (λ x. all items values indices x (dictionary_sizes p)) l ∙ ap (all items values indices offsets) m)))))
+
+pub dictionary_sizes_are : (p : PrimitiveParts) (runs : RunParts) (values indices : DeltaSizes) (offsets : FramedSizes) → encode_dictionaries p ≡ runs → delta_sizes runs.values ≡ values → delta_sizes runs.indices ≡ indices → framed_sizes runs.offsets ≡ offsets
+    → Gives (dictionary_sizes p) (record { values = values; indices = indices; offsets = offsets })
+dictionary_sizes_are p runs values indices offsets e f g h =
+    let all : DeltaSizes → DeltaSizes → FramedSizes → DictionarySizes = λ first second last. record { values = first; indices = second; offsets = last } in
+    gives _ _ (ap (λ (x : RunParts). all (delta_sizes x.values) (delta_sizes x.indices) (framed_sizes x.offsets)) e
+    ∙ (ap (λ x. all x (delta_sizes runs.indices) (framed_sizes runs.offsets)) f
+    ∙ (ap (λ x. all values x (framed_sizes runs.offsets)) g ∙ ap (all values indices) h)))
 
 -- ---- what is foreseen
 first_of : (a b : Bool) → (a && b) ≡ true → a ≡ true
@@ -120,7 +131,10 @@ candidate_exact p (BitPacked packing) e = delta_exact p (BitPacked packing) e
 candidate_exact p (FoR order encoded) e = delta_exact p (FoR order encoded) e
 candidate_exact p (FoRChunked order encoded references) e = delta_exact p (FoRChunked order encoded references) e
 candidate_exact p (Delta bases deltas) e = delta_exact p (Delta bases deltas) e
-candidate_exact p (RLE Dictionary values indices offsets) e = cc
+candidate_exact p (RLE Dictionary values indices offsets) e =
+    let rest = other_of (is_delta values) (is_delta indices && is_framed offsets) e in
+    both_same _ _ _ _ (delta_exact (encode_dictionaries p).values values (first_of (is_delta values) (is_delta indices && is_framed offsets) e))
+    (both_same _ _ _ _ (delta_exact (encode_dictionaries p).indices indices (first_of (is_delta indices) (is_framed offsets) rest)) (framed_exact (encode_dictionaries p).offsets offsets (other_of (is_delta indices) (is_framed offsets) rest)))
 candidate_exact p (RLE Runs values indices offsets) e =
     let rest = other_of (is_delta values) (is_framed indices && is_framed offsets) e in
     both_same _ _ _ _ (delta_exact (encode_runs p).values values (first_of (is_delta values) (is_framed indices && is_framed offsets) e))
@@ -189,7 +203,9 @@ size_some p (BitPacked packing) n e = delta_some p (BitPacked packing) n e
 size_some p (FoR order encoded) n e = delta_some p (FoR order encoded) n e
 size_some p (FoRChunked order encoded references) n e = delta_some p (FoRChunked order encoded references) n e
 size_some p (Delta bases deltas) n e = delta_some p (Delta bases deltas) n e
-size_some p (RLE Dictionary values indices offsets) n e = cc
+size_some p (RLE Dictionary values indices offsets) n e =
+    both_some _ _ _ _ n (λ m f. delta_some (encode_dictionaries p).values values m f)
+    (λ m f. both_some _ _ _ _ m (λ k g. delta_some (encode_dictionaries p).indices indices k g) (λ k g. framed_some (encode_dictionaries p).offsets offsets k g) f) e
 size_some p (RLE Runs values indices offsets) n e =
     both_some _ _ _ _ n (λ m f. delta_some (encode_runs p).values values m f)
     (λ m f. both_some _ _ _ _ m (λ k g. framed_some (encode_runs p).indices indices k g) (λ k g. framed_some (encode_runs p).offsets offsets k g) f) e

@@ -3,7 +3,7 @@ use Rattle.std.specs.Prelude.{◌-◌, ◌&&◌, ℕ, Bool, true, List, [], ◌�
 use Rattle.fl_codec.specs.declared.for_.ItemOrder.{ItemOrder}
 use Rattle.fl_codec.specs.declared.for_.ItemOrder.TheVariants.{Natural, Signed}
 use Rattle.fl_encode.specs.declared.scheme.Packing.TheVariants.{BestWidth, BestWidths}
-use Rattle.fl_encode.specs.Shapes.{BitPacked, Constant, Delta, FoR, FoRChunked, Primitive, RLE, Runs, Shape}
+use Rattle.fl_encode.specs.Shapes.{BitPacked, Constant, Delta, Dictionary, FoR, FoRChunked, Primitive, RLE, Runs, RunValues, Shape}
 use Rattle.fl_compress.specs.declared.limits.Limits.{Limits}
 
 -- these schemes, where they are allowed
@@ -43,16 +43,24 @@ over_deltas children = flat_map (λ bases. map (Delta bases) children) children
 unfoldable pub delta_schemes : Limits → ℕ → List Shape
 delta_schemes limits depth = framed_schemes limits depth ++ where_allowed (has_level limits.delta depth) (over_deltas (framed_schemes limits (depth - 1)))
 
--- runs over each of these values, and each two of the others
-abbrev pub over_runs : List Shape → List Shape → List Shape
-over_runs values others = flat_map (λ v. flat_map (λ i. map (RLE Runs v i) others) others) values
+-- runs or dictionaries over each of these values, each of these indices and each of these offsets
+abbrev pub over_runs : RunValues → List Shape → List Shape → List Shape → List Shape
+over_runs run_values values indices offsets = flat_map (λ v. flat_map (λ i. map (RLE run_values v i) offsets) indices) values
 
--- those, and runs whose values are deltas or framed, and whose other children are framed
+-- runs whose values are deltas or framed, and whose other children are framed
+unfoldable pub run_schemes : Limits → ℕ → List Shape
+run_schemes limits depth =
+    where_allowed (has_level limits.rle depth) (over_runs Runs (delta_schemes limits (depth - 1)) (framed_schemes limits (depth - 1)) (framed_schemes limits (depth - 1)))
+
+-- dictionaries whose values and indices are deltas or framed, and whose offsets are framed
+unfoldable pub dictionary_schemes : Limits → ℕ → List Shape
+dictionary_schemes limits depth =
+    where_allowed (has_level limits.dict depth) (over_runs Dictionary (delta_schemes limits (depth - 1)) (delta_schemes limits (depth - 1)) (framed_schemes limits (depth - 1)))
+
+-- framed schemes, deltas, runs and dictionaries
 unfoldable pub candidates : Limits → List Shape
-candidates limits =
-    delta_schemes limits limits.depth
-    ++ where_allowed (has_level limits.rle limits.depth) (over_runs (delta_schemes limits (limits.depth - 1)) (framed_schemes limits (limits.depth - 1)))
+candidates limits = delta_schemes limits limits.depth ++ (run_schemes limits limits.depth ++ dictionary_schemes limits limits.depth)
 
 -- three levels of all encodings
 abbrev pub default_limits : Limits
-default_limits = record { depth = 3; constant = true; bitpacked = true; for_ = true; delta = true; rle = true }
+default_limits = record { depth = 3; constant = true; bitpacked = true; for_ = true; delta = true; rle = true; dict = true }

@@ -9,8 +9,11 @@ use Rattle.fl_codec.specs.declared.for_.ItemOrder.{ItemOrder}
 use Rattle.fl_codec.specs.FoRColumns.{chunk_references, common_reference, least_by, reading}
 use Rattle.fl_codec.specs.Parts.{compress_deltas, encode_runs, items_of_primitive}
 use Rattle.fl_encode.specs.SchemeShapes.{shape}
-use Rattle.fl_encode.specs.Shapes.{RLE, Runs, Shape}
+use Rattle.fl_encode.specs.Shapes.{RLE, Shape}
+use Rattle.fl_encode.specs.Shapes as shapes
 use Rattle.fl_compress.specs.declared.choice.Choice.{Choice}
+use Rattle.fl_compress.specs.declared.choice.RunValues.{RunValues}
+use Rattle.fl_compress.specs.declared.choice.RunValues.TheVariants.{Dictionary, Runs}
 use Rattle.fl_compress.specs.declared.parts.Part.{Part}
 use Rattle.fl_compress.specs.declared.parts.Part.TheVariants.{Deltas, Indices, Items}
 use Rattle.fl_compress.specs.Candidates.{over_chunk_references, over_one_reference}
@@ -46,9 +49,14 @@ HoldDifferences slots p one references = (length slots ≡ length p.slots) × (i
 abbrev pub two : Shape → Shape → Shape × Shape
 two first other = (first, other)
 
--- runs over run values, and run indices and run offsets
-abbrev pub runs_of : Shape → Shape × Shape → Shape
-runs_of values others = RLE Runs values others.0 others.1
+-- which run values a chunk has, in the words of shapes
+abbrev pub run_values_of : RunValues → shapes.RunValues
+run_values_of Runs = shapes.Runs
+run_values_of Dictionary = shapes.Dictionary
+
+-- runs or dictionaries over run values, and run indices and run offsets
+abbrev pub runs_of : shapes.RunValues → Shape → Shape × Shape → Shape
+runs_of which values others = RLE which values others.0 others.1
 
 -- the cheapest of frames of reference of an order over these, or another choice
 abbrev pub or_frames : ItemOrder → PrimitiveParts → List Shape → Option (Shape × ℕ) → Option (Shape × ℕ)

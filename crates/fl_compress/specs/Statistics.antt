@@ -5,13 +5,15 @@ use Rattle.fl_column.specs.Columns.{PrimitiveParts, column_of_primitive}
 use Rattle.fl_column.specs.Queries.{are_constant}
 use Rattle.fl_codec.specs.declared.for_.ItemOrder.{ItemOrder}
 use Rattle.fl_codec.specs.declared.for_.ItemOrder.TheVariants.{Natural, Signed}
+use Rattle.fl_codec.specs.Dictionaries.{encode_dictionaries}
 use Rattle.fl_codec.specs.Parts.{ByChunk, FoRParts, Nulls, OneReference, Whole, compress_deltas, encode_chunked_by, encode_global_by, encode_runs}
 use Rattle.fl_encode.specs.declared.scheme.Packing.TheVariants.{BestWidth, BestWidths}
-use Rattle.fl_encode.specs.Shapes.{BitPacked, Constant, Delta, FoR, FoRChunked, Plain, Primitive, RLE, Runs, Shape}
+use Rattle.fl_encode.specs.Shapes.{BitPacked, Constant, Delta, Dictionary, FoR, FoRChunked, Plain, Primitive, RLE, Runs, Shape}
 use Rattle.fl_serde.specs.ByteCounts.{primitive_bytes, validity_bytes}
 use Rattle.fl_compress.specs.declared.statistics.ChunkSizes.{ChunkSizes}
 use Rattle.fl_compress.specs.declared.statistics.ChunkSizes.TheVariants as chunks
 use Rattle.fl_compress.specs.declared.statistics.DeltaSizes.{DeltaSizes}
+use Rattle.fl_compress.specs.declared.statistics.DictionarySizes.{DictionarySizes}
 use Rattle.fl_compress.specs.declared.statistics.FrameSizes.{FrameSizes}
 use Rattle.fl_compress.specs.declared.statistics.FramedSizes.{FramedSizes}
 use Rattle.fl_compress.specs.declared.statistics.PackedSizes.{PackedSizes}
@@ -57,13 +59,22 @@ delta_sizes p = record {
   validity = validity_bytes (length p.slots) p.validity;
 }
 
--- the statistics of an array: of its items, its bases and its deltas, and of its run values, with their bases and deltas, its run indices and its run offsets
+-- those of the distinct items of an array's chunks, of their indices and of their offsets
+abbrev pub dictionary_sizes : PrimitiveParts → DictionarySizes
+dictionary_sizes p = record {
+  values = delta_sizes (encode_dictionaries p).values;
+  indices = delta_sizes (encode_dictionaries p).indices;
+  offsets = framed_sizes (encode_dictionaries p).offsets;
+}
+
+-- the statistics of an array: of its items, its bases and its deltas, of its run values, with their bases and deltas, its run indices and its run offsets, and of its dictionaries
 unfoldable pub statistics_of : PrimitiveParts → Statistics
 statistics_of p = record {
   items = delta_sizes p;
   values = delta_sizes (encode_runs p).values;
   indices = framed_sizes (encode_runs p).indices;
   offsets = framed_sizes (encode_runs p).offsets;
+  dictionaries = dictionary_sizes p;
 }
 
 -- ---- of a scheme
@@ -106,6 +117,7 @@ delta_size sizes other = framed_size sizes.framed other
 -- the bytes by a candidate, of an array's statistics, if it is not refused
 abbrev pub size_in : Statistics → Shape → Option ℕ
 size_in statistics (RLE Runs values indices offsets) = both (delta_size statistics.values values) (both (framed_size statistics.indices indices) (framed_size statistics.offsets offsets))
+size_in statistics (RLE Dictionary values indices offsets) = both (delta_size statistics.dictionaries.values values) (both (delta_size statistics.dictionaries.indices indices) (framed_size statistics.dictionaries.offsets offsets))
 size_in statistics other = delta_size statistics.items other
 
 -- bytes as a number of 64 bits, the greatest one where there are more
@@ -133,7 +145,8 @@ abbrev pub is_delta : Shape → Bool
 is_delta (Delta bases deltas) = is_framed bases && is_framed deltas
 is_delta other = is_framed other
 
--- the scheme may be a candidate: it is packed, a frame of reference over packed ones, deltas over two of those, or runs over one of these and two without deltas
+-- the scheme may be a candidate: it is packed, a frame of reference over packed ones, deltas over two of those, runs over one of these and two without deltas, or dictionaries over two of these and one without deltas
 unfoldable pub is_candidate : Shape → Bool
 is_candidate (RLE Runs values indices offsets) = is_delta values && (is_framed indices && is_framed offsets)
+is_candidate (RLE Dictionary values indices offsets) = is_delta values && (is_delta indices && is_framed offsets)
 is_candidate other = is_delta other

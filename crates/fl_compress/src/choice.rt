@@ -5,7 +5,7 @@ ghost use Rattle.fl_types.specs.Refusals.{Answers};
 ghost use Rattle.fl_encode.specs.Shapes as shapes;
 ghost use Rattle.fl_encode.specs.SchemeShapes.{shape};
 ghost use Rattle.fl_compress.specs.Cheapest.{cheaper, combined};
-ghost use Rattle.fl_compress.specs.Choices.{chosen, chosen_in};
+ghost use Rattle.fl_compress.specs.Choices.{chosen, chosen_in, run_values_of};
 
 use fl_codec::for_::ItemOrder;
 use fl_column::FastLanesError;
@@ -17,6 +17,15 @@ use std::alloc::Global;
 pub(crate) struct Choice {
     pub(crate) scheme: Scheme,
     pub(crate) bytes: u128,
+}
+
+/// Which run values a chunk has.
+#[derive(Clone, Copy)]
+pub(crate) enum RunValues {
+    /// Each item that differs from the one before.
+    Runs,
+    /// The distinct items in rising order.
+    Dictionary,
 }
 
 /// A plain array of this many bytes.
@@ -101,9 +110,28 @@ pub(crate) fn over_deltas(
     Ok(Choice { scheme, bytes })
 }
 
-/// Runs over run values, run indices and run offsets.
+/// The scheme of these run values, over these children.
+fn scheme_of_runs(which: RunValues, values: Child, indices: Child, offsets: Child) -> Scheme
+    ensures { shape result ≡ shapes.RLE (run_values_of which) values indices offsets }
+{
+    match which {
+        RunValues::Runs => Scheme::RLE {
+            values,
+            indices,
+            offsets,
+        },
+        RunValues::Dictionary => Scheme::Dict {
+            values,
+            indices,
+            offsets,
+        },
+    }
+}
+
+/// Runs or dictionaries over run values, run indices and run offsets.
 pub(crate) fn over_runs(
     alloc: Global,
+    which: RunValues,
     values: Choice,
     indices: Choice,
     offsets: Choice,
@@ -111,16 +139,12 @@ pub(crate) fn over_runs(
     requires values { values.bytes < 2 ^ 68 }
     requires indices { indices.bytes < 2 ^ 68 }
     requires offsets { offsets.bytes < 2 ^ 68 }
-    ensures { Answers chosen result (Ok (Some (shapes.RLE shapes.Runs (shape values.scheme) (shape indices.scheme) (shape offsets.scheme), values.bytes + (indices.bytes + offsets.bytes)))) }
+    ensures { Answers chosen result (Ok (Some (shapes.RLE (run_values_of which) (shape values.scheme) (shape indices.scheme) (shape offsets.scheme), values.bytes + (indices.bytes + offsets.bytes)))) }
 {
     let bytes = values.bytes + (indices.bytes + offsets.bytes);
     let values = Child::new(alloc, values.scheme)?;
     let indices = Child::new(alloc, indices.scheme)?;
     let offsets = Child::new(alloc, offsets.scheme)?;
-    let scheme = Scheme::RLE {
-        values,
-        indices,
-        offsets,
-    };
+    let scheme = scheme_of_runs(which, values, indices, offsets);
     Ok(Choice { scheme, bytes })
 }

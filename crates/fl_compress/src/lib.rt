@@ -15,6 +15,7 @@ mod parts;
 mod search;
 mod single_runs;
 pub mod sizes;
+mod sorted;
 pub mod statistics;
 
 pub use crate::compression::{compress, compress_within};

@@ -7,7 +7,7 @@ ghost use Rattle.fl_compress.specs.Candidates.{default_limits, has_level};
 #[derive(Clone, Copy, Debug, PartialEq, Eq)]
 pub struct Limits {
     /// How many encodings may stand in one another. 0 leaves plain and constant arrays, 1 allows packed ones,
-    /// 2 frames of reference over packed ones, 3 deltas and runs over those. Run values may be deltas, so that
+    /// 2 frames of reference over packed ones, 3 deltas, runs and dictionaries over those. Run values may be deltas, so that
     /// 4 is the most that makes a difference.
     pub depth: u8,
     /// Whether there may be constant arrays.
@@ -20,6 +20,8 @@ pub struct Limits {
     pub delta: bool,
     /// Whether there may be run-length encoded arrays.
     pub rle: bool,
+    /// Whether there may be run-length encoded arrays with a dictionary for each chunk.
+    pub dict: bool,
 }
 
 /// Three levels of all encodings.
@@ -34,6 +36,7 @@ impl Default for Limits {
             for_: true,
             delta: true,
             rle: true,
+            dict: true,
         }
     }
 }

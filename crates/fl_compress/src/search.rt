@@ -1,17 +1,17 @@
 //! The search for the scheme by which an array takes fewest bytes, slot by slot. What takes no bytes ends it.
 
-ghost use Rattle.std.specs.Prelude.{◌≡◌, ◌<◌, ◌≤◌, ◌^◌, ℤ, List, [], ◌∷◌, IfOk, Ok, Some, map, option_map, true};
+ghost use Rattle.std.specs.Prelude.{◌≡◌, ◌-◌, ◌<◌, ◌≤◌, ◌^◌, ℤ, List, [], ◌∷◌, IfOk, Ok, Some, map, option_map, true};
 ghost use Rattle.fl_types.specs.Refusals.{Answers};
 ghost use Rattle.fl_encode.specs.Shapes as shapes;
-ghost use Rattle.fl_compress.specs.Candidates.{candidates, delta_schemes, framed_schemes, over_chunk_references, over_deltas, over_one_reference, over_runs, packed_schemes, where_allowed};
+ghost use Rattle.fl_compress.specs.Candidates.{candidates, delta_schemes, dictionary_schemes, framed_schemes, over_chunk_references, over_deltas, over_one_reference, over_runs, packed_schemes, run_schemes, where_allowed};
 ghost use Rattle.fl_codec.specs.FoRColumns.{chunk_references, chunked_slots, least_by, reading};
 ghost use Rattle.fl_codec.specs.Parts.{items_of_primitive, non_nullable, subtract_reference};
 ghost use Rattle.fl_serde.specs.ByteCounts.{primitive_bytes};
 ghost use Rattle.fl_compress.specs.Cheapest.{beside, cheaper, cheapest, combined};
-ghost use Rattle.fl_compress.specs.Choices.{AreAll, CostsNoMore, HoldDifferences, chosen, chosen_in, or_frames, part_of, runs_of, two, with_slots};
+ghost use Rattle.fl_compress.specs.Choices.{AreAll, CostsNoMore, HoldDifferences, chosen, chosen_in, or_frames, part_of, run_values_of, runs_of, two, with_slots};
 ghost use Rattle.fl_compress.specs.EncodedBytes.{encoded_bytes};
 
-use crate::choice::{self, Choice, cheaper, plain};
+use crate::choice::{self, Choice, RunValues, cheaper, plain};
 use crate::limits::{Limits, has_level};
 use crate::orders::are_orders_one;
 use crate::packing::choose_packing;
@@ -20,6 +20,7 @@ use crate::parts::{
     leasts, plain_bytes, ptype_of,
 };
 use crate::single_runs::are_runs_single;
+use crate::sorted::{are_items_distinct, dictionaries_of};
 use fl_codec::delta::blocks::delta_bases;
 use fl_codec::for_::{ItemOrder, common_reference};
 use fl_codec::rle::blocks::run_values;
@@ -455,6 +456,7 @@ fn choose_framed_or_deltas(
 /// The cheapest run-length encoded array over these run values, a choice of run indices, and one of run offsets.
 fn choose_over_values(
     alloc: Global,
+    which: RunValues,
     values: &PrimitiveArray,
     indices: Choice,
     offsets: Choice,
@@ -463,16 +465,17 @@ fn choose_over_values(
 ) -> Result<Choice, FastLanesError>
     requires indices { indices.bytes < 2 ^ 68 }
     requires offsets { offsets.bytes < 2 ^ 68 }
-    ensures { Answers chosen result (Ok (combined runs_of (cheapest (encoded_bytes values.now) (delta_schemes limits.now depth)) (combined two (chosen indices) (chosen offsets)))) }
+    ensures { Answers chosen result (Ok (combined (runs_of (run_values_of which)) (cheapest (encoded_bytes values.now) (delta_schemes limits.now depth)) (combined two (chosen indices) (chosen offsets)))) }
 {
     let values = choose_framed_or_deltas(alloc, values, limits, depth)?;
-    choice::over_runs(alloc, values, indices, offsets)
+    choice::over_runs(alloc, which, values, indices, offsets)
 }
 
 /// The cheaper of another choice, and of a run-length encoded array over these parts. Where the run indices and the
 /// run offsets already take as many bytes, the run values are not looked at.
 fn choose_run_parts(
     alloc: Global,
+    which: RunValues,
     values: &PrimitiveArray,
     indices: Choice,
     offsets: &PrimitiveArray,
@@ -481,18 +484,19 @@ fn choose_run_parts(
     first: Choice,
 ) -> Result<Choice, FastLanesError>
     requires { indices.bytes < 2 ^ 68 }
-    ensures { Answers chosen result (Ok (cheaper (chosen first) (combined runs_of (cheapest (encoded_bytes values.now) (delta_schemes limits.now depth)) (combined two (chosen indices) (cheapest (encoded_bytes offsets.now) (framed_schemes limits.now depth)))))) }
+    ensures choice { Answers chosen result (Ok (cheaper (chosen first) (combined (runs_of (run_values_of which)) (cheapest (encoded_bytes values.now) (delta_schemes limits.now depth)) (combined two (chosen indices) (cheapest (encoded_bytes offsets.now) (framed_schemes limits.now depth)))))) }
+    ensures most { IfOk result (λ choice. choice.bytes ≤ first.bytes) }
 {
     let offsets = choose_framed(alloc, offsets, Part::Items, limits, depth)?;
     if first.bytes <= indices.bytes + offsets.bytes {
         return Ok(first);
     }
-    let made = choose_over_values(alloc, values, indices, offsets, limits, depth)?;
+    let made = choose_over_values(alloc, which, values, indices, offsets, limits, depth)?;
     Ok(cheaper(first, Some(made)))
 }
 
-/// The cheaper of another choice, and of the cheapest run-length encoded array. Of the run indices no list is made. Where
-/// they already take as many bytes, the run values and the run offsets are not made.
+/// The cheaper of another choice, and of the cheapest run-length encoded array of runs. Of the run indices no list is made.
+/// Where they already take as many bytes, the run values and the run offsets are not made.
 fn choose_runs(
     alloc: Global,
     array: &PrimitiveArray,
@@ -500,18 +504,93 @@ fn choose_runs(
     depth: u8,
     first: Choice,
 ) -> Result<Choice, FastLanesError>
-    ensures { Answers chosen result (Ok (cheaper (chosen first) (cheapest (encoded_bytes array.now) (over_runs (delta_schemes limits.now depth) (framed_schemes limits.now depth))))) }
+    ensures choice { Answers chosen result (Ok (cheaper (chosen first) (cheapest (encoded_bytes array.now) (over_runs shapes.Runs (delta_schemes limits.now depth) (framed_schemes limits.now depth) (framed_schemes limits.now depth))))) }
+    ensures most { IfOk result (λ choice. choice.bytes ≤ first.bytes) }
 {
     let indices = choose_framed(alloc, array, Part::Indices, limits, depth)?;
     if first.bytes <= indices.bytes {
         return Ok(first);
     }
     let (values, offsets) = run_values(alloc, array)?;
-    choose_run_parts(alloc, &values, indices, &offsets, limits, depth, first)
+    let which = RunValues::Runs;
+    choose_run_parts(
+        alloc, which, &values, indices, &offsets, limits, depth, first,
+    )
 }
 
-/// The first scheme of the candidates by which the array takes fewest bytes, and these. Where each item begins a run,
-/// the run values are the array itself, for which a level less is left: runs are not tried then.
+/// The cheaper of another choice, which takes no more bytes than framed arrays and deltas of a level less, and of the cheapest
+/// run-length encoded array of runs, where they are allowed. Where each item begins a run, the run values are the array
+/// itself: runs are not tried then.
+fn choose_with_runs(
+    alloc: Global,
+    array: &PrimitiveArray,
+    limits: &Limits,
+    first: Choice,
+) -> Result<Choice, FastLanesError>
+    requires { CostsNoMore first.bytes (cheapest (encoded_bytes array.now) (delta_schemes limits.now (limits.now.depth - 1))) }
+    ensures choice { Answers chosen result (Ok (cheaper (chosen first) (cheapest (encoded_bytes array.now) (run_schemes limits.now limits.now.depth)))) }
+    ensures most { IfOk result (λ choice. choice.bytes ≤ first.bytes) }
+{
+    if !has_level(limits.rle, limits.depth) {
+        return Ok(first);
+    }
+    if are_runs_single(array) {
+        return Ok(first);
+    }
+    choose_runs(alloc, array, limits, limits.depth - 1, first)
+}
+
+/// The cheaper of another choice, and of the cheapest run-length encoded array of a dictionary for each chunk. Where the
+/// indices already take as many bytes, the distinct items are not looked at.
+fn choose_dictionaries(
+    alloc: Global,
+    array: &PrimitiveArray,
+    limits: &Limits,
+    depth: u8,
+    first: Choice,
+) -> Result<Choice, FastLanesError>
+    ensures { Answers chosen result (Ok (cheaper (chosen first) (cheapest (encoded_bytes array.now) (over_runs shapes.Dictionary (delta_schemes limits.now depth) (delta_schemes limits.now depth) (framed_schemes limits.now depth))))) }
+{
+    let runs = dictionaries_of(alloc, array)?;
+    let ranks = choose_framed_or_deltas(alloc, &runs.indices, limits, depth)?;
+    if first.bytes <= ranks.bytes {
+        return Ok(first);
+    }
+    let which = RunValues::Dictionary;
+    choose_run_parts(
+        alloc,
+        which,
+        &runs.values,
+        ranks,
+        &runs.offsets,
+        limits,
+        depth,
+        first,
+    )
+}
+
+/// The cheaper of another choice, which takes no more bytes than framed arrays and deltas of a level less, and of the cheapest
+/// run-length encoded array of dictionaries, where they are allowed. Where the distinct items are the array itself,
+/// dictionaries are not tried.
+fn choose_with_dictionaries(
+    alloc: Global,
+    array: &PrimitiveArray,
+    limits: &Limits,
+    first: Choice,
+) -> Result<Choice, FastLanesError>
+    requires { CostsNoMore first.bytes (cheapest (encoded_bytes array.now) (delta_schemes limits.now (limits.now.depth - 1))) }
+    ensures { Answers chosen result (Ok (cheaper (chosen first) (cheapest (encoded_bytes array.now) (dictionary_schemes limits.now limits.now.depth)))) }
+{
+    if !has_level(limits.dict, limits.depth) {
+        return Ok(first);
+    }
+    if are_items_distinct(array) {
+        return Ok(first);
+    }
+    choose_dictionaries(alloc, array, limits, limits.depth - 1, first)
+}
+
+/// The first scheme of the candidates by which the array takes fewest bytes, and these.
 pub(crate) fn choose(
     alloc: Global,
     array: &PrimitiveArray,
@@ -523,11 +602,6 @@ pub(crate) fn choose(
     if best.bytes == 0 {
         return Ok(best);
     }
-    if !has_level(limits.rle, limits.depth) {
-        return Ok(best);
-    }
-    if are_runs_single(array) {
-        return Ok(best);
-    }
-    choose_runs(alloc, array, limits, limits.depth - 1, best)
+    let with_runs = choose_with_runs(alloc, array, limits, best)?;
+    choose_with_dictionaries(alloc, array, limits, with_runs)
 }

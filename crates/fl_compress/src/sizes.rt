@@ -10,7 +10,9 @@ ghost use Rattle.fl_compress.specs.Cheapest.{both};
 ghost use Rattle.fl_compress.specs.EncodedBytes.{encoded_bytes};
 ghost use Rattle.fl_compress.specs.Statistics.{by_order, capped, chunk_size, delta_size, framed_size, is_candidate, packed_size, reference_size, size_in, statistics_of};
 
-use crate::statistics::{ChunkSizes, DeltaSizes, FrameSizes, FramedSizes, PackedSizes, Statistics};
+use crate::statistics::{
+    ChunkSizes, DeltaSizes, DictionarySizes, FrameSizes, FramedSizes, PackedSizes, Statistics,
+};
 use fl_codec::for_::ItemOrder;
 use fl_encode::{Child, Packing, Scheme};
 
@@ -130,6 +132,23 @@ fn delta_child(sizes: &DeltaSizes, child: &Child) -> Option<u64>
     }
 }
 
+fn dictionary_size(
+    sizes: &DictionarySizes,
+    values: &Child,
+    indices: &Child,
+    offsets: &Child,
+) -> Option<u64>
+    ensures { result ≡ capped (both (delta_size sizes.now.values values.now) (both (delta_size sizes.now.indices indices.now) (framed_size sizes.now.offsets offsets.now))) }
+{
+    both(
+        delta_child(&sizes.values, values),
+        both(
+            delta_child(&sizes.indices, indices),
+            framed_child(&sizes.offsets, offsets),
+        ),
+    )
+}
+
 fn candidate_size(scheme: &Scheme, statistics: &Statistics) -> Option<u64>
     ensures { result ≡ capped (size_in statistics.now (shape scheme.now)) }
 {
@@ -145,6 +164,11 @@ fn candidate_size(scheme: &Scheme, statistics: &Statistics) -> Option<u64>
                 framed_child(&statistics.offsets, offsets),
             ),
         ),
+        Scheme::Dict {
+            values,
+            indices,
+            offsets,
+        } => dictionary_size(&statistics.dictionaries, values, indices, offsets),
         _ => delta_size(&statistics.items, scheme),
     }
 }

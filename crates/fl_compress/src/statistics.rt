@@ -5,13 +5,14 @@ ghost use Rattle.fl_types.specs.Refusals.{Answers};
 ghost use Rattle.fl_codec.specs.FoRColumns.{chunk_references, chunked_slots, least_by, reading};
 ghost use Rattle.fl_codec.specs.Parts.{items_of_primitive, less_references, subtract_reference};
 ghost use Rattle.fl_compress.specs.Choices.{HoldDifferences, part_of, with_slots};
-ghost use Rattle.fl_compress.specs.Statistics.{chunk_sizes, delta_sizes, frame_sizes, framed_sizes, packed_sizes, statistics_of};
+ghost use Rattle.fl_compress.specs.Statistics.{chunk_sizes, delta_sizes, dictionary_sizes, frame_sizes, framed_sizes, packed_sizes, statistics_of};
 
 use crate::packing::{at_best_width, at_best_widths};
 use crate::parts::{
     Part, count_bits, count_bits_less, is_all_null, is_constant, is_less_constant, leasts,
     plain_bytes, ptype_of,
 };
+use crate::sorted::dictionaries_of;
 use fl_codec::delta::blocks::delta_bases;
 use fl_codec::for_::{ItemOrder, common_reference};
 use fl_codec::rle::blocks::run_values;
@@ -78,6 +79,17 @@ pub struct DeltaSizes {
     pub validity: u128,
 }
 
+/// The bytes of the parts of a dictionary for each chunk.
+#[derive(Clone, Copy)]
+pub struct DictionarySizes {
+    /// The distinct items of each chunk.
+    pub values: DeltaSizes,
+    /// The index of each item.
+    pub indices: DeltaSizes,
+    /// The number of distinct items before each chunk.
+    pub offsets: FramedSizes,
+}
+
 /// Statistics of an array, of which `size_of` computes the bytes of each candidate.
 #[derive(Clone, Copy)]
 pub struct Statistics {
@@ -89,6 +101,8 @@ pub struct Statistics {
     pub indices: FramedSizes,
     /// The number of run values before each chunk.
     pub offsets: FramedSizes,
+    /// A dictionary for each chunk.
+    pub dictionaries: DictionarySizes,
 }
 
 /// The bytes of a part by each packed scheme. Its bits are counted once.
@@ -284,8 +298,25 @@ fn delta_sizes(alloc: Global, array: &PrimitiveArray) -> Result<DeltaSizes, Fast
     })
 }
 
+fn dictionary_sizes(
+    alloc: Global,
+    array: &PrimitiveArray,
+) -> Result<DictionarySizes, FastLanesError>
+    ensures { Answers (λ sizes. sizes) result (Ok (dictionary_sizes array.now)) }
+{
+    let runs = dictionaries_of(alloc, array)?;
+    let values = delta_sizes(alloc, &runs.values)?;
+    let indices = delta_sizes(alloc, &runs.indices)?;
+    let offsets = framed_sizes(alloc, &runs.offsets, Part::Items)?;
+    Ok(DictionarySizes {
+        values,
+        indices,
+        offsets,
+    })
+}
+
 /// The statistics of an array. Deltas, run indices and differences are counted chunk by chunk and none is kept; only bases,
-/// run values and run offsets are made.
+/// run values, run offsets and dictionaries are made.
 ///
 /// # Errors
 /// Only `OutOfMemory`.
@@ -297,10 +328,12 @@ pub fn statistics_of(alloc: Global, array: &PrimitiveArray) -> Result<Statistics
     let (values, offsets) = run_values(alloc, array)?;
     let values = delta_sizes(alloc, &values)?;
     let offsets = framed_sizes(alloc, &offsets, Part::Items)?;
+    let dictionaries = dictionary_sizes(alloc, array)?;
     Ok(Statistics {
         items,
         values,
         indices,
         offsets,
+        dictionaries,
     })
 }
