@@ -9,6 +9,7 @@ pub mod MarkLaws
 pub mod MaskLaws
 pub mod MembershipLaws
 pub mod NullLaws
+pub mod PassingLaws
 pub mod PositionLaws
 pub mod SearchLaws
 pub mod SourceLaws

@@ -6,6 +6,7 @@ pub mod ExtremeLaws
 pub mod GatherLaws
 pub mod Indices
 pub mod Membership
+pub mod Selections
 pub mod Sources
 pub mod TotalLaws
 pub mod Sums

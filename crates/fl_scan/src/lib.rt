@@ -10,6 +10,7 @@ mod kept;
 pub mod laws;
 mod marks;
 mod membership;
+mod passing;
 mod plain;
 mod prepared;
 pub mod queries;
@@ -24,5 +25,5 @@ pub use crate::queries::{
     count, count_between, filter_between, filter_by, min_max, null_count, sum,
 };
 pub use crate::searches::{is_in, lower_bound};
-pub use crate::selections::{count_under, min_max_under, sum_under};
+pub use crate::selections::{between_under, compare_under, count_under, min_max_under, sum_under};
 pub use crate::sums::Sum;

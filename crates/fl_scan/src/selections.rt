@@ -1,30 +1,39 @@
 //! What is asked of the items of an array that a mask keeps. A block without one is not read.
 
-ghost use Rattle.std.specs.Prelude.{◌≡◌, IfOk, IfSome, IsTrue, Ok, length, option_map};
+ghost use Rattle.std.specs.Prelude.{◌≡◌, IfErr, IfOk, IfSome, IsTrue, Ok, length, option_map};
+ghost use Rattle.fl_types.specs.declared.error.FastLanesError.TheVariants.{OutOfMemory};
 ghost use Rattle.fl_types.specs.Integers.{is_unsigned};
-ghost use Rattle.fl_types.specs.Masks.{mask_len};
+ghost use Rattle.fl_types.specs.Masks.{mask_bits, mask_len};
 ghost use Rattle.fl_types.specs.Refusals.{Answers};
 ghost use Rattle.fl_types.specs.Types.{has_ptype};
 ghost use Rattle.fl_types.specs.Values.{integer_of, ptype_of_value, scalar_parts};
 ghost use Rattle.fl_column.specs.Columns.{ptype_of_column};
 ghost use Rattle.fl_column.specs.Operations.{filter_of};
-ghost use Rattle.fl_column.specs.Queries.{holds};
+ghost use Rattle.fl_column.specs.Queries.{holds, is_between};
 ghost use Rattle.fl_array.specs.Trees.{column};
 ghost use Rattle.fl_scan.specs.Constants.{integer_in, is_comparable};
+ghost use Rattle.fl_scan.specs.Selections.{AreMarked, ArePassing, passed_under, under_mask};
 ghost use Rattle.fl_scan.specs.Sources.{column_of_source};
 ghost use Rattle.fl_scan.specs.Sums.{integer_of_sum, is_unsigned_sum};
 ghost use Rattle.fl_scan.specs.Totals.{count_of, greatest_item, least_item, of_integers, of_kept, sum_of, valid_items};
 
 use crate::blocks::MOST_ITEMS;
 use crate::kept::Kept;
+use crate::marks::marks_of;
+use crate::passing::{bits_of, keep_passing};
 use crate::queries::integer_for;
 use crate::source::Source;
 use crate::sums::{Sum, sum_typed};
-use crate::totals::{count_compared, extremes};
-use fl_array::ArrayRef;
+use crate::totals::{comparison, count_compared, extremes, range};
 use fl_array::laws::items_are_in_range;
-use fl_column::{CompareOperator, DType, FastLanesError, Mask, PType, PValue, Scalar};
+use fl_array::{ArrayRef, Reader};
+use fl_bitpacking::unpack_iter::BitPacked;
+use fl_column::{
+    BetweenOptions, BitList, CompareOperator, DType, FastLanesError, Mask, PType, PValue,
+    PhysicalPType, Scalar,
+};
 use fl_types::match_each_integer_ptype;
+use num_traits::WrappingAdd;
 use std::alloc::Global;
 
 /// What is scanned of the items of an array that a mask keeps.
@@ -67,6 +76,140 @@ fn extremes_typed(source: &Source, ptype: PType) -> Result<Option<(PValue, PValu
     ensures typed { IfOk result (λ o. IfSome o (λ p. (ptype_of_value p.0 ≡ ptype) × (ptype_of_value p.1 ≡ ptype))) }
 {
     match_each_integer_ptype!(ptype, extremes(source))
+}
+
+/// The marks of the items that a mask keeps and that are not null.
+fn marked_items(alloc: Global, array: &ArrayRef, mask: &Mask) -> Result<BitList, FastLanesError>
+    requires { mask_len mask.now ≡ length (column array.now).items }
+    ensures marks { IfOk result (λ marks. AreMarked mask.now marks (column array.now)) }
+    ensures memory { IfErr result (λ e. e ≡ OutOfMemory) }
+{
+    let validity = array.validity(alloc)?;
+    let marks = marks_of(alloc, mask, validity)?;
+    bits_of(alloc, marks, array.len())
+}
+
+/// The marks of the items that compare so with a constant.
+fn keep_compared<T: BitPacked + PhysicalPType + WrappingAdd>(
+    marks: BitList,
+    reader: &Reader,
+    operator: CompareOperator,
+    constant: PValue,
+) -> BitList
+    requires typed { IsTrue (has_ptype T.PTYPE reader.now.column.dtype) }
+    requires constant { ptype_of_value constant ≡ T.PTYPE }
+    requires long { length marks ≡ length reader.now.column.items }
+    ensures { ArePassing (holds operator (integer_of constant)) marks result (length reader.now.column.items) reader.now.column }
+{
+    keep_passing(marks, reader, comparison::<T>(operator, constant))
+}
+
+/// The marks of the items that lie between two bounds.
+fn keep_in_range<T: BitPacked + PhysicalPType + WrappingAdd>(
+    marks: BitList,
+    reader: &Reader,
+    bounds: (PValue, PValue),
+    options: BetweenOptions,
+) -> BitList
+    requires typed { IsTrue (has_ptype T.PTYPE reader.now.column.dtype) }
+    requires lower { ptype_of_value bounds.0 ≡ T.PTYPE }
+    requires upper { ptype_of_value bounds.1 ≡ T.PTYPE }
+    requires long { length marks ≡ length reader.now.column.items }
+    ensures { ArePassing (is_between options (integer_of bounds.0) (integer_of bounds.1)) marks result (length reader.now.column.items) reader.now.column }
+{
+    keep_passing(marks, reader, range::<T>(bounds.0, bounds.1, options))
+}
+
+/// The same, by a column's integer type.
+fn compared(
+    marks: BitList,
+    reader: &Reader,
+    ptype: PType,
+    operator: CompareOperator,
+    constant: PValue,
+) -> BitList
+    requires typed { IsTrue (has_ptype ptype reader.now.column.dtype) }
+    requires constant { ptype_of_value constant ≡ ptype }
+    requires long { length marks ≡ length reader.now.column.items }
+    ensures { ArePassing (holds operator (integer_of constant)) marks result (length reader.now.column.items) reader.now.column }
+{
+    match_each_integer_ptype!(ptype, keep_compared(marks, reader, operator, constant))
+}
+
+/// The marks of the items that lie between two bounds, by a column's integer type.
+fn in_range(
+    marks: BitList,
+    reader: &Reader,
+    ptype: PType,
+    bounds: (PValue, PValue),
+    options: BetweenOptions,
+) -> BitList
+    requires typed { IsTrue (has_ptype ptype reader.now.column.dtype) }
+    requires lower { ptype_of_value bounds.0 ≡ ptype }
+    requires upper { ptype_of_value bounds.1 ≡ ptype }
+    requires long { length marks ≡ length reader.now.column.items }
+    ensures { ArePassing (is_between options (integer_of bounds.0) (integer_of bounds.1)) marks result (length reader.now.column.items) reader.now.column }
+{
+    match_each_integer_ptype!(ptype, keep_in_range(marks, reader, bounds, options))
+}
+
+/// Which of the items that a mask keeps compare so with a constant of the array's type that is not null; a null does
+/// not. The answer is a mask, under which another array of as many items can be asked. A block of which the mask keeps
+/// no item is not read.
+///
+/// # Errors
+/// Those of `count_under`.
+pub fn compare_under(
+    alloc: Global,
+    array: &ArrayRef,
+    mask: &Mask,
+    operator: CompareOperator,
+    constant: &Scalar,
+) -> Result<Mask, FastLanesError>
+    requires { IsTrue (is_comparable (column array.now) (scalar_parts constant.now)) }
+    ensures { Answers mask_bits result (under_mask mask.now (column array.now) (passed_under mask.now (holds operator (integer_in (scalar_parts constant.now))) (column array.now))) }
+{
+    if mask.len() != array.len() {
+        return Err(FastLanesError::MaskLength);
+    }
+    let DType::Primitive(ptype, _) = array.dtype() else {
+        return Err(FastLanesError::NotInteger);
+    };
+    let value = integer_for(array, constant);
+    let marks = marked_items(alloc, array, mask)?;
+    let reader = Reader::try_new(alloc, array)?;
+    let bits = compared(marks, &reader, ptype, operator, value);
+    Ok(Mask::Values(bits))
+}
+
+/// Which of the items that a mask keeps lie between two bounds of the array's type that are not null; a null does not.
+/// The answer is a mask, as that of `compare_under`.
+///
+/// # Errors
+/// Those of `count_under`.
+pub fn between_under(
+    alloc: Global,
+    array: &ArrayRef,
+    mask: &Mask,
+    lower: &Scalar,
+    upper: &Scalar,
+    options: &BetweenOptions,
+) -> Result<Mask, FastLanesError>
+    requires lower { IsTrue (is_comparable (column array.now) (scalar_parts lower.now)) }
+    requires upper { IsTrue (is_comparable (column array.now) (scalar_parts upper.now)) }
+    ensures { Answers mask_bits result (under_mask mask.now (column array.now) (passed_under mask.now (is_between options.now (integer_in (scalar_parts lower.now)) (integer_in (scalar_parts upper.now))) (column array.now))) }
+{
+    if mask.len() != array.len() {
+        return Err(FastLanesError::MaskLength);
+    }
+    let DType::Primitive(ptype, _) = array.dtype() else {
+        return Err(FastLanesError::NotInteger);
+    };
+    let bounds = (integer_for(array, lower), integer_for(array, upper));
+    let marks = marked_items(alloc, array, mask)?;
+    let reader = Reader::try_new(alloc, array)?;
+    let bits = in_range(marks, &reader, ptype, bounds, *options);
+    Ok(Mask::Values(bits))
 }
 
 /// How many of the items that a mask keeps compare so with a constant of the array's type that is not null; a null does

@@ -26,7 +26,10 @@ use num_traits::WrappingAdd;
 use std::alloc::Global;
 
 /// A comparison with a constant of the type.
-fn comparison<T: NativePType>(operator: CompareOperator, constant: PValue) -> Comparison<T>
+pub(crate) fn comparison<T: NativePType>(
+    operator: CompareOperator,
+    constant: PValue,
+) -> Comparison<T>
     requires { ptype_of_value constant ≡ T.PTYPE }
     ensures operator { result.operator ≡ operator }
     ensures constant { T.value result.constant ≡ integer_of constant }
@@ -38,7 +41,11 @@ fn comparison<T: NativePType>(operator: CompareOperator, constant: PValue) -> Co
 }
 
 /// A range between bounds of the type.
-fn range<T: NativePType>(lower: PValue, upper: PValue, options: BetweenOptions) -> Between<T>
+pub(crate) fn range<T: NativePType>(
+    lower: PValue,
+    upper: PValue,
+    options: BetweenOptions,
+) -> Between<T>
     requires lower { ptype_of_value lower ≡ T.PTYPE }
     requires upper { ptype_of_value upper ≡ T.PTYPE }
     ensures lower { T.value result.lower ≡ integer_of lower }

@@ -3,6 +3,6 @@
 //! array, and the positions of set bits.
 
 pub use fl_scan::{
-    Sum, count, count_between, count_under, filter_between, filter_by, indices_of, is_in,
-    lower_bound, min_max, min_max_under, null_count, sum, sum_under,
+    Sum, between_under, compare_under, count, count_between, count_under, filter_between,
+    filter_by, indices_of, is_in, lower_bound, min_max, min_max_under, null_count, sum, sum_under,
 };
