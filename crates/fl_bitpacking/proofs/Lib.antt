@@ -36,3 +36,4 @@ pub mod PartPatches
 pub mod RefusedNegatives
 pub mod ReadItems
 pub mod AnswerWords
+pub mod BlockAnswers

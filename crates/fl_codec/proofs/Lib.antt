@@ -33,3 +33,4 @@ pub mod DistinctSteps
 pub mod RankLaws
 pub mod DictionaryLaws
 pub mod Comparisons
+pub mod SummedPatterns

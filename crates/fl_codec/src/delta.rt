@@ -1,5 +1,6 @@
 //! Columns stored as differences along the lanes of blocks of 1024 items.
 
+pub mod block_comparisons;
 pub mod block_sums;
 pub mod blocks;
 pub mod children;

@@ -1,6 +1,7 @@
 //! Tests of a range on packed blocks: a block is compared in the order of its lanes, and not unpacked where its width decides.
 
 mod block_tests;
+pub mod blocks;
 mod packed_data;
 pub mod primitive;
 
