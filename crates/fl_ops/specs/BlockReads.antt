@@ -1,8 +1,13 @@
 -- What is read of a column block by block.
-use Rattle.std.specs.Prelude.{◌≡◌, ◌+◌, ◌-◌, ◌*◌, ◌≤◌, ℕ, ℤ, pos, Bool, List, length, map, min, slice_index_or}
+use Rattle.std.specs.Prelude.{◌≡◌, ◌+◌, ◌-◌, ◌*◌, ◌<◌, ◌≤◌, ℕ, ℤ, pos, Bool, true, List, None, length, map, min, slice_index_or}
+use Rattle.fl_types.specs.declared.dtype.Nullability.{Nullability}
+use Rattle.fl_types.specs.declared.dtype.Nullability.TheVariants.{NonNullable, Nullable}
+use Rattle.fl_types.specs.declared.dtype.PType.{PType}
 use Rattle.fl_types.specs.declared.validity.Validity.{Validity}
+use Rattle.fl_types.specs.declared.validity.Validity.TheVariants as valid
 use Rattle.fl_types.specs.Bits.{kept}
-use Rattle.fl_column.specs.Columns.{Column}
+use Rattle.fl_types.specs.Integers.{fits}
+use Rattle.fl_column.specs.Columns.{Column, option_all}
 use Rattle.fl_array.specs.Readers.{AreItemsFrom, Prepared}
 use Rattle.fl_array.specs.Reads.{IsValidityOf}
 
@@ -28,3 +33,14 @@ AreKept bits integers n c = (all : List ℤ) × (AreFirst all n c × (integers �
 -- the answers of a test for the integers of the first n items
 abbrev pub AreAnswers : (ℤ → Bool) → List Bool → ℕ → Column → Type 0
 AreAnswers test bits n c = (all : List ℤ) × (AreFirst all n c × (bits ≡ map test all))
+
+-- the integers of the first n items of a column, all of which a type has
+pub record AreCast (ptype : PType) (integers : List ℤ) (n : ℕ) (c : Column) : Type 0 where
+  pub first : AreFirst integers n c
+  pub fit : (i : ℕ) → i < n → option_all (fits ptype) (slice_index_or c.items i None) ≡ true
+
+-- the validity of the same items where nulls may stand or not
+abbrev pub validity_in : Nullability → Validity → Validity
+validity_in NonNullable validity = valid.NonNullable
+validity_in Nullable valid.NonNullable = valid.AllValid
+validity_in Nullable other = other

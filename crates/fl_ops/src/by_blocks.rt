@@ -1,6 +1,7 @@
-//! Queries of columns that are read block by block into a scratch, so that no list of the column is made. A run-length
-//! encoded array inside of another one is decoded whole when the reader is made.
+//! Operations on columns that are read block by block into a scratch, so that no list of the column is made, and queries
+//! of them. A run-length encoded array inside of another one is decoded whole when the reader is made.
 
+pub(crate) mod cast;
 pub(crate) mod constancy;
 pub(crate) mod filter;
 pub(crate) mod order;

@@ -1,7 +1,7 @@
 //! Casts of arrays. Where the integer type stays, a bit-packed array of one width is cast in place, and so is a delta
 //! array unless only the source's type has nulls; a FoR array is cast over its encoded array's cast. A run-length encoded
 //! array is cast over the casts of its run values and run indices, where all that are stored have one. Everything else
-//! is decoded first.
+//! is cast block by block.
 
 ghost use Rattle.std.specs.Prelude.{◌≡◌, ◌&&◌, is_none, not, true, IfOk, IsTrue, Ok};
 ghost use Rattle.std.specs.List.{list_any};
@@ -47,7 +47,7 @@ enum CastForm<'a> {
     Deltas(&'a DeltaArray),
     /// The run values and the run indices are cast, where all have a cast.
     Runs(&'a RLEArray),
-    /// The decoded column is cast.
+    /// The items are cast block by block.
     Decoded,
 }
 
@@ -142,7 +142,7 @@ fn cast_form(array: &ArrayRef, target: DType) -> CastForm<'_>
     }
 }
 
-/// The cast of the decoded column.
+/// The cast of the items, block by block.
 #[tactic(auto, using(crate::proofs::CastedTrees::cast_shown))]
 fn cast_decoded(alloc: Global, array: &ArrayRef, target: DType) -> Result<ArrayRef, FastLanesError>
     ensures column { Answers column result (cast_column target (column array.now)) }

@@ -159,16 +159,13 @@ pub(crate) fn cast(
 ) -> Result<PrimitiveArray, FastLanesError>
     ensures { Answers column_of_primitive result (cast_column target (column array.now)) }
 {
-    if let DType::Bool(_) = target {
-        return Err(FastLanesError::NotInteger);
-    }
     if let Some(plain) = array.as_primitive() {
         return plain.cast(alloc, target);
     }
     if let Some(constant_array) = array.as_constant() {
         return constant_array.cast(alloc, target);
     }
-    array.to_primitive(alloc)?.cast(alloc, target)
+    by_blocks::cast::cast(alloc, array, target)
 }
 
 /// The answers of a test for the items.
