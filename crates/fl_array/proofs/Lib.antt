@@ -29,3 +29,4 @@ pub mod ReadPacked
 pub mod ReadReferences
 pub mod ReadDeltas
 pub mod ReadRuns
+pub mod BlockTests

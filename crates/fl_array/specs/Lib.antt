@@ -30,3 +30,4 @@ pub mod PackedSums
 pub mod Readers
 pub mod ReaderParts
 pub mod ReaderSources
+pub mod BlockAnswers

@@ -1,6 +1,7 @@
 //! One way in which items leave an array: a reader that is prepared once, and then writes any items into a slice of
 //! the caller, without an allocation and without an error.
 
+mod block_tests;
 mod deltas;
 pub(crate) mod direct;
 mod leaves;
@@ -64,7 +65,7 @@ impl Reader<'_> {
     }
 
     /// The position of the first item in its block of 1024.
-    fn offset(&self) -> usize
+    pub fn offset(&self) -> usize
         ensures offset { result ≡ self.now.offset }
         ensures low { result < 1024 }
         ensures few { result + length self.now.column.items < 2 ^ 64 }
