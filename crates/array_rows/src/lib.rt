@@ -17,6 +17,7 @@ mod queries;
 mod questions;
 mod readers;
 mod runs;
+mod scan;
 mod schemes;
 
 use array_reader::{Built, building, operations};

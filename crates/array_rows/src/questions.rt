@@ -1,6 +1,6 @@
 //! Questions to arrays.
 
-use crate::{data, nodes, parts, queries};
+use crate::{data, nodes, parts, queries, scan};
 use array_reader::{Built, kinds};
 use fl_array::ArrayRef;
 use fl_array::laws::{item_of_decoded, slice_of_slice};
@@ -287,7 +287,7 @@ pub(crate) fn answer(asked: Asked, array: &ArrayRef, answer: &mut Text) {
     match named(QUESTIONS, asked.word(0)) {
         Some(question) => answer_asked(asked, question, array, answer),
         None => {
-            if !queries::answer(asked, array, answer) {
+            if !queries::answer(asked, array, answer) && !scan::answer(asked, array, answer) {
                 data::ask(asked, array, answer);
             }
         }
