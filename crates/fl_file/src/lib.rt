@@ -17,3 +17,6 @@ pub use crate::pruning::{Pruning, Test, prune};
 pub use crate::reading::read_foot;
 pub use crate::statistics::{ChunkStatistics, Extremes};
 pub use crate::writing::write_foot;
+
+#[cfg(test)]
+mod tests;
