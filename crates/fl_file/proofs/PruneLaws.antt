@@ -1,14 +1,14 @@
 -- Tests of the integers from a least to a greatest one.
-use Rattle.std.proofs.Common.{◌≡◌, ℕ, ℤ, pos, negsuc, suc, ◌-◌, ◌^◌, ◌<◌, ◌≤◌, ◌&&◌, Bool, true, false, cond, int_le, int_lt, not, refl, ap, sym, ◌∙◌, inl, inr, arith, ◌≤ℤ◌, ◌<ℤ◌}
-use Rattle.std.specs.Prelude.{FitsSigned, Option, None, Some, ◌⊎◌}
+use Rattle.std.proofs.Common.{◌≡◌, ℤ, pos, negsuc, ◌-◌, ◌^◌, ◌≤◌, ◌&&◌, Bool, true, false, int_le, not, refl, ap, sym, ◌∙◌, inl, inr, arith, ◌≤ℤ◌, ◌<ℤ◌}
+use Rattle.std.specs.Prelude.{FitsSigned, Option, Some, ◌⊎◌}
 use Rattle.std.specs.Int.{int_max, int_min, w128}
 use Rattle.std.specs.Ordering.{int_eq}
-use Rattle.std.proofs.lemmas.Bool.{cases_Bool, and_left, and_right, le-leb}
+use Rattle.std.proofs.lemmas.Bool.{cases_Bool, le-leb}
 use Rattle.std.proofs.lemmas.Bool.Decides.{Decides-int_eq}
 use Rattle.std.proofs.lemmas.Int.{ints, clamps, by_lt_z}
 use Rattle.fl_types.specs.declared.query.BetweenOptions.{BetweenOptions}
-use Rattle.fl_types.specs.declared.query.CompareOperator.TheVariants.{Eq, NotEq, Gt, Gte, Lt, Lte}
-use Rattle.fl_types.specs.declared.query.StrictComparison.TheVariants.{Strict, NonStrict}
+use Rattle.fl_types.specs.declared.query.CompareOperator.TheVariants.{Eq, NotEq, Gt, Gte, Lt}
+use Rattle.fl_types.specs.declared.query.StrictComparison.TheVariants.{Strict}
 use Rattle.fl_column.specs.Queries.{holds, is_before}
 use Rattle.fl_file.specs.declared.pruning.Pruning.{Pruning}
 use Rattle.fl_file.specs.declared.pruning.Pruning.TheVariants as prunings

@@ -1,3 +1,6 @@
 pub mod Statistics
 pub mod Pruning
 pub mod Crc32c
+pub mod Foot
+pub mod FootReading
+pub mod FootLaws

@@ -1,12 +1,10 @@
 -- What is known of a test of a chunk's items.
 use Rattle.std.specs.Prelude.{◌≡◌, ◌≤ℤ◌, ℤ, Bool, true, false, List, All, Option, Some, None, int_le, ⊤}
-use Rattle.fl_column.specs.Columns.{Column}
 use Rattle.fl_column.specs.Queries.{holds, is_between}
 use Rattle.fl_file.specs.declared.pruning.Pruning.{Pruning}
 use Rattle.fl_file.specs.declared.pruning.Pruning.TheVariants as prunings
 use Rattle.fl_file.specs.declared.pruning.Test.{Test}
 use Rattle.fl_file.specs.declared.pruning.Test.TheVariants.{Compare, Between}
-use Rattle.fl_file.specs.Statistics.{valid_items}
 
 -- the item passes the test
 abbrev pub passes : Test → ℤ → Bool
