@@ -18,3 +18,4 @@ mod NullableLaws
 mod BlockLaws
 mod ReadLists
 mod CastReads
+mod RangeReads

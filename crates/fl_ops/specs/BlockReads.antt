@@ -1,11 +1,11 @@
 -- What is read of a column block by block.
-use Rattle.std.specs.Prelude.{◌≡◌, ◌+◌, ◌-◌, ◌*◌, ◌<◌, ◌≤◌, ℕ, ℤ, pos, Bool, true, List, None, length, map, min, slice_index_or}
+use Rattle.std.specs.Prelude.{◌≡◌, ◌+◌, ◌-◌, ◌*◌, ◌<◌, ◌≤◌, ℕ, ℤ, pos, Bool, true, List, None, length, map, min, slice_index_or, flat_map}
 use Rattle.fl_types.specs.declared.dtype.Nullability.{Nullability}
 use Rattle.fl_types.specs.declared.dtype.Nullability.TheVariants.{NonNullable, Nullable}
 use Rattle.fl_types.specs.declared.dtype.PType.{PType}
 use Rattle.fl_types.specs.declared.validity.Validity.{Validity}
 use Rattle.fl_types.specs.declared.validity.Validity.TheVariants as valid
-use Rattle.fl_types.specs.Bits.{kept}
+use Rattle.fl_types.specs.Bits.{between, kept}
 use Rattle.fl_types.specs.Integers.{fits}
 use Rattle.fl_column.specs.Columns.{Column, option_all}
 use Rattle.fl_array.specs.Readers.{AreItemsFrom, Prepared}
@@ -44,3 +44,8 @@ abbrev pub validity_in : Nullability → Validity → Validity
 validity_in NonNullable validity = valid.NonNullable
 validity_in Nullable valid.NonNullable = valid.AllValid
 validity_in Nullable other = other
+
+-- the validity of the items of ranges
+abbrev pub validity_of_ranges : List (ℕ × ℕ) → Validity → Validity
+validity_of_ranges ranges (valid.Array bits) = valid.Array (flat_map (λ range. between range.0 (range.0 + range.1) bits) ranges)
+validity_of_ranges ranges other = other

@@ -5,6 +5,7 @@ pub(crate) mod cast;
 pub(crate) mod constancy;
 pub(crate) mod filter;
 pub(crate) mod order;
+pub(crate) mod ranges;
 pub(crate) mod tests;
 
 ghost use Rattle.std.specs.Prelude.{◌≡◌, ◌+◌, ◌<◌, None, length, option_map, slice_index_or};

@@ -13,6 +13,7 @@ ghost use Rattle.fl_bitpacking.specs.RangeTests.{IsTestOf, passes};
 ghost use Rattle.fl_array.specs.BitPackedArrays.{tree_of_bitpacked};
 ghost use Rattle.fl_array.specs.Trees.{column};
 
+use crate::by_blocks::ranges::are_read_singly;
 use crate::by_blocks::{self, MOST_ITEMS, constancy, order, tests};
 use crate::takes::items::take_items;
 use crate::takes::{ranges_by_runs, take_ranges_packed};
@@ -82,12 +83,15 @@ pub(crate) fn take_ranges(
     if let Some(constant_array) = array.as_constant() {
         return constant_array.take_ranges(alloc, ranges);
     }
-    let DType::Primitive(_, _) = array.dtype() else {
+    let DType::Primitive(ptype, _) = array.dtype() else {
         return Err(FastLanesError::NotInteger);
     };
     let total = ranges_total(ranges, array.len())?;
     if let Some(packed) = ranges_by_runs(array, total) {
         return take_ranges_packed(alloc, packed, ranges, total);
+    }
+    if are_read_singly(array, ranges) {
+        return by_blocks::ranges::read_ranges(alloc, array, ptype, ranges, total);
     }
     array.to_primitive(alloc)?.take_ranges(alloc, ranges)
 }
