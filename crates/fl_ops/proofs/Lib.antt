@@ -17,3 +17,4 @@ mod ItemLaws
 mod NullableLaws
 mod BlockLaws
 mod ReadLists
+mod TestedLists
