@@ -19,3 +19,4 @@ mod BlockLaws
 mod ReadLists
 mod CastReads
 mod RangeReads
+mod TestedLists

@@ -1,6 +1,6 @@
 -- The integers that were read of a column so far.
-use Rattle.std.proofs.Common.{◌≡◌, ◌==◌, ℕ, ℤ, pos, zero, suc, Result, Ok, ◌+◌, ◌-◌, ◌<◌, ◌≤◌, Bool, true, false, List, [], ◌∷◌, ◌++◌, length, map, get_or, take, drop, Option, Some, None, IsTrue, cond, refl, ap, sym, subst, ◌∙◌, arith, inl, inr, length-append, length-drop, length-take}
-use Rattle.std.specs.Prelude.{is_some, unwrap_or}
+use Rattle.std.proofs.Common.{◌≡◌, ◌==◌, ℕ, ℤ, pos, Result, Ok, ◌+◌, ◌-◌, ◌<◌, ◌≤◌, Bool, true, false, List, [], ◌∷◌, ◌++◌, length, map, get_or, take, drop, Option, Some, None, IsTrue, refl, ap, sym, subst, ◌∙◌, arith, inl, inr, length-append, length-drop, length-take}
+use Rattle.std.specs.Prelude.{unwrap_or}
 use Rattle.std.proofs.lemmas.Bool.{cases_lt}
 use Rattle.std.proofs.lemmas.Bool.Decides.{Decides-eqb}
 use Rattle.std.proofs.lemmas.List.{get_or-append-add, get_or-drop, get_or-map, get_or-take, get_or_append_left, length-map, map-append}
@@ -14,17 +14,15 @@ use Rattle.fl_types.specs.declared.dtype.Nullability.{Nullability}
 use Rattle.fl_types.specs.declared.dtype.PType.{PType}
 use Rattle.fl_types.specs.declared.error.FastLanesError.{FastLanesError}
 use Rattle.fl_types.specs.declared.validity.Validity.{Validity}
-use Rattle.fl_types.specs.Validities.{covers, items_of, nullability_of}
-use Rattle.fl_column.specs.Columns.{BoolParts, Column, PrimitiveParts, column_of_bools, column_of_primitive, new_bools}
+use Rattle.fl_types.specs.Validities.{covers, nullability_of}
+use Rattle.fl_column.specs.Columns.{Column, PrimitiveParts, column_of_primitive}
 use Rattle.fl_column.specs.Operations.{filter_column, filter_of}
-use Rattle.fl_column.specs.Queries.{tested}
 use Rattle.fl_column.specs.Selections.{kept_validity}
 use Rattle.fl_column.proofs.FilterLaws.{filtered_column, kept_agree, kept_covers, kept_few, kept_map}
-use Rattle.fl_column.proofs.QueryLaws.{tested_column}
 use Rattle.fl_bitpacking.proofs.SoundParts.{same_ptype_is}
 use Rattle.fl_bitpacking.specs.Blocks.{value_at}
 use Rattle.fl_array.specs.Readers.{AreItemsFrom}
-use Rattle.fl_ops.specs.BlockReads.{AreAnswers, AreFirst, AreKept}
+use Rattle.fl_ops.specs.BlockReads.{AreFirst, AreKept}
 use Rattle.fl_array.specs.Reads.{AreItemsOf, IsValidityOf, integer_column}
 use Rattle.fl_array.proofs.ReadLaws.{items_read}
 use Rattle.fl_ops.proofs.Answered.{decoded_is}
@@ -134,19 +132,9 @@ kept_pushed value bits old new xs n m end c is size read pushed begun =
     subst (λ (k : ℕ). AreKept bits (map value new) k c) is
     (begun.0 ++ map value xs, (first_read value begun.0 xs n m c size read begun.1.0, kept_read value bits begun.0 old new xs n begun.1.0.long pushed begun.1.1))
 
--- ---- answers
--- a block more that was tested
-pub answers_pushed : {X : Type 0} (value : X → ℤ) (test : ℤ → Bool) (old new : List Bool) (xs : List X) (n m end : ℕ) (c : Column) → n + m ≡ end → length xs ≡ m → AreItemsFrom n m (value_at value xs) c → new ≡ old ++ map test (map value xs) → AreAnswers test old n c → AreAnswers test new end c
-answers_pushed value test old new xs n m end c is size read pushed begun =
-    subst (λ (k : ℕ). AreAnswers test new k c) is
-    (begun.0 ++ map value xs, (first_read value begun.0 xs n m c size read begun.1.0, pushed ∙ (ap (λ l. l ++ map test (map value xs)) begun.1.1 ∙ sym (map-append test begun.0 (map value xs)))))
-
 -- before the first block
 pub kept_none_yet : {X : Type 0} (value : X → ℤ) (bits : List Bool) (taken : List X) (n : ℕ) (c : Column) → taken ≡ [] → n ≡ 0 → AreKept bits (map value taken) n c
 kept_none_yet value bits taken n c empty none = ([], (first_none n c none, ap (map value) empty ∙ sym (kept_of_none bits)))
-
-pub answers_none_yet : (test : ℤ → Bool) (answers : List Bool) (n : ℕ) (c : Column) → answers ≡ [] → n ≡ 0 → AreAnswers test answers n c
-answers_none_yet test answers n c empty none = ([], (first_none n c none, empty))
 
 -- ---- columns
 -- the type of a column of integers of a type
@@ -171,15 +159,6 @@ kept_is value bits xs v w c ptype r typed of taken valid is =
     let same : column_of_primitive a ≡ c = plain_column c v taken.0 ptype (nullability_in c.dtype) (dtype_is c.dtype ptype typed) of (first_all taken.0 (length c.items) c refl taken.1.0) in
     let parts : r ≡ record { ptype = ptype; slots = kept bits taken.0; validity = kept_validity bits v } = is ∙ (rw (taken.1.1, valid) refl) in
     ap (filter_of (Values bits)) (sym same) ∙ filtered_column a r bits (covered v taken.0 (length c.items) c refl of taken.1.0) parts
-
--- the column of the answers
-pub answers_are : (test : ℤ → Bool) (bits : List Bool) (v : Validity) (c : Column) (ptype : PType) (r : Result BoolParts FastLanesError) → has_ptype ptype c.dtype ≡ true → IsValidityOf v c → AreAnswers test bits (length c.items) c → r ≡ new_bools bits v
-    → Answers column_of_bools r (Ok (tested test c))
-answers_are test bits v c ptype r typed of answered is =
-    let a : PrimitiveParts = record { ptype = ptype; slots = answered.0; validity = v } in
-    let same : column_of_primitive a ≡ c = plain_column c v answered.0 ptype (nullability_in c.dtype) (dtype_is c.dtype ptype typed) of (first_all answered.0 (length c.items) c refl answered.1.0) in
-    let bits_are : ◌≡◌ {A = Result (List Bool) FastLanesError} (Ok (map test answered.0)) (Ok bits) = ap Ok (sym answered.1.1) in
-    subst (λ (d : Column). Answers column_of_bools r (Ok (tested test d))) same (tested_column test a v v answered.0 bits r refl (covered v answered.0 (length c.items) c refl of answered.1.0) refl refl bits_are is)
 
 -- what is kept of the column that is read
 pub filter_answered : (bits : List Bool) (c d : Column) (r : Result PrimitiveParts FastLanesError) → integer_column c ≡ Ok d → length bits ≡ length c.items → Answers column_of_primitive r (Ok (filter_of (Values bits) d)) → Answers column_of_primitive r (filter_column (Values bits) c)

@@ -1,11 +1,11 @@
 -- What is read of a column block by block.
-use Rattle.std.specs.Prelude.{◌≡◌, ◌+◌, ◌-◌, ◌*◌, ◌<◌, ◌≤◌, ℕ, ℤ, pos, Bool, true, List, None, length, map, min, slice_index_or, flat_map}
+use Rattle.std.specs.Prelude.{◌≡◌, ◌+◌, ◌-◌, ◌*◌, ◌<◌, ◌≤◌, ℕ, ℤ, pos, Bool, false, true, List, None, Some, length, min, slice_index_or, flat_map}
 use Rattle.fl_types.specs.declared.dtype.Nullability.{Nullability}
 use Rattle.fl_types.specs.declared.dtype.Nullability.TheVariants.{NonNullable, Nullable}
 use Rattle.fl_types.specs.declared.dtype.PType.{PType}
 use Rattle.fl_types.specs.declared.validity.Validity.{Validity}
 use Rattle.fl_types.specs.declared.validity.Validity.TheVariants as valid
-use Rattle.fl_types.specs.Bits.{between, kept}
+use Rattle.fl_types.specs.Bits.{between, is_set, kept}
 use Rattle.fl_types.specs.Integers.{fits}
 use Rattle.fl_column.specs.Columns.{Column, option_all}
 use Rattle.fl_array.specs.Readers.{AreItemsFrom, Prepared}
@@ -30,9 +30,15 @@ pub record AreFirst (integers : List ℤ) (n : ℕ) (c : Column) : Type 0 where
 abbrev pub AreKept : List Bool → List ℤ → ℕ → Column → Type 0
 AreKept bits integers n c = (all : List ℤ) × (AreFirst all n c × (integers ≡ kept bits all))
 
--- the answers of a test for the integers of the first n items
-abbrev pub AreAnswers : (ℤ → Bool) → List Bool → ℕ → Column → Type 0
-AreAnswers test bits n c = (all : List ℤ) × (AreFirst all n c × (bits ≡ map test all))
+-- the answers of a test for the items of a column: any where it has a null
+pub record AreAnswers (test : ℤ → Bool) (bits : List Bool) (c : Column) : Type 0 where
+  pub long : length bits ≡ length c.items
+  pub each : (i : ℕ) (z : ℤ) → i < length c.items → slice_index_or c.items i None ≡ Some z → slice_index_or bits i false ≡ test z
+
+-- sixteen words for each of the first n blocks, whose bits are the answers of a test for the items of the blocks
+pub record AreAnswered (test : ℤ → Bool) (words : List ℕ) (n : ℕ) (p : Prepared) : Type 0 where
+  pub long : length words ≡ 16 * n
+  pub each : (i : ℕ) (z : ℤ) → i < length p.column.items → p.offset + i < 1024 * n → slice_index_or p.column.items i None ≡ Some z → is_set words (p.offset + i) ≡ test z
 
 -- the integers of the first n items of a column, all of which a type has
 pub record AreCast (ptype : PType) (integers : List ℤ) (n : ℕ) (c : Column) : Type 0 where

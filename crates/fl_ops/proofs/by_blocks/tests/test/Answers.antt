@@ -8,7 +8,7 @@ use Rattle.fl_array.specs.Reads.{IsValidityOf}
 use Rattle.fl_array.specs.Trees.{column}
 use Rattle.fl_ops.proofs.Answered.{decoded_is}
 use Rattle.fl_ops.proofs.BlockLaws.{read_typed}
-use Rattle.fl_ops.proofs.ReadLists.{answers_are}
+use Rattle.fl_ops.proofs.TestedLists.{answers_are}
 use Rattle.fl_ops.proofs.by_blocks.tests.test.Goals as goal
 
 pub test_read-requires-clause-typed : goal.test_read-requires-clause-typed
@@ -26,7 +26,6 @@ pub returns : goal.returns
 returns c =
     let same = decoded_is (column c.args.array.now) c.in_ok-reader.reader.column c.in_ok-reader.ensures in
     let d = c.in_ok-reader.reader.column in
-    let typed = read_typed (column c.args.array.now) d c.in-Primitive.ptype c.in-Primitive.field-1 same (sym c.dtype.ensures ∙ c.in-Primitive.is) in
     let valid = subst (λ (e : Column). IsValidityOf c.in_ok-validity.validity e) same c.in_ok-validity.ensures.validity in
     subst (λ (e : Column). Answers column_of_bools c.new.result (Ok (tested (passes c.args.range) e))) (sym same)
-    (answers_are (passes c.args.range) c.in_ok-bits.bits c.in_ok-validity.validity d c.in-Primitive.ptype c.new.result typed valid c.in_ok-bits.ensures.answers c.new.ensures)
+    (answers_are (passes c.args.range) c.in_ok-bits.bits c.in_ok-validity.validity d c.new.result valid c.in_ok-bits.ensures.answers c.new.ensures)
