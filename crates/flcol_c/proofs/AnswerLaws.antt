@@ -1,5 +1,5 @@
 -- Answers of tests.
-use Rattle.std.proofs.Common.{inl, inr, arith, ◌≡◌, ◌+◌, ℕ, ℤ, pos, List, [], ◌∷◌, length, map, Bool, true, false, not, Option, Some, None, Result, Ok, Err, option_map, count_by, ◌∙◌, ap, sym, subst, refl}
+use Rattle.std.proofs.Common.{inl, inr, arith, ◌≡◌, ℕ, suc, ℤ, pos, List, [], ◌∷◌, length, map, Bool, true, false, not, Option, Some, None, Result, Ok, Err, option_map, count_by, ◌∙◌, ap, sym, subst, refl}
 use Rattle.std.specs.Prelude.{All, is_none}
 use Rattle.std.specs.List.{list_all}
 use Rattle.std.specs.Ordering.{int_eq}
@@ -19,6 +19,7 @@ use Rattle.fl_types.specs.Values.{ScalarParts, bool_number, ptype_of_value}
 use Rattle.fl_column.specs.Columns.{BoolParts, Column, bools, column_of_bools}
 use Rattle.fl_column.specs.Queries.{holds, is_between, tested}
 use Rattle.fl_ops.specs.Queries.{between_scalars, compare_scalar, integer_in, nullable_with}
+use Rattle.fl_scan.specs.Membership.{are_comparable}
 use Rattle.fl_scan.specs.Totals.{of_integers}
 use Rattle.flcol_c.specs.Answering.{AreAnswers, compare_fault, operator_of, test_fault}
 use Rattle.fl_column.specs.Bitmaps.{bitmap_len, bits_in}
@@ -95,11 +96,17 @@ tests_memory test c q e typed refused = elim (Refuses_cases e (of_integers c (te
 ]
 
 -- values of a type are of a column's
-pub listed_of_type : (q : PType) (d : DType) (values : List PValue) → has_ptype q d ≡ true → All (λ value. ptype_of_value value ≡ q) values → list_all (λ value. has_ptype (ptype_of_value value) d) values ≡ true
+listed_of_type : (q : PType) (d : DType) (values : List PValue) → has_ptype q d ≡ true → All (λ value. ptype_of_value value ≡ q) values → list_all (λ value. has_ptype (ptype_of_value value) d) values ≡ true
 listed_of_type q d [] typed all = refl
 listed_of_type q d (value ∷ values) typed all =
     let first : has_ptype (ptype_of_value value) d ≡ true = ap (λ p. has_ptype p d) (all 0 value (omega arith)) ∙ typed in
-    rw (first, listed_of_type q d values typed (λ k other within. all (k + 1) other (omega arith))) refl
+    rw (first, listed_of_type q d values typed (λ k other within. all (suc k) other (omega arith))) refl
+
+-- so items of the column are tested for being one of them
+pub list_comparable : (q : PType) (c : Column) (values : List PValue) → has_ptype q c.dtype ≡ true → All (λ value. ptype_of_value value ≡ q) values → are_comparable c values ≡ true
+list_comparable q c values typed all =
+    let integers : is_integer c.dtype ≡ true = integers_of_type q c.dtype typed in
+    rw (integers, listed_of_type q c.dtype values typed all) refl
 
 -- as many answers are null as items
 pub nulls_answered : (test : ℤ → Bool) (c : Column) (b : BoolParts) → bools b ≡ map (option_map test) c.items → count_by is_none (bools b) ≡ count_by is_none c.items
