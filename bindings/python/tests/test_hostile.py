@@ -64,7 +64,8 @@ def ask(container):
             assert array.is_sorted() in (False, True)
             assert (array.min(), array.max()) == ((min(known), max(known)) if known else (None, None))
             assert array.where(">=", 3).to_list() == [item for item in known if item >= 3]
-            ask_selections(array, items, known)
+            if sum(container) % 16 == 0:  # some of the many changes of a byte
+                ask_selections(array, items, known)
     except MemoryError:
         pass
     return True
