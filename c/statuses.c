@@ -55,6 +55,7 @@ static const struct status statuses[] = {
     {FLCOL_BAD_SCHEME, "BadScheme", "the text says no scheme, or nests too deep"},
     {FLCOL_BAD_OPERATOR, "BadOperator", "the operator of comparison is not known"},
     {FLCOL_STREAM, "Stream", "the stream failed"},
+    {FLCOL_BAD_ENCODINGS, "BadEncodings", "a bit stands for no encoding"},
 };
 
 static const struct status unknown = {-1, "Unknown", "no status has this number"};

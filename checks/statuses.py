@@ -53,6 +53,7 @@ SENTENCES = {
     "WrongLength": "a buffer doesn't have the length that is needed",
     "BadScheme": "the text says no scheme, or nests too deep",
     "BadOperator": "the operator of comparison is not known",
+    "BadEncodings": "a bit stands for no encoding",
     "Stream": "the stream failed",
 }
 #: The statuses of calls that are written in C.

@@ -45,9 +45,9 @@ extern "C" {
 
 /* The version of the library. */
 #define FLCOL_VERSION_MAJOR 1
-#define FLCOL_VERSION_MINOR 3
+#define FLCOL_VERSION_MINOR 4
 #define FLCOL_VERSION_PATCH 0
-#define FLCOL_VERSION "1.3.0"
+#define FLCOL_VERSION "1.4.0"
 
 /* The version of this interface. */
 #define FLCOL_ABI_VERSION 2
@@ -119,7 +119,8 @@ enum {
     FLCOL_WRONG_LENGTH = 102, /* a buffer has not the length that is needed */
     FLCOL_BAD_SCHEME = 103,   /* the text says no scheme */
     FLCOL_BAD_OPERATOR = 104, /* no operator has the number */
-    FLCOL_STREAM = 105        /* the stream failed */
+    FLCOL_STREAM = 105,       /* the stream failed */
+    FLCOL_BAD_ENCODINGS = 106 /* a bit stands for no encoding */
 };
 
 /* Types, by the numbers that containers have; with FLCOL_NULLABLE added items may be null. FLCOL_BOOL is the type of
@@ -145,6 +146,17 @@ enum {
     FLCOL_GTE = 3,
     FLCOL_LT = 4,
     FLCOL_LTE = 5
+};
+
+/* Encodings that flcol_compress_within may use: the bits of one number. */
+enum {
+    FLCOL_USE_CONSTANT = 1,
+    FLCOL_USE_BITPACKED = 2,
+    FLCOL_USE_FOR = 4,
+    FLCOL_USE_DELTA = 8,
+    FLCOL_USE_RLE = 16,
+    FLCOL_USE_DICT = 32,
+    FLCOL_USE_ALL = 63
 };
 
 /* The version of the interface that the library has. */
@@ -204,6 +216,12 @@ int32_t flcol_encode(flcol_array *array, const char *scheme, size_t scheme_len, 
 /* The smallest array of the same column that any of the library's candidate schemes makes, the first of several, where
    the validity has no bits if no item is null, or each is. FLCOL_NO_ARRAY. FLCOL_NOT_INTEGER. */
 int32_t flcol_compress(flcol_array *array, flcol_array *out);
+
+/* The same of the candidates that use no encodings but these, bits of FLCOL_USE_.., and nest at most `depth` of them in one
+   another: 0 leaves plain and constant arrays, 1 allows packed ones, 2 frames of reference over packed ones, 3 deltas, runs
+   and dictionaries over those, as flcol_compress has them all, and 4 run values that are deltas. Fewer encodings compress
+   faster: of random items dictionaries take most of the time. FLCOL_NO_ARRAY. FLCOL_BAD_ENCODINGS. FLCOL_NOT_INTEGER. */
+int32_t flcol_compress_within(flcol_array *array, uint8_t encodings, uint8_t depth, flcol_array *out);
 
 /* ---- Look ---- */
 
@@ -455,6 +473,45 @@ int32_t flcol_count_under_i32(flcol_array *array, const uint8_t *mask, size_t ma
                               size_t *count);
 int32_t flcol_count_under_i64(flcol_array *array, const uint8_t *mask, size_t mask_len, uint8_t op, int64_t constant,
                               size_t *count);
+
+/* Which of these items are valid and compare so with a constant: a mask in its turn, under which an array of as many items is
+   asked. `bits_len` is (n + 7) / 8 for n items; the bit of any other item is 0, as are the bits behind the last.
+   FLCOL_NO_ARRAY. FLCOL_BAD_OPERATOR. FLCOL_WRONG_TYPE. FLCOL_WRONG_LENGTH: of `bits_len`. FLCOL_MASK_LENGTH. */
+int32_t flcol_compare_under_u8(flcol_array *array, const uint8_t *mask, size_t mask_len, uint8_t op, uint8_t constant,
+                                uint8_t *bits, size_t bits_len);
+int32_t flcol_compare_under_u16(flcol_array *array, const uint8_t *mask, size_t mask_len, uint8_t op, uint16_t constant,
+                                uint8_t *bits, size_t bits_len);
+int32_t flcol_compare_under_u32(flcol_array *array, const uint8_t *mask, size_t mask_len, uint8_t op, uint32_t constant,
+                                uint8_t *bits, size_t bits_len);
+int32_t flcol_compare_under_u64(flcol_array *array, const uint8_t *mask, size_t mask_len, uint8_t op, uint64_t constant,
+                                uint8_t *bits, size_t bits_len);
+int32_t flcol_compare_under_i8(flcol_array *array, const uint8_t *mask, size_t mask_len, uint8_t op, int8_t constant,
+                                uint8_t *bits, size_t bits_len);
+int32_t flcol_compare_under_i16(flcol_array *array, const uint8_t *mask, size_t mask_len, uint8_t op, int16_t constant,
+                                uint8_t *bits, size_t bits_len);
+int32_t flcol_compare_under_i32(flcol_array *array, const uint8_t *mask, size_t mask_len, uint8_t op, int32_t constant,
+                                uint8_t *bits, size_t bits_len);
+int32_t flcol_compare_under_i64(flcol_array *array, const uint8_t *mask, size_t mask_len, uint8_t op, int64_t constant,
+                                uint8_t *bits, size_t bits_len);
+
+/* Which of these items are valid and lie between two bounds, in the same way. A bound is left out where its `strict` is not 0.
+   FLCOL_NO_ARRAY. FLCOL_WRONG_TYPE. FLCOL_WRONG_LENGTH. FLCOL_MASK_LENGTH. */
+int32_t flcol_between_under_u8(flcol_array *array, const uint8_t *mask, size_t mask_len, uint8_t lower,
+                                uint8_t upper, uint8_t lower_strict, uint8_t upper_strict, uint8_t *bits, size_t bits_len);
+int32_t flcol_between_under_u16(flcol_array *array, const uint8_t *mask, size_t mask_len, uint16_t lower,
+                                uint16_t upper, uint8_t lower_strict, uint8_t upper_strict, uint8_t *bits, size_t bits_len);
+int32_t flcol_between_under_u32(flcol_array *array, const uint8_t *mask, size_t mask_len, uint32_t lower,
+                                uint32_t upper, uint8_t lower_strict, uint8_t upper_strict, uint8_t *bits, size_t bits_len);
+int32_t flcol_between_under_u64(flcol_array *array, const uint8_t *mask, size_t mask_len, uint64_t lower,
+                                uint64_t upper, uint8_t lower_strict, uint8_t upper_strict, uint8_t *bits, size_t bits_len);
+int32_t flcol_between_under_i8(flcol_array *array, const uint8_t *mask, size_t mask_len, int8_t lower,
+                                int8_t upper, uint8_t lower_strict, uint8_t upper_strict, uint8_t *bits, size_t bits_len);
+int32_t flcol_between_under_i16(flcol_array *array, const uint8_t *mask, size_t mask_len, int16_t lower,
+                                int16_t upper, uint8_t lower_strict, uint8_t upper_strict, uint8_t *bits, size_t bits_len);
+int32_t flcol_between_under_i32(flcol_array *array, const uint8_t *mask, size_t mask_len, int32_t lower,
+                                int32_t upper, uint8_t lower_strict, uint8_t upper_strict, uint8_t *bits, size_t bits_len);
+int32_t flcol_between_under_i64(flcol_array *array, const uint8_t *mask, size_t mask_len, int64_t lower,
+                                int64_t upper, uint8_t lower_strict, uint8_t upper_strict, uint8_t *bits, size_t bits_len);
 
 /* Of these items the least and the greatest that is valid, and 0; or two zeros and 1, where none is valid.
    FLCOL_NO_ARRAY. FLCOL_WRONG_TYPE. FLCOL_MASK_LENGTH. */

@@ -32,7 +32,7 @@ static void statuses(void) {
     for (int32_t status = -300; status <= 300; status++) {
         const char *name = flcol_status_name(status), *message = flcol_status_message(status);
         int is_refusal = status >= FLCOL_OK && status <= FLCOL_CHILD_MISMATCH;
-        int is_own = status == FLCOL_BAD_CONTAINER || (status >= FLCOL_NO_ARRAY && status <= FLCOL_STREAM);
+        int is_own = status == FLCOL_BAD_CONTAINER || (status >= FLCOL_NO_ARRAY && status <= FLCOL_BAD_ENCODINGS);
         CHECK((strcmp(name, no_name) != 0) == (is_refusal || is_own) && (strcmp(message, no_message) != 0) == (is_refusal || is_own));
         CHECK(strlen(name) > 1 && strlen(message) > 10 && message[strlen(message) - 1] != '.');
     }
@@ -66,6 +66,7 @@ static void refusals(void) {
     CHECK(flcol_take_ranges(&none, &range, 1, &out) == FLCOL_NO_ARRAY && flcol_filter(&none, &byte, 1, &out) == FLCOL_NO_ARRAY);
     CHECK(flcol_cast(&none, 99, &out) == FLCOL_NO_ARRAY && flcol_to_blocked(&none, &out) == FLCOL_NO_ARRAY);
     CHECK(flcol_sum_unsigned(&none, &index, &index) == FLCOL_NO_ARRAY && flcol_sum_signed(&none, (int64_t *)&index, &index) == FLCOL_NO_ARRAY);
+    CHECK(flcol_compress_within(&none, 64, 3, &out) == FLCOL_NO_ARRAY);
     CHECK(flcol_compress(&none, &out) == FLCOL_NO_ARRAY && flcol_nbytes(&none, &index) == FLCOL_NO_ARRAY);
     CHECK(number == 0 && byte == 0 && index == 0 && out.at == NULL);
     flcol_free(&none);
@@ -131,6 +132,8 @@ static void booleans(void) {
     void *held = out.at;
     CHECK(flcol_scheme_len(&array, &number) == FLCOL_NOT_INTEGER && flcol_scheme(&array, (char *)&byte, 1) == FLCOL_NOT_INTEGER);
     CHECK(encode(&array, "primitive", &out) == FLCOL_NOT_INTEGER && flcol_compress(&array, &out) == FLCOL_NOT_INTEGER);
+    CHECK(flcol_compress_within(&array, FLCOL_USE_ALL, 1, &out) == FLCOL_NOT_INTEGER);
+    CHECK(flcol_compress_within(&array, 255, 1, &out) == FLCOL_BAD_ENCODINGS);
     CHECK(flcol_is_constant(&array, &byte) == FLCOL_NOT_INTEGER && flcol_is_sorted(&array, 0, &byte) == FLCOL_NOT_INTEGER);
     CHECK(flcol_take(&array, &index, 1, NULL, 0, &out) == FLCOL_NOT_INTEGER && flcol_filter(&array, &bits, 1, &out) == FLCOL_NOT_INTEGER);
     CHECK(flcol_take_ranges(&array, &range, 1, &out) == FLCOL_NOT_INTEGER && flcol_cast(&array, FLCOL_U8, &out) == FLCOL_NOT_INTEGER);
@@ -142,6 +145,7 @@ static void booleans(void) {
     CHECK(flcol_is_in_u8(&array, written, 1, &byte, 1, NULL, 0) == FLCOL_WRONG_TYPE && flcol_lower_bound_u8(&array, 1, &number) == FLCOL_WRONG_TYPE);
     CHECK(flcol_count_under_u8(&array, &bits, 1, FLCOL_EQ, 1, &number) == FLCOL_WRONG_TYPE && flcol_sum_under_signed(&array, &bits, 1, (int64_t *)&bytes, &bytes) == FLCOL_WRONG_TYPE);
     CHECK(flcol_min_max_under_u8(&array, &bits, 1, written, written + 1, &byte) == FLCOL_WRONG_TYPE && flcol_sum_under_unsigned(&array, &bits, 1, &bytes, &bytes) == FLCOL_WRONG_TYPE);
+    CHECK(flcol_compare_under_u8(&array, &bits, 1, FLCOL_EQ, 1, &byte, 1) == FLCOL_WRONG_TYPE && flcol_between_under_u8(&array, &bits, 1, 0, 1, 0, 0, &byte, 1) == FLCOL_WRONG_TYPE);
     CHECK(flcol_filter_by_u8(&array, FLCOL_EQ, 1, &out) == FLCOL_WRONG_TYPE && flcol_filter_between_u8(&array, 0, 1, 0, 0, &out) == FLCOL_WRONG_TYPE);
     CHECK(number == 2 && bytes == 1 && byte == FLCOL_BOOL && out.at == held && memcmp(written, container, sizeof written) == 0);
     flcol_free(&array), flcol_free(&out);

@@ -376,6 +376,22 @@ static void FN(refusals)(void) {
     CHECK(CALL(from)(&value, 9, &validity, 1, &array) == FLCOL_VALIDITY_LENGTH && array.at == NULL);
 }
 
+/* All encodings are those of flcol_compress, each fewer leave as few bytes at the least, and none but plain items. */
+static void FN(compresses_within)(flcol_array *plain, uint64_t least, size_t n) {
+    flcol_array made = {NULL};
+    uint64_t taken = 0;
+    CHECK(flcol_compress_within(plain, FLCOL_USE_ALL, 3, &made) == FLCOL_OK);
+    CHECK(flcol_nbytes(&made, &taken) == FLCOL_OK && taken == least);
+    for (uint8_t encodings = 0; encodings <= FLCOL_USE_ALL; encodings += 21) {
+        CHECK(flcol_compress_within(plain, encodings, 3, &made) == FLCOL_OK);
+        CHECK(flcol_nbytes(&made, &taken) == FLCOL_OK && taken >= least);
+        if (encodings == 0) CHECK(taken >= n * sizeof(ITEM));
+    }
+    CHECK(flcol_compress_within(plain, FLCOL_USE_ALL + 1, 3, &made) == FLCOL_BAD_ENCODINGS);
+    CHECK(flcol_nbytes(&made, &taken) == FLCOL_OK && taken >= least);
+    flcol_free(&made);
+}
+
 /* The smallest array has the items, and takes no more than the plain one. */
 static void FN(compresses)(flcol_array *plain, const ITEM *items, const uint8_t *validity, size_t n) {
     flcol_array smallest = {NULL};
@@ -384,6 +400,7 @@ static void FN(compresses)(flcol_array *plain, const ITEM *items, const uint8_t 
     CHECK(flcol_nbytes(plain, &of_plain) == FLCOL_OK && flcol_nbytes(&smallest, &of_smallest) == FLCOL_OK);
     CHECK(of_smallest <= of_plain && of_plain >= n * sizeof(ITEM));
     FN(every_call)(&smallest, items, validity, n);
+    FN(compresses_within)(plain, of_smallest, n);
     flcol_free(&smallest);
 }
 

@@ -43,6 +43,8 @@ static int32_t FN(attempt)(int call) {
         return NUMBER < FLCOL_I8 ? flcol_sum_under_unsigned(&array, validity, ITEM_BYTES, &totals.high, &totals.low)
                                  : flcol_sum_under_signed(&array, validity, ITEM_BYTES, (int64_t *)&totals.high, &totals.low);
     case 31: return flcol_indices_of(validity, ITEM_BYTES, ITEMS, &out);
+    case 32: return CALL(compare_under)(&array, validity, ITEM_BYTES, FLCOL_LT, 20, bits, ITEM_BYTES);
+    case 33: return CALL(between_under)(&array, validity, ITEM_BYTES, 3, 20, 0, 1, bits, ITEM_BYTES);
     default: return LAST_CALL;
     }
 }

@@ -34,6 +34,10 @@ static void FN(ask_selected)(flcol_array *array, const ITEM *values, const uint8
     CHECK(!answers(CALL(min_max_under)(array, valid, bytes, &least, &greatest, &is_none)) || is_none || least <= greatest);
     int is_listed = answers(CALL(is_in)(array, list, 2, bits, bytes, known, bytes));
     for (size_t i = 0; i < n && is_listed; i++) CHECK(!bit(valid, i) || bit(bits, i) == (values[i] == 3 || values[i] == 9));
+    int is_tested = answers(CALL(compare_under)(array, valid, bytes, FLCOL_GTE, 3, bits, bytes));
+    for (size_t i = 0; i < n && is_tested; i++) CHECK(bit(bits, i) == (bit(valid, i) && values[i] >= 3));
+    is_tested = answers(CALL(between_under)(array, valid, bytes, 3, 9, 0, 0, bits, bytes));
+    for (size_t i = 0; i < n && is_tested; i++) CHECK(bit(bits, i) == (bit(valid, i) && values[i] >= 3 && values[i] <= 9));
     if (answers(flcol_is_sorted(array, 0, &is_sorted)) && is_sorted)
         CHECK(!answers(CALL(lower_bound)(array, 3, &position)) || position == n - met);
     answers(flcol_indices_of(valid, bytes, n, &positions));

@@ -23,6 +23,11 @@ void read_bits(struct answers *answers, Datum value) {
     if (DatumGetPointer(value) != (Pointer)bytes) pfree(bytes);
 }
 
+void read_mask(struct answers *answers, Datum value, const struct column *column) {
+    read_bits(answers, value);
+    check(answers_as_mask(answers, column));
+}
+
 /* A value of answers, whose memory is given back. */
 static Datum bits_value(struct answers *answers) {
     flcol_array *array = hold_array();
@@ -59,20 +64,24 @@ Datum sql_flcol_bits_of_bytea(PG_FUNCTION_ARGS) {
 
 /* ---- Tests ---- */
 
-/* The answers of a test of each item. */
-static Datum tested(struct column *column, struct answers *answers, gather_fn *gather, void *test) {
+/* The answers of a test of each item, or of those of a mask where it is not NULL. */
+static Datum tested(struct column *column, const uint8_t *mask, struct answers *answers, gather_fn *gather, void *test) {
     begin(answers);
-    check(answers_begin(answers, column));
-    gather_all(column, NULL, gather, test);
+    check(answers_begin(answers, column, mask == NULL));
+    gather_all(column, mask, gather, test);
     column_close(column);
     return bits_value(answers);
 }
 
 PG_FUNCTION_INFO_V1(sql_flcol_where);
 Datum sql_flcol_where(PG_FUNCTION_ARGS) {
-    struct answers answers;
+    struct answers answers, asked = {0};
     struct compared compared = {operator_argument(PG_GETARG_DATUM(1)), PG_GETARG_INT64(2), &answers};
-    PG_RETURN_DATUM(tested(open_value(PG_GETARG_DATUM(0)), &answers, gather_compared, &compared));
+    struct column *column = open_value(PG_GETARG_DATUM(0));
+    if (PG_NARGS() > 3) read_mask(&asked, PG_GETARG_DATUM(3), column);
+    const Datum bits = tested(column, asked.bits, &answers, gather_compared, &compared);
+    answers_close(&asked);
+    PG_RETURN_DATUM(bits);
 }
 
 PG_FUNCTION_INFO_V1(sql_flcol_is_in);
@@ -84,7 +93,7 @@ Datum sql_flcol_is_in(PG_FUNCTION_ARGS) {
     struct column *column = open_value(PG_GETARG_DATUM(0));
     struct listed listed = {(int64_t *)ARR_DATA_PTR(list), ArrayGetNItems(ARR_NDIM(list), ARR_DIMS(list)), &answers};
     column_narrow(column, listed.list, &listed.len);
-    PG_RETURN_DATUM(tested(column, &answers, gather_listed, &listed));
+    PG_RETURN_DATUM(tested(column, NULL, &answers, gather_listed, &listed));
 }
 
 /* ---- Bits of bits ---- */

@@ -43,12 +43,9 @@ void gather_all(struct column *column, const uint8_t *mask, gather_fn *gather, v
 static void gather_asked(FunctionCallInfo fcinfo, gather_fn *gather, void *gathered) {
     struct column *column = open_value(PG_GETARG_DATUM(0));
     struct answers answers = {0};
-    if (PG_NARGS() > 1) {
-        read_bits(&answers, PG_GETARG_DATUM(1));
-        check(answers_as_mask(&answers, column));
-    }
+    if (PG_NARGS() > 1) read_mask(&answers, PG_GETARG_DATUM(1), column);
     gather_all(column, answers.bits, gather, gathered);
-    if (PG_NARGS() > 1) answers_close(&answers);
+    answers_close(&answers);
     column_close(column);
 }
 

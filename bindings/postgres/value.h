@@ -37,6 +37,9 @@ extern uint8_t operator_argument(Datum value);
 /* The answers of a value of the type `flcol_bits`, in memory of the current context. */
 extern void read_bits(struct answers *answers, Datum value);
 
+/* The answers of such a value as the mask of a column. */
+extern void read_mask(struct answers *answers, Datum value, const struct column *column);
+
 /* How the bytes of a value are tried: a status. */
 typedef int32_t try_fn(const void *bytes, size_t len);
 

@@ -50,8 +50,8 @@ int32_t answers_read(struct answers *answers, const void *container, size_t len)
     return status;
 }
 
-int32_t answers_begin(struct answers *answers, const struct column *column) {
-    return make_room(answers, column->len, column->is_nullable);
+int32_t answers_begin(struct answers *answers, const struct column *column, bool is_of_all) {
+    return make_room(answers, column->len, is_of_all && column->is_nullable);
 }
 
 int32_t answers_array(const struct answers *answers, flcol_array *out) {

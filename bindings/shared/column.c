@@ -29,7 +29,7 @@ struct integer_type {
     int32_t (*count)(struct part *part, uint8_t op, int64_t constant, size_t *count);
     int32_t (*count_between)(flcol_array *array, int64_t lower, int64_t upper, size_t *count);
     int32_t (*min_max)(struct part *part, struct extremes *extremes);
-    int32_t (*compare)(flcol_array *array, uint8_t op, int64_t constant, uint8_t *bits, uint8_t *validity, size_t len);
+    int32_t (*compare)(struct part *part, uint8_t op, int64_t constant, uint8_t *bits, uint8_t *validity);
     int32_t (*is_in)(flcol_array *array, const void *list, size_t list_len, uint8_t *bits, uint8_t *validity, size_t len);
     void (*put)(void *list, size_t index, int64_t value);
 };
@@ -71,9 +71,12 @@ struct integer_type {
         if (status == FLCOL_OK) *extremes = (struct extremes){!is_none, (wide)least, (wide)greatest};                 \
         return status;                                                                                                \
     }                                                                                                                 \
-    static int32_t compare_##T(flcol_array *array, uint8_t op, int64_t constant, uint8_t *bits, uint8_t *validity,    \
-                               size_t len) {                                                                          \
-        return flcol_compare_##T(array, op, (C)constant, bits, len, validity, validity ? len : 0);                    \
+    static int32_t compare_##T(struct part *part, uint8_t op, int64_t constant, uint8_t *bits, uint8_t *validity) {   \
+        const size_t len = bitmap_bytes(part->len);                                                                   \
+        const C item = (C)constant;                                                                                   \
+        return part->mask == NULL                                                                                     \
+                   ? flcol_compare_##T(&part->array, op, item, bits, len, validity, validity ? len : 0)               \
+                   : flcol_compare_under_##T(&part->array, part->mask, len, op, item, bits, len);                     \
     }                                                                                                                 \
     static int32_t is_in_##T(flcol_array *array, const void *list, size_t list_len, uint8_t *bits, uint8_t *validity, \
                              size_t len) {                                                                            \
@@ -290,8 +293,8 @@ int32_t gather_compared(struct column *column, struct part *part, void *gathered
         op = answer ? FLCOL_GTE : FLCOL_LT;
         constant = type->least;
     }
-    return type->compare(&part->array, op, constant, room_at(compared->answers->bits, part),
-                         room_at(compared->answers->validity, part), bitmap_bytes(part->len));
+    return type->compare(part, op, constant, room_at(compared->answers->bits, part),
+                         room_at(compared->answers->validity, part));
 }
 
 int32_t gather_listed(struct column *column, struct part *part, void *gathered) {

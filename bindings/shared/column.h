@@ -145,8 +145,8 @@ struct answers {
    column of integers. FLCOL_LENGTH_OVERFLOW: more than COLUMN_ITEMS. */
 int32_t answers_read(struct answers *answers, const void *container, size_t len);
 
-/* Room for an answer of each item of a column. */
-int32_t answers_begin(struct answers *answers, const struct column *column);
+/* Room for an answer of each item of a column, which is null at a null where all items are asked. */
+int32_t answers_begin(struct answers *answers, const struct column *column, bool is_of_all);
 
 /* The answers as an array of booleans. */
 int32_t answers_array(const struct answers *answers, flcol_array *out);
@@ -169,7 +169,8 @@ int32_t answers_as_mask(struct answers *answers, const struct column *column);
 /* Gives memory back by `resize` with the size 0. */
 void answers_close(struct answers *answers);
 
-/* How items compare with a constant, and the room for the answers of all. */
+/* How items compare with a constant, and the room for the answers of all. Under a mask those of other items and of nulls are
+   false. */
 struct compared {
     uint8_t op;
     int64_t constant;
@@ -183,7 +184,7 @@ struct listed {
     struct answers *answers;
 };
 
-/* Each writes answers to the struct of its name. No mask goes with them. */
+/* Each writes answers to the struct of its name. No mask goes with a list. */
 gather_fn gather_compared, gather_listed;
 
 /* Writes the integers of a list that the column's type has over the list, as integers of that type; `len` becomes how many

@@ -18,6 +18,11 @@ int32_t read_bits(struct answers *answers, sqlite3_value *value) {
     return answers_read(answers, bytes, (size_t)sqlite3_value_bytes(value));
 }
 
+int32_t read_mask(struct answers *answers, sqlite3_value *value, const struct column *column) {
+    const int32_t status = read_bits(answers, value);
+    return status == FLCOL_OK ? answers_as_mask(answers, column) : status;
+}
+
 /* Answers as the function's result, or the error of a status, and gives their memory back. */
 static void answer_bits(sqlite3_context *context, int32_t status, struct answers *answers) {
     flcol_array array = FLCOL_EMPTY;
@@ -28,24 +33,26 @@ static void answer_bits(sqlite3_context *context, int32_t status, struct answers
 
 /* ---- Tests ---- */
 
-/* The answers of a test of each item. */
-static int32_t answer_test(sqlite3_context *context, struct column *column, struct answers *answers, gather_fn *gather,
-                           void *test) {
-    int32_t status = answers_begin(answers, column);
-    if (status == FLCOL_OK) status = gather_all(context, column, NULL, gather, test);
+/* The answers of a test of each item, or of those of a mask where it is not NULL. */
+static int32_t answer_test(sqlite3_context *context, struct column *column, const uint8_t *mask, struct answers *answers,
+                           gather_fn *gather, void *test) {
+    int32_t status = answers_begin(answers, column, mask == NULL);
+    if (status == FLCOL_OK) status = gather_all(context, column, mask, gather, test);
     answer_bits(context, status, answers);
     return FLCOL_OK;
 }
 
 static int32_t answer_where(sqlite3_context *context, struct column *column, int count, sqlite3_value **values) {
-    (void)count;
-    struct answers answers = no_answers();
+    struct answers answers = no_answers(), asked = no_answers();
     struct compared compared = {.answers = &answers};
     const char *text = (const char *)sqlite3_value_text(values[1]);
     if (text == NULL) return FLCOL_OUT_OF_MEMORY;
     int32_t status = operator_of(text, (size_t)sqlite3_value_bytes(values[1]), &compared.op);
     if (status == FLCOL_OK) status = integer_value(values[2], &compared.constant);
-    return status == FLCOL_OK ? answer_test(context, column, &answers, gather_compared, &compared) : status;
+    if (status == FLCOL_OK && count > 3) status = read_mask(&asked, values[3], column);
+    if (status == FLCOL_OK) status = answer_test(context, column, asked.bits, &answers, gather_compared, &compared);
+    answers_close(&asked);
+    return status;
 }
 
 /* The integers behind the column, of which each is one of the list. */
@@ -65,7 +72,7 @@ static int32_t answer_is_in(sqlite3_context *context, struct column *column, int
     int32_t status = read_list(count, values, &listed);
     if (status == FLCOL_OK) {
         column_narrow(column, listed.list, &listed.len);
-        status = answer_test(context, column, &answers, gather_listed, &listed);
+        status = answer_test(context, column, NULL, &answers, gather_listed, &listed);
     }
     sqlite3_free(listed.list);
     return status;
@@ -127,6 +134,7 @@ static void flcol_count_bits_sql(sqlite3_context *context, int count, sqlite3_va
 
 int add_bits(sqlite3 *db) {
     int code = add_function(db, "flcol_where", 3, flcol_where_sql);
+    if (code == SQLITE_OK) code = add_function(db, "flcol_where", 4, flcol_where_sql);
     if (code == SQLITE_OK) code = add_function(db, "flcol_is_in", -1, flcol_is_in_sql);
     if (code == SQLITE_OK) code = add_function(db, "flcol_and", 2, flcol_and_sql);
     if (code == SQLITE_OK) code = add_function(db, "flcol_or", 2, flcol_or_sql);

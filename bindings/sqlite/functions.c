@@ -181,8 +181,7 @@ static int32_t gather_asked(sqlite3_context *context, struct column *column, int
                             gather_fn *gather, void *gathered) {
     if (count == 1) return gather_all(context, column, NULL, gather, gathered);
     struct answers answers = no_answers();
-    int32_t status = read_bits(&answers, values[1]);
-    if (status == FLCOL_OK) status = answers_as_mask(&answers, column);
+    int32_t status = read_mask(&answers, values[1], column);
     if (status == FLCOL_OK) status = gather_all(context, column, answers.bits, gather, gathered);
     answers_close(&answers);
     return status;

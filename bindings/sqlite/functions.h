@@ -46,6 +46,9 @@ struct answers no_answers(void);
 /* The answers of a value. FLCOL_BAD_CONTAINER: it is no blob. */
 int32_t read_bits(struct answers *answers, sqlite3_value *value);
 
+/* The answers of a value as the mask of a column. FLCOL_BAD_CONTAINER. FLCOL_MASK_LENGTH. */
+int32_t read_mask(struct answers *answers, sqlite3_value *value, const struct column *column);
+
 /* Adds a function to a connection; the answer is a code of SQLite. */
 int add_function(sqlite3 *db, const char *name, int count, void (*function)(sqlite3_context *, int, sqlite3_value **));
 

@@ -107,6 +107,8 @@ class Columns(Case):
         tests = (("flcol_where(:c, :op, :a)", "x {op} :a"), ("flcol_not(flcol_where(:c, :op, :a))", "NOT x {op} :a"),
                  ("flcol_and(flcol_where(:c, :op, :a), flcol_where(:c, '>', :b))", "x {op} :a AND x > :b"),
                  ("flcol_or(flcol_where(:c, :op, :a), flcol_where(:c, '=', :b))", "x {op} :a OR x = :b"),
+                 ("flcol_where(:c, :op, :a, flcol_where(:c, '>', :b))", "x {op} :a AND x > :b"),
+                 ("flcol_not(flcol_where(:c, :op, :a, flcol_where(:c, '<=', :b)))", "coalesce(NOT (x {op} :a AND x <= :b), 1)"),
                  ("flcol_is_in(:c, :a, :b)", "x IN (:a, :b)"), ("flcol_not(flcol_is_in(:c, :a))", "x NOT IN (:a)"))  # fmt: skip
         for op in OPERATORS:
             words = {"c": blob, "op": op, "a": self.chance.choice(constants), "b": self.chance.choice(constants)}
@@ -116,10 +118,11 @@ class Columns(Case):
 
     def select_by(self, bits, statement, words):
         """What is gathered under bits, beside the rows of a statement."""
-        met = [item for item, in self.base.execute(statement, words)]
+        rows = [item for item, in self.base.execute(statement, words)]
+        met = [item for item in rows if item is not None]
         asked = f"SELECT flcol_count({bits}), flcol_min(:c, {bits}), flcol_max(:c, {bits}), flcol_avg(:c, {bits})"
         *found, mean = self.base.execute(asked, words).fetchone()
-        self.assertEqual(found, [len(met), min(met, default=None), max(met, default=None)])
+        self.assertEqual(found, [len(rows), min(met, default=None), max(met, default=None)])
         if met:
             self.assertAlmostEqual(mean, sum(met) / len(met), delta=abs(sum(met) / len(met)) * 2**-52)
         else:
@@ -210,9 +213,11 @@ class Columns(Case):
         for a, b in ((0, 140_003), (1, 70_000), (65_535, 140_003), (65_536, 131_072)):
             part = self.ask("SELECT flcol_slice(?, ?, ?)", blob, a, b)
             bits = "flcol_and(flcol_where(?1, '>=', 300), flcol_not(flcol_is_in(?1, 400, 999, 1000000)))"
-            asked = f"SELECT flcol_count({bits}), flcol_sum(?1, {bits}), flcol_max(?1, {bits})"
             plain = "SELECT count(*), sum(x), max(x) FROM plain WHERE i >= ?1 AND i < ?2 AND x >= 300 AND x NOT IN (400, 999)"
-            self.assertEqual(self.base.execute(asked, (part,)).fetchone(), self.base.execute(plain, (a, b)).fetchone())
+            under = "flcol_where(?1, '>=', 300, flcol_not(flcol_is_in(?1, 400, 999, 1000000)))"
+            for met in (bits, under):
+                asked = f"SELECT flcol_count({met}), flcol_sum(?1, {met}), flcol_max(?1, {met})"
+                self.assertEqual(self.base.execute(asked, (part,)).fetchone(), self.base.execute(plain, (a, b)).fetchone())
 
     def test_bits_are_columns_of_booleans(self):
         """What other languages read of them, and what they write, is the same."""
@@ -337,6 +342,7 @@ class Worked(Case):
         """Asks everything of a blob, and counts the answers that are a refusal; nothing else may be one."""
         asked = ("flcol_len(?1)", "flcol_inspect(?1)", "flcol_get(?1, 0)", "flcol_slice(?1, 0, 1)", "flcol_count(?1, '<', 2)",
                  "flcol_count_between(?1, 1, 2)", "flcol_count(flcol_where(?1, '<', 2))", "flcol_count(flcol_is_in(?1, 3))",
+                 "flcol_count(flcol_where(?1, '<', 3, flcol_where(?1, '>', 1)))",
                  "flcol_sum(?1, flcol_where(?1, '>', 2))", "flcol_min(?1, flcol_where(?1, '>', 2))", "flcol_min(?1)", "flcol_max(?1)", "flcol_avg(?1)", "flcol_nulls(?1)",
                  "(SELECT count(value) FROM (SELECT value FROM flcol_each(?1) LIMIT 9))")  # fmt: skip
         refused = 0
@@ -368,7 +374,7 @@ class Worked(Case):
             for blob in containers.changes(bits):
                 words = {"it": blob, "bits": bits, "column": column}
                 for call in ("flcol_count(:it)", "flcol_not(:it)", "flcol_and(:it, :bits)", "flcol_or(:bits, :it)",
-                             "flcol_sum(:column, :it)", "flcol_max(:column, :it)"):  # fmt: skip
+                             "flcol_sum(:column, :it)", "flcol_max(:column, :it)", "flcol_where(:column, '>', 7, :it)"):  # fmt: skip
                     try:
                         self.base.execute(f"SELECT {call}", words).fetchall()
                     except (sqlite3.OperationalError, MemoryError) as error:
@@ -413,11 +419,14 @@ class Errors(Case):
                 self.refused("flcol: BadContainer", f"SELECT {call}", value)
             self.refused("flcol: BadContainer", "SELECT flcol_and(?, ?)", bits, value)
             self.refused("flcol: BadContainer", "SELECT flcol_sum(?, ?)", column, value)
+            self.refused("flcol: BadContainer", "SELECT flcol_where(?, '<', 3, ?)", column, value)
         for call in ("flcol_count(?)", "flcol_not(?)"):
             self.refused("flcol: WrongType", f"SELECT {call}", column)
         self.refused("flcol: WrongType", "SELECT flcol_or(?, ?)", bits, column)
         self.refused("flcol: WrongType", "SELECT flcol_min(?, ?)", column, column)
+        self.refused("flcol: WrongType", "SELECT flcol_where(?, '<', 3, ?)", column, column)
         self.refused("flcol: MaskLength", "SELECT flcol_sum(?, ?)", column, bits)
+        self.refused("flcol: MaskLength", "SELECT flcol_where(?, '<', 3, ?)", column, bits)
         self.refused("flcol: MaskLength", "SELECT flcol_and(?, flcol_where(?, '<', 3))", bits, column)
         self.refused("flcol: NotInteger", "SELECT flcol_sum(?, ?)", bits, bits)
         self.refused("flcol: NotInteger", "SELECT flcol_where(?, '<', 3)", bits)
@@ -449,7 +458,7 @@ class Errors(Case):
         calls = {"flcol_len": ("?1",), "flcol_inspect": ("?1",), "flcol_sum": ("?1",), "flcol_max": ("?1",), "flcol_nulls": ("?1",), "flcol_get": ("?1", "0"), "flcol_slice": ("?1", "0", "1"),
                  "flcol_where": ("?1", "'='", "1"), "flcol_is_in": ("?1", "1", "2"), "flcol_not": ("?1",), "flcol_and": ("?1", "?1"),
                  "flcol_min": ("?1", "?1"), "flcol_count": ("?1", "'='", "1"), "flcol_count_between": ("?1", "1", "1"), "flcol": ("1", "'for(bitpacked)'")}  # fmt: skip
-        for name, words in calls.items():
+        for name, words in [*calls.items(), ("flcol_where", ("?1", "'='", "1", "flcol_where(?1, '=', 1)"))]:
             for at in range(len(words)):
                 for kind in kinds:
                     call = f"{name}({', '.join([*words[:at], kind, *words[at + 1:]])})"
@@ -462,9 +471,9 @@ class Errors(Case):
 
     def test_as_many_arguments_as_there_are(self):
         for call in ("flcol()", "flcol(1, 'for', 2)", "flcol_len()", "flcol_get(?)", "flcol_count(?, '=')", "flcol_inspect(?, 1)", "flcol_is_in()",
-                     "flcol_where(?)", "flcol_and(?)", "flcol_not(?, ?)", "flcol_sum(?, 1, 2)"):
+                     "flcol_where(?)", "flcol_where(?, '=', 1, ?, ?)", "flcol_and(?)", "flcol_not(?, ?)", "flcol_sum(?, 1, 2)"):
             with self.assertRaisesRegex(sqlite3.OperationalError, "wrong number of arguments"):
-                self.base.execute(f"SELECT {call}", (containers.PACKED,) if "?" in call else ())
+                self.base.execute(f"SELECT {call}", (containers.PACKED,) * call.count("?"))
 
     def test_items_above_64_bits_signed(self):
         blob = containers.plain("u64", [1, 2**63])
@@ -480,7 +489,7 @@ class Errors(Case):
         self.refused("flcol: NoArray", "SELECT * FROM flcol_each")
 
     def test_nulls_are_passed_on(self):
-        for function in ("flcol_len(NULL)", "flcol_sum(NULL)", "flcol_avg(NULL)", "flcol_nulls(NULL)", "flcol_where(NULL, '<', 1)", "flcol_is_in(?, 1, NULL)", "flcol_sum(?, NULL)",
+        for function in ("flcol_len(NULL)", "flcol_sum(NULL)", "flcol_avg(NULL)", "flcol_nulls(NULL)", "flcol_where(NULL, '<', 1)", "flcol_where(?, '<', 1, NULL)", "flcol_is_in(?, 1, NULL)", "flcol_sum(?, NULL)",
                          "flcol_not(NULL)", "flcol_and(NULL, NULL)", "flcol_count(NULL)", "flcol_get(NULL, 1)", "flcol_count(?, NULL, 1)", "flcol_slice(?, 0, NULL)"):
             values = (containers.PACKED,) if "?" in function else ()
             self.assertIsNone(self.ask(f"SELECT {function}", *values))

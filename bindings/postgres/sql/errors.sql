@@ -67,6 +67,7 @@ SELECT :packed::flcol_bits;
 SELECT :packed::flcol::bytea::flcol_bits;
 SELECT '\x464c43310f766f727465782e636f6e7374616e740001000010000000000200000020030000'::flcol_bits;
 SELECT flcol_sum(:packed, flcol_where(flcol_slice(:packed, 0, 2), '<', 1));
+SELECT flcol_where(:packed, '<', 1, flcol_where(flcol_slice(:packed, 0, 2), '<', 1));
 SELECT flcol_where(:packed, '<', 1) & flcol_where(flcol_slice(:packed, 0, 2), '<', 1);
 SELECT flcol_where(:packed, '==', 1);
 SELECT flcol_is_in(:packed, '{1,NULL}');

@@ -40,12 +40,15 @@ FROM (SELECT flcol_where(:framed, '<=', 101) AS low, flcol_where(:framed, '>=', 
 SELECT flcol_sum(:framed, bits), flcol_avg(:framed, bits), flcol_min(:framed, bits), flcol_max(:framed, bits)
 FROM (VALUES (flcol_where(:framed, '>', 101)), (flcol_where(:framed, '<', 0)), (flcol_is_in(:framed, '{}'))) each(bits);
 SELECT bits::text::flcol_bits::bytea = bits::bytea AS "the same", flcol_count(bits::bytea::flcol_bits) FROM (SELECT flcol_where(:packed, '>', 1) AS bits) each;
+-- Under bits no answer is null: it is false where the bits are not true, and at a null.
+SELECT operator, flcol_count(under) AS met, flcol_count(!under) AS "not", flcol_sum(:framed, under)
+FROM unnest('{>,<=,<>}'::flcol_operator[]) operator, LATERAL (SELECT flcol_where(:framed, operator, 102, flcol_where(:framed, '>', 101)) AS under) made;
 
 -- A null is passed on.
 SELECT flcol_len(NULL), flcol_get(NULL, 0), flcol_get(:packed, NULL), flcol_count(:packed, NULL, 1),
        flcol_slice(NULL, 0, 1), flcol_count_between(:packed, 1, NULL), flcol_inspect(NULL), flcol_sum(NULL), flcol_max(NULL);
 SELECT flcol_unnest(NULL);
-SELECT flcol_where(NULL, '<', 1), flcol_where(:packed, '<', NULL), flcol_is_in(:packed, NULL), flcol_sum(:packed, NULL), flcol_count(NULL::flcol_bits), !NULL::flcol_bits, NULL & flcol_where(:packed, '<', 1);
+SELECT flcol_where(NULL, '<', 1), flcol_where(:packed, '<', NULL), flcol_where(:packed, '<', 1, NULL) AS "no bits", flcol_is_in(:packed, NULL), flcol_sum(:packed, NULL), flcol_count(NULL::flcol_bits), !NULL::flcol_bits, NULL & flcol_where(:packed, '<', 1);
 
 -- What is written as text or as bytes is read as the same.
 CREATE TABLE kept (items flcol);

@@ -55,6 +55,9 @@ FROM columns JOIN outsides USING (k), LATERAL (SELECT flcol_where(items, '<', a)
 WHERE flcol_sum(items, bits) IS DISTINCT FROM total OR flcol_avg(items, bits) IS DISTINCT FROM mean
     OR flcol_min(items, bits) IS DISTINCT FROM least OR flcol_max(items, bits) IS DISTINCT FROM greatest
     OR flcol_sum(items, !flcol_is_in(items, ARRAY[a, b])) IS DISTINCT FROM others;
+SELECT 'bits under bits', count(*)
+FROM columns JOIN betweens USING (k), LATERAL (SELECT flcol_where(items, '<=', b, flcol_where(items, '>=', a)) AS under) each
+WHERE flcol_count(under) <> met OR flcol_count(!under) <> flcol_len(items) - met;
 
 -- Workers that each gather a part give the same items, in whatever order.
 SET parallel_setup_cost = 0;

@@ -7,7 +7,7 @@ BEGIN
     items := bytes::flcol;
     PERFORM flcol_len(items), flcol_inspect(items), flcol_len(flcol_slice(items, 0, 0)), flcol_count(items, '<', 2),
         flcol_count_between(items, 1, 2), flcol_sum(items), flcol_avg(items), flcol_nulls(items), flcol_min(items), flcol_max(items),
-        flcol_count(flcol_where(items, '<', 2) | !flcol_is_in(items, '{3,4}')), flcol_sum(items, flcol_where(items, '>', 2));
+        flcol_count(flcol_where(items, '<', 2) | !flcol_is_in(items, '{3,4}')), flcol_count(flcol_where(items, '<', 3, flcol_where(items, '>', 1))), flcol_sum(items, flcol_where(items, '>', 2));
     IF flcol_len(items) > 0 THEN
         PERFORM flcol_get(items, 0), (SELECT count(*) FROM (SELECT flcol_unnest(items) LIMIT 9) first);
     END IF;

@@ -1,6 +1,6 @@
 SELECT flcol_len(items), flcol_get(items, 3), flcol_count(items, '<', 3), flcol_count_between(items, 1, 2), flcol_inspect(items) FROM columns WHERE k < 3;
 SELECT flcol_sum(items), flcol_avg(items), flcol_min(items), flcol_max(items), flcol_nulls(items) FROM columns WHERE k < 3;
-SELECT flcol_count(flcol_where(items, '<', 3) & !flcol_is_in(items, '{1,2}')), flcol_sum(items, flcol_where(items, '<', 3) | flcol_where(items, '>', 5)) FROM columns WHERE k < 3;
+SELECT flcol_count(flcol_where(items, '<', 3) & !flcol_is_in(items, '{1,2}')), flcol_count(flcol_where(items, '<', 3, flcol_where(items, '>', 1))), flcol_sum(items, flcol_where(items, '<', 3) | flcol_where(items, '>', 5)) FROM columns WHERE k < 3;
 SELECT flcol_sum(items, flcol_where(flcol_slice(items, 0, 0), '<', 3)) FROM columns;
 SELECT '\x00'::flcol_bits;
 SELECT sum(item) FROM columns, flcol_unnest(items) item WHERE k < 9;

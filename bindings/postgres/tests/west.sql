@@ -20,5 +20,16 @@ INSERT INTO chunks
     FROM generate_series(0, :chunks - 1) chunk,
         LATERAL (SELECT flcol_agg(i * 7919 % 1000) AS column_of
                  FROM generate_series(chunk * :items::bigint, (chunk + 1) * :items::bigint - 1) i) made;
+
+-- 40 chunks of a thousand rising items, with the least and the greatest of each.
+CREATE TABLE ranged (shard integer NOT NULL, chunk bigint NOT NULL, items flcol NOT NULL,
+    least bigint GENERATED ALWAYS AS (flcol_min(items)) STORED,
+    greatest bigint GENERATED ALWAYS AS (flcol_max(items)) STORED) PARTITION BY LIST (shard);
+CREATE TABLE ranged_0 PARTITION OF ranged FOR VALUES IN (0);
+CREATE INDEX ON ranged_0 (least, greatest);
+CREATE FOREIGN TABLE ranged_1 PARTITION OF ranged FOR VALUES IN (1) SERVER east_1;
+INSERT INTO ranged
+    SELECT id / 20000, id / 1000, flcol_agg(id ORDER BY id) FROM generate_series(0::bigint, 39999) id GROUP BY id / 20000, id / 1000;
+ANALYZE ranged;
 ANALYZE chunks;
 ANALYZE plain;

@@ -134,19 +134,36 @@ class Array(Column):
         """How many items compare so with an integer, by ``==``, ``!=``, ``<``, ``<=``, ``>`` or ``>=``; no null does."""
         return self._count(self._mask_of(where), *self._comparison(_operator(op), constant))
 
-    def count_between(self, lower: int, upper: int, inclusive: str = "both") -> int:
+    def count_between(self, lower: int, upper: int, inclusive: str = "both", where: Any = True) -> int:
         """How many items lie between two bounds; ``inclusive`` is that of ``between``."""
+        if where is not True:
+            return self.mask_between(lower, upper, inclusive, where).true_count
         return self._ask(f"count_between_{self._kind.short}", c_size_t, *self._bounds(lower, upper, inclusive))
 
     # Choosing items
 
-    def where(self, op: str, constant: int) -> Array:
+    def where(self, op: str, constant: int, where: Any = True) -> Array:
         """The items that compare so with an integer, in their order, as a plain array; operators as of ``count_where``."""
+        if where is not True:
+            return self.filter(self.mask_where(op, constant, where))
         return self._made(f"filter_by_{self._kind.short}", *self._comparison(_operator(op), constant))
 
-    def where_between(self, lower: int, upper: int, inclusive: str = "both") -> Array:
+    def where_between(self, lower: int, upper: int, inclusive: str = "both", where: Any = True) -> Array:
         """The items that lie between two bounds, in their order, as a plain array; ``inclusive`` is that of ``between``."""
+        if where is not True:
+            return self.filter(self.mask_between(lower, upper, inclusive, where))
         return self._made(f"filter_between_{self._kind.short}", *self._bounds(lower, upper, inclusive))
+
+    def mask_where(self, op: str, constant: int, where: Any = True) -> BoolArray:
+        """Which items compare so with an integer: no null does, and under a mask no item that it is not True for.
+
+        The answer is a mask in its turn, for this array and those beside it; operators as of ``count_where``.
+        """
+        return self._passing(where, "compare", *self._comparison(_operator(op), constant))
+
+    def mask_between(self, lower: int, upper: int, inclusive: str = "both", where: Any = True) -> BoolArray:
+        """Which items lie between two bounds, as a mask, as of ``mask_where``; ``inclusive`` is that of ``between``."""
+        return self._passing(where, "between", *self._bounds(lower, upper, inclusive))
 
     def lower_bound(self, value: int) -> int:
         """The first index whose item is not below an integer, or the length. Few blocks of a sorted array are read.
@@ -197,6 +214,15 @@ class Array(Column):
 
     def _count_under(self, mask: bytes) -> int:
         return self._count(mask, _GTE, self._kind.least)
+
+    def _passing(self, where: Any, test: str, *arguments: Any) -> BoolArray:
+        mask = self._mask_of(where)
+        if mask is None:
+            return BoolArray(self._answers(f"{test}_", *arguments).mask(), None, self._size)
+        bits = new_bytes(len(mask))
+        with address(mask) as at, address(bits) as to:
+            self._call(f"{test}_under_{self._kind.short}", at, len(mask), *arguments, to, len(bits))
+        return BoolArray(bits, None, self._size)
 
     def _as_places(self, length: int) -> Places:
         """The items as indices into so many others."""

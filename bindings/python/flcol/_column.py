@@ -7,6 +7,7 @@ from typing import Any, Iterable, Iterator, Optional, TypeVar
 
 from ._arrow import capsules_of, schema_of, stream_of
 from ._bits import bytes_of_bits, is_flag, packed
+from ._limits import depth_of, encoding_bits
 from ._buffers import address, new_bytes
 from ._dtypes import KINDS, NULLABLE, DType, Kind, name_of, numpy
 from ._indexing import Places, is_mask, places_of, plain_key, range_words
@@ -216,9 +217,15 @@ class Column:
         text = scheme.encode("utf-8", "surrogatepass")
         return self._made("encode", text, len(text))
 
-    def compress(self: Same) -> Same:
-        """The same column by the scheme that takes the fewest bytes."""
-        return self._made("compress")
+    def compress(self: Same, encodings: Optional[Iterable[str]] = None, depth: int = 3) -> Same:
+        """The same column by the scheme that takes the fewest bytes.
+
+        Of all ``encodings``, which are ``constant``, ``bitpacked``, ``for``, ``delta``, ``rle`` and ``dict``, or of those
+        that are named alone; and of those that nest at most ``depth`` of them in one another. Fewer compress faster.
+        """
+        if encodings is None and depth == 3:
+            return self._made("compress")
+        return self._made("compress_within", encoding_bits(encodings), depth_of(depth))
 
     def to_blocked(self: Same) -> Same:
         """The same array with a boundary for each block wherever it is bit-packed at one width."""

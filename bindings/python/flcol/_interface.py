@@ -5,7 +5,7 @@ from ctypes import POINTER, Structure, c_char_p, c_int16, c_int32, c_int64, c_in
 from typing import Any
 
 #: The version of the package and of the library, the version of the interface, and the file that the loader finds.
-VERSION = "1.3.0"
+VERSION = "1.4.0"
 ABI_VERSION = 2
 LIBRARY = "libflcol.so.1"
 
@@ -46,6 +46,7 @@ CALLS: dict[str, tuple[Any, list[Any]]] = {
     "flcol_deserialize": (c_int32, [c_void_p, c_size_t, POINTER(Handle)]),
     "flcol_encode": (c_int32, [POINTER(Handle), c_void_p, c_size_t, POINTER(Handle)]),
     "flcol_compress": (c_int32, [POINTER(Handle), POINTER(Handle)]),
+    "flcol_compress_within": (c_int32, [POINTER(Handle), c_uint8, c_uint8, POINTER(Handle)]),
     "flcol_len": (c_int32, [POINTER(Handle), POINTER(c_size_t)]),
     "flcol_dtype": (c_int32, [POINTER(Handle), POINTER(c_uint8)]),
     "flcol_null_count": (c_int32, [POINTER(Handle), POINTER(c_size_t)]),
@@ -153,6 +154,22 @@ CALLS: dict[str, tuple[Any, list[Any]]] = {
     "flcol_count_under_i16": (c_int32, [POINTER(Handle), c_void_p, c_size_t, c_uint8, c_int16, POINTER(c_size_t)]),
     "flcol_count_under_i32": (c_int32, [POINTER(Handle), c_void_p, c_size_t, c_uint8, c_int32, POINTER(c_size_t)]),
     "flcol_count_under_i64": (c_int32, [POINTER(Handle), c_void_p, c_size_t, c_uint8, c_int64, POINTER(c_size_t)]),
+    "flcol_compare_under_u8": (c_int32, [POINTER(Handle), c_void_p, c_size_t, c_uint8, c_uint8, c_void_p, c_size_t]),
+    "flcol_compare_under_u16": (c_int32, [POINTER(Handle), c_void_p, c_size_t, c_uint8, c_uint16, c_void_p, c_size_t]),
+    "flcol_compare_under_u32": (c_int32, [POINTER(Handle), c_void_p, c_size_t, c_uint8, c_uint32, c_void_p, c_size_t]),
+    "flcol_compare_under_u64": (c_int32, [POINTER(Handle), c_void_p, c_size_t, c_uint8, c_uint64, c_void_p, c_size_t]),
+    "flcol_compare_under_i8": (c_int32, [POINTER(Handle), c_void_p, c_size_t, c_uint8, c_int8, c_void_p, c_size_t]),
+    "flcol_compare_under_i16": (c_int32, [POINTER(Handle), c_void_p, c_size_t, c_uint8, c_int16, c_void_p, c_size_t]),
+    "flcol_compare_under_i32": (c_int32, [POINTER(Handle), c_void_p, c_size_t, c_uint8, c_int32, c_void_p, c_size_t]),
+    "flcol_compare_under_i64": (c_int32, [POINTER(Handle), c_void_p, c_size_t, c_uint8, c_int64, c_void_p, c_size_t]),
+    "flcol_between_under_u8": (c_int32, [POINTER(Handle), c_void_p, c_size_t, c_uint8, c_uint8, c_uint8, c_uint8, c_void_p, c_size_t]),
+    "flcol_between_under_u16": (c_int32, [POINTER(Handle), c_void_p, c_size_t, c_uint16, c_uint16, c_uint8, c_uint8, c_void_p, c_size_t]),
+    "flcol_between_under_u32": (c_int32, [POINTER(Handle), c_void_p, c_size_t, c_uint32, c_uint32, c_uint8, c_uint8, c_void_p, c_size_t]),
+    "flcol_between_under_u64": (c_int32, [POINTER(Handle), c_void_p, c_size_t, c_uint64, c_uint64, c_uint8, c_uint8, c_void_p, c_size_t]),
+    "flcol_between_under_i8": (c_int32, [POINTER(Handle), c_void_p, c_size_t, c_int8, c_int8, c_uint8, c_uint8, c_void_p, c_size_t]),
+    "flcol_between_under_i16": (c_int32, [POINTER(Handle), c_void_p, c_size_t, c_int16, c_int16, c_uint8, c_uint8, c_void_p, c_size_t]),
+    "flcol_between_under_i32": (c_int32, [POINTER(Handle), c_void_p, c_size_t, c_int32, c_int32, c_uint8, c_uint8, c_void_p, c_size_t]),
+    "flcol_between_under_i64": (c_int32, [POINTER(Handle), c_void_p, c_size_t, c_int64, c_int64, c_uint8, c_uint8, c_void_p, c_size_t]),
     "flcol_min_max_under_u8": (c_int32, [POINTER(Handle), c_void_p, c_size_t, POINTER(c_uint8), POINTER(c_uint8), POINTER(c_uint8)]),
     "flcol_min_max_under_u16": (c_int32, [POINTER(Handle), c_void_p, c_size_t, POINTER(c_uint16), POINTER(c_uint16), POINTER(c_uint8)]),
     "flcol_min_max_under_u32": (c_int32, [POINTER(Handle), c_void_p, c_size_t, POINTER(c_uint32), POINTER(c_uint32), POINTER(c_uint8)]),
@@ -266,6 +283,7 @@ STATUSES: dict[int, tuple[str, str]] = {
     103: ("BadScheme", "the text says no scheme, or nests too deep"),
     104: ("BadOperator", "the operator of comparison is not known"),
     105: ("Stream", "the stream failed"),
+    106: ("BadEncodings", "a bit stands for no encoding"),
 }
 UNKNOWN = ("Unknown", "no status has this number")
 # fmt: on

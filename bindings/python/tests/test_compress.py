@@ -76,6 +76,31 @@ class Compress(unittest.TestCase):
             items = array("Q", [chance.getrandbits(bits) for _ in range(5120)])
             self.assertEqual(flcol.array(items).compress().nbytes, 128 * bits * 5)
 
+    def test_encodings_that_are_named(self):
+        items = array("Q", [10**12 + 7 * i for i in range(2100)])
+        plain = flcol.array(items)
+        least = plain.compress()
+        self.assertEqual(plain.compress(encodings=None, depth=4).nbytes, plain.compress(depth=4).nbytes)
+        self.assertEqual(plain.compress(depth=10**30).scheme, plain.compress(depth=4).scheme)
+        self.assertEqual(plain.compress(["constant", "bitpacked", "for", "delta", "rle", "dict"]).scheme, least.scheme)
+        for encodings, word in (([], "primitive"), (["bitpacked"], "blocked"), (("constant", "dict"), "primitive")):
+            made = plain.compress(encodings)
+            self.assertEqual(made.scheme, word)
+            self.assertGreaterEqual(made.nbytes, least.nbytes)
+            self.assertEqual(made.to_list(), list(items))
+        self.assertEqual(plain.compress(depth=0).scheme, "primitive")
+        self.assertTrue(plain.compress({"for", "bitpacked"}, depth=2).scheme.startswith("for"))
+
+    def test_wrong_limits(self):
+        plain = flcol.array(array("B", b"abc"))
+        for encodings in (["lz4"], [None], [1], ["FOR"], ["for(bitpacked)"]):
+            self.assertRaises(ValueError, plain.compress, encodings)
+        for encodings in ("for", 3, 1.5):
+            self.assertRaises(TypeError, plain.compress, encodings)
+        self.assertRaises(ValueError, plain.compress, depth=-1)
+        for depth in (True, 1.0, "1", None):
+            self.assertRaises(TypeError, plain.compress, depth=depth)
+
 
 if __name__ == "__main__":
     unittest.main()

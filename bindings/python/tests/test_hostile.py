@@ -37,6 +37,8 @@ def ask_selections(array, items, known):
     high, mask = [item for item in known if item >= 3], array >= 3
     assert (array.sum(where=mask), array.count(where=mask)) == (sum(high), len(high))
     assert array.min_max(where=mask) == ((min(high), max(high)) if high else (None, None))
+    assert array.mask_where("<", 9, where=mask).to_list() == [item is not None and 3 <= item < 9 for item in items]
+    assert array.count_between(4, 9, where=mask) == sum(4 <= item <= 9 for item in known)
     assert array.is_in([3, 4]).to_list() == [None if item is None else item in (3, 4) for item in items]
     assert array.take(mask.indices()).to_list() == high
     if array.is_sorted():

@@ -1,4 +1,5 @@
 """What is asked under a mask, which items are among others, where a value stands in sorted ones, and positions, beside loops."""
+import functools
 import itertools
 import operator
 import unittest
@@ -37,7 +38,8 @@ def sorted_items(dtype, length, nulls):
 
 class UnderAMask(unittest.TestCase):
     def check(self, items, a, mask):
-        known = kept(items, mask)
+        flags = [True] * len(items) if mask is True else [bool(it) for it in mask]
+        known = kept(items, flags)
         extremes = (min(known), max(known)) if known else (None, None)
         least, greatest = bounds(a.dtype.rstrip("?"))
         self.assertEqual((a.sum(where=mask), a.count(where=mask), a.min_max(where=mask)), (sum(known), len(known), extremes))
@@ -47,12 +49,39 @@ class UnderAMask(unittest.TestCase):
             for constant in (5, (least, greatest)[at % 2], (-(2**70), 2**70)[at % 2]):
                 met = sum(holds(item, constant) for item in known)
                 self.assertEqual(a.count_where(op, constant, where=mask), met, (op, constant))
+            wanted = [keeps and item is not None and holds(item, 5) for item, keeps in zip(items, flags)]
+            self.passes(items, a.mask_where(op, 5, where=mask), wanted)
+            self.assertEqual(a.where(op, 5, where=mask).to_list(), kept(items, wanted))
+            wide = (-(2**70), 2**70)[at % 2]
+            wanted = [keeps and item is not None and holds(item, wide) for item, keeps in zip(items, flags)]
+            self.passes(items, a.mask_where(op, wide, where=mask), wanted)
+
+    def passes(self, items, answers, wanted):
+        """Answers that are a mask: none is null."""
+        self.assertEqual((answers.to_list(), answers.nullable), (wanted, False))
+        self.assertEqual(answers.validity, None)
+        self.assertEqual(len(answers), len(items))
+
+    def check_ranges(self, items, a, mask):
+        least, greatest = bounds(a.dtype.rstrip("?"))
+        flags = [True] * len(items) if mask is True else mask
+        ranges = (2, 9), (least, greatest), (-(2**70), 2**70), (2, 8), (9, 2)
+        for (lower, upper), inclusive in zip(ranges, itertools.cycle(("both", "left", "right", "neither"))):
+            low, high = lower + (inclusive in ("right", "neither")), upper - (inclusive in ("left", "neither"))
+            wanted = [keeps and item is not None and low <= item <= high for item, keeps in zip(items, flags)]
+            self.passes(items, a.mask_between(lower, upper, inclusive, where=mask), wanted)
+            self.assertEqual(a.count_between(lower, upper, inclusive, where=mask), sum(wanted))
+            self.assertEqual(a.where_between(lower, upper, inclusive, where=mask).to_list(), kept(items, wanted))
 
     def test_each_column(self):
         for name, items, a in columns((0, 1, 1025, 3000)):
             for at, mask in enumerate(masks(len(items))):
                 with self.subTest(f"{name}, mask {at}"):
                     self.check(items, a, mask)
+                    self.check_ranges(items, a, mask)
+            with self.subTest(f"{name}, no mask"):
+                self.check(items, a, True)
+                self.check_ranges(items, a, True)
 
     def test_slices_within_a_block(self):
         for name, items, a in columns((3000,)):
@@ -60,6 +89,7 @@ class UnderAMask(unittest.TestCase):
                 with self.subTest(f"{name}, {start}..{stop}"):
                     part = items[start:stop]
                     self.check(part, a[start:stop], [i % 5 < 2 for i in range(len(part))])
+                    self.check_ranges(part, a[start:stop], [i % 5 < 2 for i in range(len(part))])
 
     def test_each_kind_of_mask(self):
         items = items_of("int32", 2000, True)
@@ -81,17 +111,33 @@ class UnderAMask(unittest.TestCase):
 
     def test_what_is_no_mask(self):
         a = flcol.array([1, 2, 3])
-        for ask in (a.sum, a.mean, a.min, a.max, a.min_max, a.count, lambda where: a.count_where("<", 2, where=where)):
+        tests = (a.count_where, a.where, a.mask_where), (a.count_between, a.where_between, a.mask_between)
+        under = [functools.partial(ask, *words) for asks, words in zip(tests, (("<", 2), (1, 2))) for ask in asks]
+        for ask in (a.sum, a.mean, a.min, a.max, a.min_max, a.count, *under):
             for wrong in ([True], [True] * 4, b"", flcol.array([True])):
                 with self.subTest(wrong), self.assertRaises(IndexError):
                     ask(where=wrong)
             for wrong in (None, False, 1, a, "abc", [0.5, 1, 1], [2, 3, 4], object()):
                 with self.subTest(wrong), self.assertRaises(TypeError):
                     ask(where=wrong)
-        with self.assertRaises(ValueError):
-            a.count_where("=", 2, where=[True] * 3)
-        with self.assertRaises(TypeError):
-            a.count_where("<", 1.5, where=[True] * 3)
+        for ask in tests[0]:
+            with self.assertRaises(ValueError):
+                ask("=", 2, where=[True] * 3)
+            with self.assertRaises(TypeError):
+                ask("<", 1.5, where=[True] * 3)
+        for ask in tests[1]:
+            with self.assertRaises(ValueError):
+                ask(1, 2, "none", where=[True] * 3)
+            with self.assertRaises(TypeError):
+                ask(1, 1.5, where=[True] * 3)
+
+    def test_a_second_column(self):
+        """Two conditions on two columns, the second under the mask of the first."""
+        first, second = items_of("int16", 3000, True), items_of("uint32", 3000, False)
+        a, b = flcol.array(first, dtype="int16?").compress(), flcol.array(second, dtype="uint32").compress()
+        both = b.mask_where("<", 9, where=a.mask_between(2, 7))
+        self.passes(first, both, [it is not None and 2 <= it <= 7 and other < 9 for it, other in zip(first, second)])
+        self.assertEqual(b.sum(where=both), sum(kept(second, both)))
 
     def test_booleans(self):
         items = [True, None, False, True, None, True]

@@ -147,6 +147,8 @@ errors! {
     BadOperator = 104, "the operator of comparison is not known";
     /// The stream failed.
     Stream = 105, "the stream failed";
+    /// A bit stands for no encoding.
+    BadEncodings = 106, "a bit stands for no encoding";
 }
 
 impl std::error::Error for Error {}

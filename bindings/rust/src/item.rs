@@ -23,6 +23,8 @@ pub(crate) mod calls {
     pub type IsIn<T> = unsafe extern "C" fn(*mut Handle, *const T, usize, *mut u8, usize, *mut u8, usize) -> i32;
     pub type CountUnder<T> = unsafe extern "C" fn(*mut Handle, *const u8, usize, u8, T, *mut usize) -> i32;
     pub type MinMaxUnder<T> = unsafe extern "C" fn(*mut Handle, *const u8, usize, *mut T, *mut T, *mut u8) -> i32;
+    pub type CompareUnder<T> = unsafe extern "C" fn(*mut Handle, *const u8, usize, u8, T, *mut u8, usize) -> i32;
+    pub type BetweenUnder<T> = unsafe extern "C" fn(*mut Handle, *const u8, usize, T, T, u8, u8, *mut u8, usize) -> i32;
     pub type LowerBound<T> = unsafe extern "C" fn(*mut Handle, T, *mut usize) -> i32;
 
     pub trait Calls: Sized {
@@ -40,6 +42,8 @@ pub(crate) mod calls {
         const IS_IN: IsIn<Self>;
         const COUNT_UNDER: CountUnder<Self>;
         const MIN_MAX_UNDER: MinMaxUnder<Self>;
+        const COMPARE_UNDER: CompareUnder<Self>;
+        const BETWEEN_UNDER: BetweenUnder<Self>;
         const LOWER_BOUND: LowerBound<Self>;
 
         /// What the sum of items of the type is.
@@ -85,7 +89,7 @@ macro_rules! items {
         $item:ident $ptype:ident: $wide:ident $sum:ident $sum_under:ident
         $from:ident $constant:ident $read:ident $get:ident $compare:ident $between:ident
         $count:ident $count_between:ident $min_max:ident $filter_by:ident $filter_between:ident
-        $is_in:ident $count_under:ident $min_max_under:ident $lower_bound:ident;
+        $is_in:ident $count_under:ident $min_max_under:ident $compare_under:ident $between_under:ident $lower_bound:ident;
     )+) => {
         $(impl Item for $item {
             type Sum = $wide;
@@ -109,6 +113,8 @@ macro_rules! items {
             const IS_IN: calls::IsIn<$item> = ffi::$is_in;
             const COUNT_UNDER: calls::CountUnder<$item> = ffi::$count_under;
             const MIN_MAX_UNDER: calls::MinMaxUnder<$item> = ffi::$min_max_under;
+            const COMPARE_UNDER: calls::CompareUnder<$item> = ffi::$compare_under;
+            const BETWEEN_UNDER: calls::BetweenUnder<$item> = ffi::$between_under;
             const LOWER_BOUND: calls::LowerBound<$item> = ffi::$lower_bound;
 
             type Wide = $wide;
@@ -138,35 +144,43 @@ items! {
     u8 U8: u128 flcol_sum_unsigned flcol_sum_under_unsigned
         flcol_from_u8 flcol_constant_u8 flcol_read_u8 flcol_get_u8 flcol_compare_u8 flcol_between_u8
         flcol_count_u8 flcol_count_between_u8 flcol_min_max_u8 flcol_filter_by_u8 flcol_filter_between_u8
-        flcol_is_in_u8 flcol_count_under_u8 flcol_min_max_under_u8 flcol_lower_bound_u8;
+        flcol_is_in_u8 flcol_count_under_u8 flcol_min_max_under_u8
+        flcol_compare_under_u8 flcol_between_under_u8 flcol_lower_bound_u8;
     u16 U16: u128 flcol_sum_unsigned flcol_sum_under_unsigned
         flcol_from_u16 flcol_constant_u16 flcol_read_u16 flcol_get_u16 flcol_compare_u16 flcol_between_u16
         flcol_count_u16 flcol_count_between_u16 flcol_min_max_u16 flcol_filter_by_u16 flcol_filter_between_u16
-        flcol_is_in_u16 flcol_count_under_u16 flcol_min_max_under_u16 flcol_lower_bound_u16;
+        flcol_is_in_u16 flcol_count_under_u16 flcol_min_max_under_u16
+        flcol_compare_under_u16 flcol_between_under_u16 flcol_lower_bound_u16;
     u32 U32: u128 flcol_sum_unsigned flcol_sum_under_unsigned
         flcol_from_u32 flcol_constant_u32 flcol_read_u32 flcol_get_u32 flcol_compare_u32 flcol_between_u32
         flcol_count_u32 flcol_count_between_u32 flcol_min_max_u32 flcol_filter_by_u32 flcol_filter_between_u32
-        flcol_is_in_u32 flcol_count_under_u32 flcol_min_max_under_u32 flcol_lower_bound_u32;
+        flcol_is_in_u32 flcol_count_under_u32 flcol_min_max_under_u32
+        flcol_compare_under_u32 flcol_between_under_u32 flcol_lower_bound_u32;
     u64 U64: u128 flcol_sum_unsigned flcol_sum_under_unsigned
         flcol_from_u64 flcol_constant_u64 flcol_read_u64 flcol_get_u64 flcol_compare_u64 flcol_between_u64
         flcol_count_u64 flcol_count_between_u64 flcol_min_max_u64 flcol_filter_by_u64 flcol_filter_between_u64
-        flcol_is_in_u64 flcol_count_under_u64 flcol_min_max_under_u64 flcol_lower_bound_u64;
+        flcol_is_in_u64 flcol_count_under_u64 flcol_min_max_under_u64
+        flcol_compare_under_u64 flcol_between_under_u64 flcol_lower_bound_u64;
     i8 I8: i128 flcol_sum_signed flcol_sum_under_signed
         flcol_from_i8 flcol_constant_i8 flcol_read_i8 flcol_get_i8 flcol_compare_i8 flcol_between_i8
         flcol_count_i8 flcol_count_between_i8 flcol_min_max_i8 flcol_filter_by_i8 flcol_filter_between_i8
-        flcol_is_in_i8 flcol_count_under_i8 flcol_min_max_under_i8 flcol_lower_bound_i8;
+        flcol_is_in_i8 flcol_count_under_i8 flcol_min_max_under_i8
+        flcol_compare_under_i8 flcol_between_under_i8 flcol_lower_bound_i8;
     i16 I16: i128 flcol_sum_signed flcol_sum_under_signed
         flcol_from_i16 flcol_constant_i16 flcol_read_i16 flcol_get_i16 flcol_compare_i16 flcol_between_i16
         flcol_count_i16 flcol_count_between_i16 flcol_min_max_i16 flcol_filter_by_i16 flcol_filter_between_i16
-        flcol_is_in_i16 flcol_count_under_i16 flcol_min_max_under_i16 flcol_lower_bound_i16;
+        flcol_is_in_i16 flcol_count_under_i16 flcol_min_max_under_i16
+        flcol_compare_under_i16 flcol_between_under_i16 flcol_lower_bound_i16;
     i32 I32: i128 flcol_sum_signed flcol_sum_under_signed
         flcol_from_i32 flcol_constant_i32 flcol_read_i32 flcol_get_i32 flcol_compare_i32 flcol_between_i32
         flcol_count_i32 flcol_count_between_i32 flcol_min_max_i32 flcol_filter_by_i32 flcol_filter_between_i32
-        flcol_is_in_i32 flcol_count_under_i32 flcol_min_max_under_i32 flcol_lower_bound_i32;
+        flcol_is_in_i32 flcol_count_under_i32 flcol_min_max_under_i32
+        flcol_compare_under_i32 flcol_between_under_i32 flcol_lower_bound_i32;
     i64 I64: i128 flcol_sum_signed flcol_sum_under_signed
         flcol_from_i64 flcol_constant_i64 flcol_read_i64 flcol_get_i64 flcol_compare_i64 flcol_between_i64
         flcol_count_i64 flcol_count_between_i64 flcol_min_max_i64 flcol_filter_by_i64 flcol_filter_between_i64
-        flcol_is_in_i64 flcol_count_under_i64 flcol_min_max_under_i64 flcol_lower_bound_i64;
+        flcol_is_in_i64 flcol_count_under_i64 flcol_min_max_under_i64
+        flcol_compare_under_i64 flcol_between_under_i64 flcol_lower_bound_i64;
 }
 
 /// An integer of any type of Rust, with which items of any type are compared as numbers.

@@ -47,6 +47,7 @@ mod ffi;
 mod indexed;
 mod item;
 mod iter;
+mod limits;
 mod memory;
 mod types;
 
@@ -58,6 +59,7 @@ pub use error::Error;
 pub use indexed::Indexed;
 pub use item::{Integer, Item};
 pub use iter::Iter;
+pub use limits::{Encoding, Limits};
 pub use types::{DType, Op, PType};
 
 /// The examples of the README, which are tested as those of these pages.

@@ -132,6 +132,7 @@ fn ask_huge_totals<T: Item>(array: &Array, first: Option<T>) {
     }
     assert!(refused(array.is_in(&[3]).err()));
     assert_eq!(array.count_under(&Bitmap::zeros(9), Op::Lt, 3).err(), Some(Error::MaskLength));
+    assert_eq!(array.compare_under(&Bitmap::zeros(9), Op::Lt, 3).err(), Some(Error::MaskLength));
     assert!(valid == 0 || refused(array.filter_by(Op::Gte, T::MIN).err()));
     assert!(valid == 0 || refused(array.filter_between(T::MIN..).err()));
 }
@@ -149,6 +150,8 @@ fn ask_few<T: Item>(array: &Array) {
     assert_eq!(array.filter_by(Op::Eq, 3).unwrap().len(), threes.count_true());
     let mask = threes.as_mask();
     assert_eq!(array.count_under(mask, Op::Eq, 3), Ok(mask.count_ones()));
+    assert_eq!(array.compare_under(mask, Op::Lte, 3).as_ref(), Ok(mask));
+    assert_eq!(array.between_under(mask, 4..), Ok(Bitmap::zeros(mask.len())));
     assert_eq!(array.is_in(&[3]).unwrap(), threes);
     assert_eq!(mask.indices().unwrap().len(), mask.count_ones());
     assert_eq!(array.min_max_under::<T>(mask).unwrap().is_some(), mask.count_ones() > 0);

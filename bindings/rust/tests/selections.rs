@@ -44,12 +44,29 @@ fn asks<T: Item + From<u8>>(array: &Array, items: &[Option<T>]) {
                 .filter(|item| met[(**item >= T::from(30)) as usize + (**item > T::from(30)) as usize])
                 .count();
             assert_eq!(array.count_under(&mask, op, 30), Ok(count), "{op}");
+            let holds = |item: T| met[(item >= T::from(30)) as usize + (item > T::from(30)) as usize];
+            assert_eq!(array.compare_under(&mask, op, 30), Ok(passing(items, &mask, holds)), "{op}");
         }
+        ranges(array, items, &mask);
+        assert_eq!(array.compare_under(&mask, Op::Gte, i128::MIN), Ok(passing(items, &mask, |_| true)));
+        assert_eq!(array.compare_under(&mask, Op::Gt, i128::MAX), Ok(Bitmap::zeros(items.len())));
         assert_eq!(array.count_under(&mask, Op::Lt, i128::MAX), Ok(kept.len()));
         assert_eq!(array.count_under(&mask, Op::Lt, i128::MIN), Ok(0));
         let positions: Vec<u64> = (0..items.len()).filter(|i| mask.get(*i)).map(|i| i as u64).collect();
         assert_eq!(mask.indices().and_then(|indices| indices.to_vec::<u64>()), Ok(positions));
     }
+}
+
+/// The bits of the items that a mask keeps, that are not null and that meet a test.
+fn passing<T: Item>(items: &[Option<T>], mask: &Bitmap, test: impl Fn(T) -> bool) -> Bitmap {
+    items.iter().zip(mask).map(|(item, is_kept)| is_kept && item.is_some_and(&test)).collect()
+}
+
+fn ranges<T: Item + From<u8>>(array: &Array, items: &[Option<T>], mask: &Bitmap) {
+    assert_eq!(array.between_under(mask, 5..=30), Ok(passing(items, mask, |item| (5..=30).contains(&wide(item)))));
+    assert_eq!(array.between_under(mask, 5..30), Ok(passing(items, mask, |item| (5..30).contains(&wide(item)))));
+    assert_eq!(array.between_under(mask, -1000..), Ok(passing(items, mask, |_| true)));
+    assert_eq!(array.between_under(mask, i128::MAX..), Ok(Bitmap::zeros(items.len())));
 }
 
 fn lists<T: Item + From<u8>>(array: &Array, items: &[Option<T>]) {
@@ -128,6 +145,8 @@ fn what_is_refused() {
     let array = Array::new(&[3_u8, 2, 1]).unwrap();
     let long = Bitmap::zeros(4);
     assert_eq!(array.count_under(&long, Op::Lt, 3), Err(Error::MaskLength));
+    assert_eq!(array.compare_under(&long, Op::Lt, 3), Err(Error::MaskLength));
+    assert_eq!(array.between_under(&long, 1..3), Err(Error::MaskLength));
     assert_eq!(array.sum_under::<u8>(&long), Err(Error::MaskLength));
     assert_eq!(array.min_max_under::<u8>(&long), Err(Error::MaskLength));
     assert_eq!(array.sum_under::<u16>(&long), Err(Error::WrongType));
@@ -139,6 +158,8 @@ fn what_is_refused() {
     let bools = Array::try_from([true, false, true]).unwrap();
     assert_eq!(bools.dtype(), PType::Bool.into());
     assert_eq!(bools.count_under(&Bitmap::zeros(3), Op::Lt, 3), Err(Error::NotInteger));
+    assert_eq!(bools.compare_under(&Bitmap::zeros(3), Op::Lt, 3), Err(Error::NotInteger));
+    assert_eq!(bools.between_under(&Bitmap::zeros(3), 0..1), Err(Error::NotInteger));
     assert_eq!(bools.sum_under::<u8>(&Bitmap::zeros(3)), Err(Error::WrongType));
     assert_eq!(bools.is_in(&[1]).err(), Some(Error::NotInteger));
     assert_eq!(bools.lower_bound(1), Err(Error::NotInteger));

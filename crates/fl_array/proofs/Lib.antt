@@ -30,3 +30,4 @@ pub mod ReadReferences
 pub mod ReadDeltas
 pub mod ReadRuns
 pub mod BlockTests
+pub mod RunTests

@@ -17,6 +17,7 @@ use Rattle.fl_codec.proofs.Tables.{get_or-table}
 use Rattle.fl_bitpacking.specs.Blocks.{value_at}
 use Rattle.fl_array.specs.NoNulls.{HasNoNulls}
 use Rattle.fl_array.specs.Readers.{AreItemsFrom}
+use Rattle.fl_array.specs.ReaderSources.{AreRunValues}
 use Rattle.fl_array.specs.RLEArrays.{RLEArrayParts, refusal_of_rle, tree_of_rle}
 use Rattle.fl_array.specs.Trees.{column}
 use Rattle.fl_array.proofs.RLELaws.{item_of_rle, offsets_unsigned, read_slots, rle_len, sound_rle}
@@ -68,18 +69,43 @@ pub record IsOwn (offsets : PrimitiveParts) (count k : ℕ) : Type 0 where
   pub some : chunk_start (numbers_of (column_of_primitive offsets)) k < chunk_end (numbers_of (column_of_primitive offsets)) count k
   pub within : chunk_end (numbers_of (column_of_primitive offsets)) count k ≤ count
 
-pub own_chunk : (a : RLEArrayParts) (offsets : PrimitiveParts) (count total at : ℕ) → refusal_of_rle a ≡ None → column_of_primitive offsets ≡ column a.offsets → count ≡ length (column a.values).items → total ≡ length offsets.slots → total ≡ length (column_of_primitive offsets).items → at < length (column a.indices).items
-    → IsOwn offsets count (at / 1024)
-own_chunk a offsets count total at h own count_is slots items inside =
-    let there = chunk_there a at h inside in
+pub own_chunk : (a : RLEArrayParts) (offsets : PrimitiveParts) (count total k : ℕ) → refusal_of_rle a ≡ None → column_of_primitive offsets ≡ column a.offsets → count ≡ length (column a.values).items → total ≡ length offsets.slots → total ≡ length (column_of_primitive offsets).items → 1024 * k < length (column a.indices).items
+    → IsOwn offsets count k
+own_chunk a offsets count total k h own count_is slots items inside =
+    let there = chunk_there a (1024 * k) h inside in
+    let block : 1024 * k / 1024 ≡ k = omega arith in
     let numbers : numbers_of (column_of_primitive offsets) ≡ numbers_of (column a.offsets) = ap numbers_of own in
     let long : length (column_of_primitive offsets).items ≡ length (column a.offsets).items = ap (λ (c : Column). length c.items) own in
     let range = there.range in
     record {
       unsigned = offsets_unsigned a offsets h own;
       range = omega arith;
-      some = rw (numbers, count_is) there.some;
-      within = rw (numbers, count_is) there.within;
+      some = rw (numbers, count_is, ← block) there.some;
+      within = rw (numbers, count_is, ← block) there.within;
+    }
+
+-- the run values of a chunk, by the decoded run values and run offsets
+pub own_values : {X : Type 0} (value : X → ℤ) (a : RLEArrayParts) (values offsets : PrimitiveParts) (xs own : List X) (k : ℕ) → refusal_of_rle a ≡ None → column_of_primitive values ≡ column a.values → column_of_primitive offsets ≡ column a.offsets
+    → map value xs ≡ values.slots → length xs ≡ length (column a.values).items → 1024 * k < length (column a.indices).items → length own ≡ run_count (numbers_of (column_of_primitive offsets)) (length xs) k
+    → ((i : ℕ) → i < length own → get_or (map value own) i (pos 0) ≡ get_or (map value xs) (chunk_start (numbers_of (column_of_primitive offsets)) k + i) (pos 0)) → AreRunValues a k (map value own)
+own_values value a values offsets xs own k h v o slots all inside long each =
+    let s = sound_rle a h in
+    let types = s.types in
+    let there = chunk_there a (1024 * k) h inside in
+    let block : 1024 * k / 1024 ≡ k = omega arith in
+    let names = numbers_of (column a.offsets) in
+    let count = length (column a.values).items in
+    let numbers : numbers_of (column_of_primitive offsets) ≡ names = ap numbers_of o in
+    let stored : map value xs ≡ integers_in (column a.values) = slots ∙ read_slots values (column a.values) v types.non_nullable in
+    let size : length (map value own) ≡ run_count names count k = length-map own value ∙ (long ∙ rw (numbers, all) refl) in
+    let range : k < length names = let whole = s.whole in omega arith in
+    let few = s.numbers.few k range in
+    let some = s.numbers.some k range in
+    record {
+      some = omega arith;
+      few = omega arith;
+      count = size;
+      each = λ i below. each i (omega (arith, length-map own value)) ∙ rw (stored, numbers) refl;
     }
 
 -- what is written for a run index stands for its item
@@ -92,28 +118,21 @@ shown values start count (Some y) index new named read written =
     written below ∙ ap (λ i. get_or values (start + unsigned_abs i) (pos 0)) is
 
 -- items that are written by the run indices that were read
-pub chunk_shown : {X Y : Type 0} (value : X → ℤ) (index : Y → ℤ) (a : RLEArrayParts) (values offsets : PrimitiveParts) (indices : Column) (xs own new : List X) (names : List Y) (at n i : ℕ) → refusal_of_rle a ≡ None
-    → column_of_primitive values ≡ column a.values → column_of_primitive offsets ≡ column a.offsets → indices ≡ column a.indices → map value xs ≡ values.slots → length xs ≡ length (column a.values).items
+pub chunk_shown : {X Y : Type 0} (value : X → ℤ) (index : Y → ℤ) (a : RLEArrayParts) (indices : Column) (own new : List X) (names : List Y) (at n i : ℕ) → refusal_of_rle a ≡ None → indices ≡ column a.indices → AreRunValues a (at / 1024) (map value own)
     → at + n ≤ length indices.items → at % 1024 + n ≤ 1024 → i < n → AreItemsFrom at n (value_at index names) indices
-    → length own ≡ run_count (numbers_of (column_of_primitive offsets)) (length xs) (at / 1024)
-    → ((q : ℕ) → q < length own → get_or (map value own) q (pos 0) ≡ get_or (map value xs) (chunk_start (numbers_of (column_of_primitive offsets)) (at / 1024) + q) (pos 0))
     → (unsigned_abs (get_or (map index names) i (pos 0)) < length own → get_or (map value new) i (pos 0) ≡ get_or (map value own) (unsigned_abs (get_or (map index names) i (pos 0))) (pos 0))
     → IfSome (run_item (integers_in (column a.values)) (column a.indices).items (numbers_of (column a.offsets)) (at + i)) (λ z. value_at value new i ≡ z)
 unfolding value_at
-chunk_shown value index a values offsets indices xs own new names at n i h v o same slots all room one inside read long each written =
+chunk_shown value index a indices own new names at n i h same are room one inside read written =
     let within : at + i < length (column a.indices).items = let there = ap (λ (c : Column). length c.items) same in omega arith in
     let there = chunk_there a (at + i) h within in
     let block : (at + i) / 1024 ≡ at / 1024 = omega arith in
-    let numbers : numbers_of (column_of_primitive offsets) ≡ numbers_of (column a.offsets) = ap numbers_of o in
-    let types = (sound_rle a h).types in
-    let stored : map value xs ≡ integers_in (column a.values) = slots ∙ read_slots values (column a.values) v types.non_nullable in
-    let count : length own ≡ run_count (numbers_of (column a.offsets)) (length (column a.values).items) ((at + i) / 1024) = long ∙ rw (numbers, all, block) refl in
+    let count = are.count in
     let name = get_or (map index names) i (pos 0) in
     shown (integers_in (column a.values)) (chunk_start (numbers_of (column a.offsets)) ((at + i) / 1024)) (run_count (numbers_of (column a.offsets)) (length (column a.values).items) ((at + i) / 1024)) (get_or (column a.indices).items (at + i) None) name (get_or (map value new) i (pos 0))
     there.named (λ y e. read i y inside (ap (λ (c : Column). get_or c.items (at + i) None) same ∙ e))
-    (λ below. let few : unsigned_abs name < length own = rw count below in
-    written few ∙ (each (unsigned_abs name) few ∙ (ap (λ zs. get_or zs (chunk_start (numbers_of (column_of_primitive offsets)) (at / 1024) + unsigned_abs name) (pos 0)) stored
-    ∙ ap (λ m. get_or (integers_in (column a.values)) (m + unsigned_abs name) (pos 0)) (ap (λ ns. chunk_start ns (at / 1024)) numbers ∙ ap (chunk_start (numbers_of (column a.offsets))) (sym block)))))
+    (λ below. let few : unsigned_abs name < length (map value own) = rw (count, ← block) below in
+    written (rw length-map at few) ∙ (are.each (unsigned_abs name) few ∙ ap (λ k. get_or (integers_in (column a.values)) (chunk_start (numbers_of (column a.offsets)) k + unsigned_abs name) (pos 0)) (sym block)))
 
 below_count : (count : ℕ) (x : Option ℤ) (index : ℤ) → is_some x ≡ true → IsTrue (is_run_index count x) → ((y : ℤ) → x ≡ Some y → index ≡ y) → unsigned_abs index < count
 below_count count None index some named read = cc

@@ -8,6 +8,7 @@ mod leaves;
 mod packed;
 mod preparing;
 mod references;
+mod run_tests;
 mod runs;
 mod to_primitive;
 

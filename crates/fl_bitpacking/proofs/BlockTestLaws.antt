@@ -1,5 +1,5 @@
 -- The tests of blocks, each with the reference of its block.
-use Rattle.std.proofs.Common.{◌≡◌, ℕ, ℤ, pos, ◌+◌, ◌+ℤ◌, ◌*◌, ◌/◌, ◌<◌, ◌≤◌, Bool, List, cond, eqb, get_or, min, Option, Some, None, option_map, unwrap_or, ap, sym, ◌∙◌, arith}
+use Rattle.std.proofs.Common.{◌≡◌, ℕ, ℤ, pos, ◌+◌, ◌+ℤ◌, ◌*◌, ◌/◌, ◌<◌, ◌≤◌, Bool, List, cond, eqb, get_or, Option, Some, None, option_map, unwrap_or, ap, sym, ◌∙◌, arith}
 use Rattle.std.specs.Option.{option_copied}
 use Rattle.fl_types.specs.declared.dtype.PType.{PType}
 use Rattle.fl_types.specs.Integers.{wrap}
@@ -12,6 +12,7 @@ use Rattle.fl_bitpacking.specs.Columns.{BitPackedParts, block_count, stored}
 use Rattle.fl_bitpacking.specs.Compared.{AreBlockTests, answer_at, passes_in}
 use Rattle.fl_bitpacking.specs.Decided.{is_decided, undecided_below, undecided_by_block}
 use Rattle.fl_bitpacking.specs.RangeTests.{passes}
+use Rattle.fl_bitpacking.specs.Readings.{Reading, more_blocks}
 use Rattle.fl_bitpacking.specs.References.{AreBlockReferences, of_sum_if_some}
 use Rattle.fl_bitpacking.proofs.ComparedLaws.{answer_or}
 use Rattle.fl_bitpacking.proofs.UndecidedLaws.{decided_alike}
@@ -61,11 +62,11 @@ item_answered t test parts blocks before bit i typed same is read =
     ∙ (answer_or (passes_in t j) patch (stored parts blocks i) ∙ ap (λ (f : ℕ → ℤ → Bool). f j (unwrap_or patch (stored parts blocks i))) same))
 
 -- whether a block is counted, by tests that answer alike
-pub counted_by : (n old width w : ℕ) (p q : PType) (f g : ℤ → Bool) → p ≡ q → ((z : ℤ) → f z ≡ g z) → width ≡ w
-    → n ≡ min (old + cond (is_decided p width f) 0 1) 18446744073709551615 → n ≡ min (old + cond (is_decided q w g) 0 1) 18446744073709551615
-counted_by n old width w p q f g typed same wide is =
-    is ∙ (ap (λ t. min (old + cond (is_decided t width f) 0 1) 18446744073709551615) typed ∙ (ap (λ b. min (old + cond b 0 1) 18446744073709551615) (decided_alike q width f g same)
-    ∙ ap (λ (k : ℕ). min (old + cond (is_decided q k g) 0 1) 18446744073709551615) wide))
+pub counted_by : (new old : Reading) (width w : ℕ) (p q : PType) (f g : ℤ → Bool) → p ≡ q → ((z : ℤ) → f z ≡ g z) → width ≡ w
+    → new ≡ more_blocks (cond (is_decided p width f) 0 1) old → new ≡ more_blocks (cond (is_decided q w g) 0 1) old
+counted_by new old width w p q f g typed same wide is =
+    is ∙ (ap (λ t. more_blocks (cond (is_decided t width f) 0 1) old) typed ∙ (ap (λ b. more_blocks (cond b 0 1) old) (decided_alike q width f g same)
+    ∙ ap (λ (k : ℕ). more_blocks (cond (is_decided q k g) 0 1) old) wide))
 
 -- how many blocks of a column the tests leave undecided
 pub undecided_is : (t : BlockTests) (test : ℕ → ℤ → Bool) (parts : BitPackedParts) (blocks : Blocks) → t.test.ptype ≡ parts.ptype → passes_in t ≡ test

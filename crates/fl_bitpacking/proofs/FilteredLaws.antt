@@ -1,7 +1,6 @@
 -- Items that a mask keeps, word by word and block by block.
-use Rattle.std.proofs.Common.{◌≡◌, ℕ, ℤ, pos, suc, ◌+◌, ◌-◌, ◌<◌, ◌≤◌, ◌++◌, ◌/◌, ◌%◌, ◌==◌, Bool, true, false, cond, nat_lt, bit_and, set, inl, inr, List, [], ◌∷◌, length, map, get_or, take, drop, Option, Some, None, unwrap_or, IsTrue, map-id, refl, ap, sym, ◌∙◌, arith, append_assoc, append-nil, length-take, length-drop, ◌^◌, count_ones}
+use Rattle.std.proofs.Common.{◌≡◌, ℕ, ℤ, Bor, pos, suc, ◌+◌, ◌-◌, ◌<◌, ◌≤◌, ◌++◌, ◌/◌, ◌%◌, ◌==◌, Bool, true, false, cond, nat_lt, bit_and, set, inl, inr, List, [], ◌∷◌, length, map, get_or, take, drop, Option, Some, None, IsTrue, map-id, refl, ap, sym, ◌∙◌, arith, append_assoc, append-nil, length-take, length-drop, ◌^◌, count_ones}
 use Rattle.std.specs.Prelude.{IfSome}
-use Rattle.std.specs.Option.{option_copied}
 use Rattle.std.specs.Int.{bit_at}
 use Rattle.std.proofs.lemmas.Bool.{cases_eq, cases_lt, le-ltb, lt-ltb}
 use Rattle.std.proofs.lemmas.List.{drop-drop, get_or-drop, get_or-map, get_or-take, length-map, map-append}
@@ -17,12 +16,14 @@ use Rattle.fl_column.specs.Operations.{filter_of, kept}
 use Rattle.fl_column.specs.Selections.{kept_validity}
 use Rattle.fl_types.proofs.KeptLaws.{kept_split, others_left}
 use Rattle.fl_column.proofs.FilterLaws.{kept_agree, kept_few, kept_map, filtered_column, kept_covers}
-use Rattle.fl_patches.specs.PatchMaps.{PatchesParts, patched_in}
+use Rattle.fl_patches.specs.PatchMaps.{PatchesParts}
 use Rattle.fl_bitpacking.specs.Blocks.{Blocks, block_item, blocks_of, bytes_of_block, item_of_blocks, value_at}
 use Rattle.fl_bitpacking.specs.Columns.{column_of_packed, packed_item}
-use Rattle.fl_bitpacking.specs.Filtered.{AreKept, items_before, slots_of}
-use Rattle.fl_bitpacking.specs.Parts.{Fit, parts_of}
+use Rattle.fl_bitpacking.specs.Filtered.{AreKept, items_before, slot_of, slots_of}
+use Rattle.fl_bitpacking.specs.Parts.{Fit, blocks_to_read, parts_of}
 use Rattle.fl_bitpacking.specs.Taken.{slot_at}
+use Rattle.fl_patches.specs.declared.widths.Widths.{Widths}
+use Rattle.fl_bitpacking.specs.declared.bitpack_decompress.PackedColumn.{PackedColumn}
 use Rattle.fl_bitpacking.specs.declared.compute.filter.Filtering.{Filtering}
 use Rattle.fl_bitpacking.proofs.ColumnLaws.{items_made}
 use Rattle.fl_bitpacking.proofs.Natives.{value_at_set_other, value_at_set_same}
@@ -173,44 +174,55 @@ nothing_after bits xs taken all n m past before =
 
 -- ---- columns
 -- what stands at an item
-pub slot_is : (f : Filtering) (t : PType) (i : ℕ) → f.column.ptype ≡ t → i < f.column.len
-    → unwrap_or (patched_in (option_copied f.column.patches) i) (item_of_blocks t (blocks_of f.widths) f.column.packed.now (f.column.offset + i)) ≡ get_or (slots_of f) i (pos 0)
-slot_is f t i typed h =
-    ap (λ p. unwrap_or (patched_in (option_copied f.column.patches) i) (item_of_blocks p (blocks_of f.widths) f.column.packed.now (f.column.offset + i))) (sym typed)
-    ∙ sym (get_or-table (slot_at (parts_of f.column) (blocks_of f.widths)) f.column.len i (pos 0) h)
+pub slot_is : (ptype : PType) (bytes : List ℕ) (f : Filtering) (i : ℕ) → i < f.blocks.len → slot_of ptype bytes f i ≡ get_or (slots_of ptype bytes f) i (pos 0)
+slot_is ptype bytes f i h = sym (get_or-table (slot_of ptype bytes f) f.blocks.len i (pos 0) h)
 
-pub length-slots_of : (f : Filtering) → length (slots_of f) ≡ f.column.len
-length-slots_of f = length-table (slot_at (parts_of f.column) (blocks_of f.widths)) f.column.len
+pub length-slots_of : (ptype : PType) (bytes : List ℕ) (f : Filtering) → length (slots_of ptype bytes f) ≡ f.blocks.len
+length-slots_of ptype bytes f = length-table (slot_of ptype bytes f) f.blocks.len
 
 -- before the first block all is still to come
-pub none_kept : {X : Type 0} (value : X → ℤ) (f : Filtering) → f.column.offset < 1024 → AreKept value f (items_before f 0) []
-none_kept value f inside = let none : items_before f 0 ≡ 0 = omega arith in rw none refl
+pub none_kept : {X : Type 0} (value : X → ℤ) (ptype : PType) (bytes : List ℕ) (f : Filtering) → f.blocks.offset < 1024 → AreKept value ptype bytes f (items_before f 0) []
+none_kept value ptype bytes f inside = let none : items_before f 0 ≡ 0 = omega arith in rw none refl
+
+-- what stands at the items of a column
+pub slots_in : PackedColumn → Widths → List ℤ
+slots_in c widths = tabulate (slot_at (parts_of c) (blocks_of widths)) c.len
+
+length-slots_in : (c : PackedColumn) (widths : Widths) → length (slots_in c widths) ≡ c.len
+unfolding slots_in
+length-slots_in c widths = length-table (slot_at (parts_of c) (blocks_of widths)) c.len
+
+pub slots_by_type : (c : PackedColumn) (widths : Widths) (bits : Bor (List Bool)) (t : PType) → c.ptype ≡ t → slots_of t c.packed.now (record { blocks = blocks_to_read c widths; patches = c.patches; bits = bits }) ≡ slots_in c widths
+unfolding slots_in
+slots_by_type c widths bits t typed = rw (← typed) refl
 
 -- the column of what stands at the items
-column_of_slots : (f : Filtering) → Fit (parts_of f.column) → column_of_primitive (record { ptype = f.column.ptype; slots = slots_of f; validity = f.column.validity.now }) ≡ column_of_packed (parts_of f.column) (blocks_of f.widths)
-unfolding value_at
-column_of_slots f fit =
-    let parts = parts_of f.column in
-    let blocks = blocks_of f.widths in
-    let made = items_made (λ (z : ℤ). z) parts blocks (slots_of f) fit.covers (length-slots_of f) (λ i h.
-    get_or-map (λ (z : ℤ). z) (slots_of f) i (pos 0) (pos 0) (rw (length-slots_of f) h) ∙ get_or-table (slot_at parts blocks) f.column.len i (pos 0) h) in
-    let items : items_of f.column.validity.now (slots_of f) ≡ tabulate (packed_item parts blocks) f.column.len = ap (items_of f.column.validity.now) (sym (map-id (slots_of f))) ∙ made in
-    ap (λ (xs : List (Option ℤ)). record { dtype = Primitive f.column.ptype (nullability_of f.column.validity.now); items = xs }) items
+column_of_slots : (c : PackedColumn) (widths : Widths) → Fit (parts_of c) → column_of_primitive (record { ptype = c.ptype; slots = slots_in c widths; validity = c.validity.now }) ≡ column_of_packed (parts_of c) (blocks_of widths)
+unfolding value_at slots_in
+column_of_slots c widths fit =
+    let parts = parts_of c in
+    let blocks = blocks_of widths in
+    let slots = tabulate (slot_at parts blocks) c.len in
+    let long = length-table (slot_at parts blocks) c.len in
+    let made = items_made (λ (z : ℤ). z) parts blocks slots fit.covers long (λ i h.
+    get_or-map (λ (z : ℤ). z) slots i (pos 0) (pos 0) (rw long h) ∙ get_or-table (slot_at parts blocks) c.len i (pos 0) h) in
+    let items : items_of c.validity.now slots ≡ tabulate (packed_item parts blocks) c.len = ap (items_of c.validity.now) (sym (map-id slots)) ∙ made in
+    ap (λ (xs : List (Option ℤ)). record { dtype = Primitive c.ptype (nullability_of c.validity.now); items = xs }) items
 
 -- what is kept of the column
-pub kept_column : {X : Type 0} (value : X → ℤ) (f : Filtering) (t : PType) (items : List X) (v : Validity) (r : PrimitiveParts) → Fit (parts_of f.column) → f.column.ptype ≡ t → map value items ≡ kept f.bits.now (slots_of f) → v ≡ kept_validity f.bits.now f.column.validity.now
-    → r ≡ record { ptype = t; slots = map value items; validity = v } → filter_of (Values f.bits.now) (column_of_packed (parts_of f.column) (blocks_of f.widths)) ≡ column_of_primitive r
-kept_column value f t items v r fit typed slots valid is =
-    let a : PrimitiveParts = record { ptype = f.column.ptype; slots = slots_of f; validity = f.column.validity.now } in
-    let covered : IsTrue (covers a.validity (length a.slots)) = rw (length-slots_of f) fit.covers in
-    let parts : r ≡ record { ptype = a.ptype; slots = kept f.bits.now a.slots; validity = kept_validity f.bits.now a.validity } = is ∙ (rw (slots, valid, typed) refl) in
-    ap (filter_of (Values f.bits.now)) (sym (column_of_slots f fit)) ∙ filtered_column a r f.bits.now covered parts
+pub kept_column : {X : Type 0} (value : X → ℤ) (c : PackedColumn) (widths : Widths) (bits : List Bool) (t : PType) (items : List X) (v : Validity) (r : PrimitiveParts) → Fit (parts_of c) → c.ptype ≡ t → map value items ≡ kept bits (slots_in c widths) → v ≡ kept_validity bits c.validity.now
+    → r ≡ record { ptype = t; slots = map value items; validity = v } → filter_of (Values bits) (column_of_packed (parts_of c) (blocks_of widths)) ≡ column_of_primitive r
+kept_column value c widths bits t items v r fit typed slots valid is =
+    let a : PrimitiveParts = record { ptype = c.ptype; slots = slots_in c widths; validity = c.validity.now } in
+    let covered : IsTrue (covers a.validity (length a.slots)) = rw (length-slots_in c widths) fit.covers in
+    let parts : r ≡ record { ptype = a.ptype; slots = kept bits a.slots; validity = kept_validity bits a.validity } = is ∙ (rw (slots, valid, typed) refl) in
+    ap (filter_of (Values bits)) (sym (column_of_slots c widths fit)) ∙ filtered_column a r bits covered parts
 
-pub slots_covered : {X : Type 0} (value : X → ℤ) (f : Filtering) (items : List X) (v : Validity) → Fit (parts_of f.column) → map value items ≡ kept f.bits.now (slots_of f) → v ≡ kept_validity f.bits.now f.column.validity.now → IsTrue (covers v (length items))
-slots_covered value f items v fit slots valid =
-    let covered : IsTrue (covers f.column.validity.now (length (slots_of f))) = rw (length-slots_of f) fit.covers in
-    let long : length items ≡ length (kept f.bits.now (slots_of f)) = sym (length-map items value) ∙ ap length slots in
-    rw (valid, long) (kept_covers f.column.validity.now f.bits.now (slots_of f) covered)
+pub slots_covered : {X : Type 0} (value : X → ℤ) (c : PackedColumn) (widths : Widths) (bits : List Bool) (items : List X) (v : Validity) → Fit (parts_of c) → map value items ≡ kept bits (slots_in c widths) → v ≡ kept_validity bits c.validity.now → IsTrue (covers v (length items))
+slots_covered value c widths bits items v fit slots valid =
+    let covered : IsTrue (covers c.validity.now (length (slots_in c widths))) = rw (length-slots_in c widths) fit.covers in
+    let long : length items ≡ length (kept bits (slots_in c widths)) = sym (length-map items value) ∙ ap length slots in
+    rw (valid, long) (kept_covers c.validity.now bits (slots_in c widths) covered)
 
 -- there is room for the items of a word where there is for its set bits
 pub room_for : {A : Type 0} (word len most : ℕ) (xs : List A) → word < 2 ^ 64 → len + count_ones word ≤ most → len + length (kept (tabulate (bit_of_word word) 64) xs) ≤ most

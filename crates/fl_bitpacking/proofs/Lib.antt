@@ -6,6 +6,7 @@ pub mod FoundBelow
 pub mod GatheredPatches
 pub mod Joined
 pub mod ReadWidths
+pub mod Readings
 pub mod Natives
 pub mod Order
 pub mod Lent

@@ -71,7 +71,7 @@ counted_all f indices k limit past below =
     omega arith
 
 -- where there is no patch in a part
-pub none_in_part : (item : ℤ → ℤ) (p : PatchesParts) (from n before after i : ℕ) (z : ℤ) → refusal_of p ≡ None → before ≡ patches_before from p → after ≡ patches_before (from + n) p → before ≡ after → i < n → z ≡ unwrap_or (option_map item (patched p (from + i))) z
+pub none_in_part : {A : Type 0} (item : ℤ → A) (p : PatchesParts) (from n before after i : ℕ) (z : A) → refusal_of p ≡ None → before ≡ patches_before from p → after ≡ patches_before (from + n) p → before ≡ after → i < n → z ≡ unwrap_or (option_map item (patched p (from + i))) z
 none_in_part item p from n before after i z e first last same h =
     let none : patched p (from + i) ≡ None = none_cut p from (from + n) i (sound p e) (sym first ∙ same ∙ last) (omega arith) in
     rw none refl

@@ -9,7 +9,8 @@ use Rattle.fl_bitpacking.specs.ItemsFrom.{AreItemsFrom}
 use Rattle.fl_bitpacking.proofs.BlockSums.{decoded_at}
 use Rattle.fl_bitpacking.proofs.Tables.{get_or-table}
 
-valid_is : (b : Bool) (x z : ℤ) → cond b (Some x) None ≡ Some z → x ≡ z
+-- an item that is not null
+pub valid_is : (b : Bool) (x z : ℤ) → cond b (Some x) None ≡ Some z → x ≡ z
 valid_is true x z h = cc
 valid_is false x z h = cc
 

@@ -13,7 +13,7 @@ use Rattle.fl_bitpacking.specs.declared.bitpack_decompress.PackedColumn.{PackedC
 use Rattle.fl_bitpacking.proofs.Joined.{boundary_joined, boundary_within, global_joined, global_within}
 
 -- the blocks of parts can be read by their widths
-pub readable : (column : PackedColumn) (widths : Widths) → Fit (parts_of column) → AreWidthsOf (parts_of column) widths → AreReadable (bits_of_type column.ptype) (blocks_to_read column widths)
+pub readable : (column : PackedColumn) (widths : Widths) → Fit (parts_of column) → AreWidthsOf (parts_of column) widths → AreReadable (bits_of_type column.ptype) column.packed.now (blocks_to_read column widths)
 readable column (Global width) fit of =
     let count = block_count (parts_of column) in
     record {

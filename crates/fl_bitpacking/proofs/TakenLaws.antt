@@ -20,14 +20,14 @@ use Rattle.fl_bitpacking.proofs.Natives.{value_at_set_other, value_filled}
 use Rattle.fl_bitpacking.proofs.Joined.{item_of_block}
 
 -- ---- runs
-pub taken_none : {X : Type 0} (value : X → ℤ) (ptype : PType) (blocks : PackedBlocks) (positions : List ℕ) (items : List X) → AreTaken value ptype blocks positions 0 items
-taken_none value ptype blocks positions items = record { each = λ i h. absurd (omega (arith, h)) }
+pub taken_none : {X : Type 0} (value : X → ℤ) (ptype : PType) (bytes : List ℕ) (blocks : PackedBlocks) (positions : List ℕ) (items : List X) → AreTaken value ptype bytes blocks positions 0 items
+taken_none value ptype bytes blocks positions items = record { each = λ i h. absurd (omega (arith, h)) }
 
 -- one more item that is written
-pub taken_more : {X : Type 0} (value : X → ℤ) (ptype : PType) (blocks : PackedBlocks) (positions : List ℕ) (k : ℕ) (items : List X) (item : X) → AreTaken value ptype blocks positions k items → k < length items
-    → value item ≡ item_of_blocks ptype (blocks_of blocks.widths) blocks.packed.now (blocks.offset + get_or positions k 0) → AreTaken value ptype blocks positions (k + 1) (set items k item)
-taken_more value ptype blocks positions k items item taken inside is = record {
-  each = value_filled value (λ i. item_of_blocks ptype (blocks_of blocks.widths) blocks.packed.now (blocks.offset + get_or positions i 0)) items k item inside taken.each is;
+pub taken_more : {X : Type 0} (value : X → ℤ) (ptype : PType) (bytes : List ℕ) (blocks : PackedBlocks) (positions : List ℕ) (k : ℕ) (items : List X) (item : X) → AreTaken value ptype bytes blocks positions k items → k < length items
+    → value item ≡ item_of_blocks ptype (blocks_of blocks.widths) bytes (blocks.offset + get_or positions k 0) → AreTaken value ptype bytes blocks positions (k + 1) (set items k item)
+taken_more value ptype bytes blocks positions k items item taken inside is = record {
+  each = value_filled value (λ i. item_of_blocks ptype (blocks_of blocks.widths) bytes (blocks.offset + get_or positions i 0)) items k item inside taken.each is;
 }
 
 -- an item of a block that was looked up

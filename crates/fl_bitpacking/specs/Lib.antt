@@ -10,6 +10,7 @@ pub mod Lent
 pub mod Parts
 pub mod Placed
 pub mod Readers
+pub mod Readings
 pub mod References
 pub mod Restored
 pub mod Spans
@@ -26,6 +27,8 @@ pub mod Decided
 pub mod LeastIntegers
 pub mod RangeTests
 pub mod Compared
+pub mod ValueAnswers
+pub mod BlockAnswers
 pub mod Taken
 pub mod Filtered
 pub mod ReadWidths

@@ -1,5 +1,5 @@
 -- The parts of a packed column, and the blocks that are read, as the code holds them.
-use Rattle.std.specs.Prelude.{◌≡◌, ◌+◌, ◌^◌, ◌<◌, ℕ, IfSome, IsTrue, length}
+use Rattle.std.specs.Prelude.{◌≡◌, ◌+◌, ◌^◌, ◌<◌, ℕ, List, IfSome, IsTrue, length}
 use Rattle.std.specs.Option.{option_copied}
 use Rattle.fl_types.specs.Validities.{covers}
 use Rattle.fl_bitpacking.specs.Columns.{BitPackedParts}
@@ -23,16 +23,16 @@ pub record Fit (parts : BitPackedParts) : Type 0 where
 
 -- the blocks of these parts, at these widths, and all items
 abbrev pub blocks_to_read : PackedColumn → Widths → PackedBlocks
-blocks_to_read c widths = record { widths = widths; packed = c.packed; offset = c.offset; len = c.len }
+blocks_to_read c widths = record { widths = widths; offset = c.offset; len = c.len }
 
 -- how many blocks are read, cut ones too
 abbrev pub blocks_in : PackedBlocks → ℕ
 blocks_in b = chunk_count (b.offset + b.len)
 
--- the blocks can be read: the offset lies in the first one, positions are below 2 ^ 64, each has a width of at most this many bits, and they lie in the bytes behind each other
-pub record AreReadable (bits : ℕ) (b : PackedBlocks) : Type 0 where
+-- the blocks can be read of these bytes: the offset lies in the first one, positions are below 2 ^ 64, each has a width of at most this many bits, and they lie in the bytes behind each other
+pub record AreReadable (bits : ℕ) (bytes : List ℕ) (b : PackedBlocks) : Type 0 where
   pub offset : b.offset < 1024
   pub few : b.offset + b.len < 2 ^ 64
   pub names : NamesAll b.widths (blocks_in b)
-  pub within : AreWithin bits (blocks_in b) (length b.packed.now) (blocks_of b.widths)
+  pub within : AreWithin bits (blocks_in b) (length bytes) (blocks_of b.widths)
   pub joined : AreJoined (blocks_in b) ((blocks_of b.widths).start (blocks_in b)) (blocks_of b.widths)

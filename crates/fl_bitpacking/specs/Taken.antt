@@ -11,6 +11,7 @@ use Rattle.fl_patches.specs.PatchMaps.{patched_in}
 use Rattle.fl_bitpacking.specs.Blocks.{Blocks, block_item, blocks_of, item_of_blocks, value_at}
 use Rattle.fl_bitpacking.specs.Columns.{BitPackedParts, column_of_packed, packed_item, stored}
 use Rattle.fl_bitpacking.specs.Parts.{parts_of}
+use Rattle.fl_bitpacking.specs.Readings.{bytes_at}
 use Rattle.fl_bitpacking.specs.declared.blocks.PackedBlocks.{PackedBlocks}
 use Rattle.fl_bitpacking.specs.declared.compute.take.runs.Run.{Run}
 use Rattle.fl_bitpacking.specs.declared.compute.take.Taking.{Taking}
@@ -53,17 +54,17 @@ HasStarts (Global width) = Unit {0}
 HasStarts (Boundaries boundaries) = Unit {0}
 HasStarts (PerBlock widths) = ⊥
 
--- a run is that of the positions from one place of the list up to another, which lie in one block: its bytes and its width give the items of these positions
-pub record IsRun (bits : ℕ) (blocks : PackedBlocks) (positions : List ℕ) (run : Run) : Type 0 where
+-- a run is that of the positions from one place of the list up to another, which lie in one block of these bytes: its extent gives the items of these positions
+pub record IsRun (bits : ℕ) (bytes : List ℕ) (blocks : PackedBlocks) (positions : List ℕ) (run : Run) : Type 0 where
   pub order : run.from < run.to
   pub within : run.to ≤ length positions
-  pub narrow : run.width ≤ bits
-  pub whole : length run.block.now ≡ 128 * run.width
-  pub each : (ptype : PType) (i : ℕ) → run.from ≤ i → i < run.to → block_item ptype run.width run.block.now ((blocks.offset + slice_index positions i) % 1024) ≡ item_of_blocks ptype (blocks_of blocks.widths) blocks.packed.now (blocks.offset + slice_index positions i)
+  pub narrow : run.extent.width ≤ bits
+  pub room : run.extent.start + 128 * run.extent.width ≤ length bytes
+  pub each : (ptype : PType) (i : ℕ) → run.from ≤ i → i < run.to → block_item ptype run.extent.width (bytes_at run.extent bytes) ((blocks.offset + slice_index positions i) % 1024) ≡ item_of_blocks ptype (blocks_of blocks.widths) bytes (blocks.offset + slice_index positions i)
 
--- the first of these integers are the items at the first of these positions, as their bits stand in the blocks
-pub record AreTaken {T : Type 0} (value : T → ℤ) (ptype : PType) (blocks : PackedBlocks) (positions : List ℕ) (count : ℕ) (items : List T) : Type 0 where
-  pub each : (i : ℕ) → i < count → value_at value items i ≡ item_of_blocks ptype (blocks_of blocks.widths) blocks.packed.now (blocks.offset + slice_index positions i)
+-- the first of these integers are the items at the first of these positions, as their bits stand in the blocks of these bytes
+pub record AreTaken {T : Type 0} (value : T → ℤ) (ptype : PType) (bytes : List ℕ) (blocks : PackedBlocks) (positions : List ℕ) (count : ℕ) (items : List T) : Type 0 where
+  pub each : (i : ℕ) → i < count → value_at value items i ≡ item_of_blocks ptype (blocks_of blocks.widths) bytes (blocks.offset + slice_index positions i)
 
 -- ---- columns
 

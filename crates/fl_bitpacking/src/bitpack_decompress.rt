@@ -14,10 +14,12 @@ ghost use Rattle.fl_bitpacking.specs.Blocks.{block_item, blocks_of, global_block
 ghost use Rattle.fl_bitpacking.specs.Columns.{block_count, column_of_packed};
 ghost use Rattle.fl_bitpacking.specs.Parts.{AreReadable, Fit, blocks_in, blocks_to_read, parts_of};
 ghost use Rattle.fl_bitpacking.specs.ReadWidths.{AreWidthsOf};
+ghost use Rattle.fl_bitpacking.specs.Readings.{AreFewBlocks, more_blocks};
 
 use crate::bit_packed::BitPacked;
 use crate::bitpack_decompress::block_decoding::PlusReferences;
-use crate::blocks::{PackedBlocks, global_block, prove_count_fits};
+use crate::blocks::{PackedBlocks, global_block};
+use crate::packed_reader::PackedReader;
 use crate::patching::write_patches;
 use fastlanes::{FL_CHUNK_SIZE, FastLanes, Work, unpack_single};
 use fl_column::{PhysicalPType, PrimitiveArray};
@@ -85,46 +87,45 @@ fn push_block<T: BitPacked>(
     start: usize,
     items: &mut Vec<T>,
     scratch: &mut [T; FL_CHUNK_SIZE],
-    work: &mut Work,
+    reader: &mut PackedReader,
 ) -> Result<usize, AllocError>
-    requires readable { AreReadable (bits_of_type T.PTYPE) blocks }
+    requires readable { AreReadable (bits_of_type T.PTYPE) reader.old.bytes blocks }
     requires block { j < blocks_in blocks }
     requires start { start ≡ (blocks_of blocks.widths).start j }
     requires begun { length items.old.items ≡ 1024 * j - blocks.offset }
     ensures long { OnOk result (length items.new.items ≡ min (1024 * (j + 1)) (blocks.entry.offset + blocks.entry.len) - blocks.entry.offset) }
     ensures before { OnOk result ((i : ℕ) → i < length items.old.items → value_at T.value items.new.items i ≡ value_at T.value items.old.items i) }
-    ensures part { OnOk result ((i : ℕ) → length items.old.items + i < length items.new.items → value_at T.value items.new.items (length items.old.items + i) ≡ item_of_blocks T.PTYPE (blocks_of blocks.entry.widths) blocks.entry.packed.now (blocks.entry.offset + (length items.old.items + i))) }
+    ensures part { OnOk result ((i : ℕ) → length items.old.items + i < length items.new.items → value_at T.value items.new.items (length items.old.items + i) ≡ item_of_blocks T.PTYPE (blocks_of blocks.entry.widths) reader.old.bytes (blocks.entry.offset + (length items.old.items + i))) }
     ensures next { IfOk result (λ next. next ≡ (blocks_of blocks.entry.widths).start (j + 1)) }
-    ensures blocks { OnOk result (work.new.blocks ≡ min (work.old.blocks + 1) u64.MAX) }
-    ensures most { work.new.blocks ≤ work.old.blocks + 1 }
-    ensures words { work.new.words ≡ work.old.words }
+    ensures counted { OnOk result (reader.new ≡ more_blocks 1 reader.old) }
+    ensures most { AreFewBlocks 1 reader.old reader.new }
 {
     let (from, to) = blocks.places(j);
     items.resize(to, T::zero())?;
     let part = &mut items[from..];
     let decoder = PlusReferences { references: &[] };
-    Ok(blocks.decode_block(&decoder, j, start, part, scratch, work))
+    Ok(blocks.decode_block(&decoder, j, start, part, scratch, reader))
 }
 
 /// The items of packed blocks; each block is unpacked once.
 fn decode_blocks<T: BitPacked>(
     alloc: Global,
     blocks: PackedBlocks,
-    work: &mut Work,
+    reader: &mut PackedReader,
 ) -> Result<Vec<T>, AllocError>
-    requires { AreReadable (bits_of_type T.PTYPE) blocks }
+    requires { AreReadable (bits_of_type T.PTYPE) reader.old.bytes blocks }
     ensures long { IfOk result (λ v. length v.items ≡ blocks.entry.len) }
-    ensures items { IfOk result (λ v. (i : ℕ) → i < blocks.entry.len → value_at T.value v.items i ≡ item_of_blocks T.PTYPE (blocks_of blocks.entry.widths) blocks.entry.packed.now (blocks.entry.offset + i)) }
-    ensures blocks { OnOk result (work.new.blocks ≡ min (work.old.blocks + blocks_in blocks.entry) u64.MAX) }
-    ensures most { work.new.blocks ≤ work.old.blocks + blocks_in blocks.entry }
-    ensures words { work.new.words ≡ work.old.words }
+    ensures items { IfOk result (λ v. (i : ℕ) → i < blocks.entry.len → value_at T.value v.items i ≡ item_of_blocks T.PTYPE (blocks_of blocks.entry.widths) reader.old.bytes (blocks.entry.offset + i)) }
+    ensures counted { OnOk result (reader.new ≡ more_blocks (blocks_in blocks.entry) reader.old) }
+    ensures most { AreFewBlocks (blocks_in blocks.entry) reader.old reader.new }
 {
-    prove_count_fits(work);
+    // For the proof: the count is a `u64`.
+    let _blocks = reader.blocks();
     let mut items = Vec::with_capacity(alloc, blocks.len)?;
     let mut scratch = [T::zero(); FL_CHUNK_SIZE];
     let mut start = 0;
     for j in 0..blocks.count() {
-        start = push_block(blocks, j, start, &mut items, &mut scratch, work)?;
+        start = push_block(blocks, j, start, &mut items, &mut scratch, reader)?;
     }
     Ok(items)
 }
@@ -143,20 +144,19 @@ pub(crate) fn zeros<T: NativePType>(alloc: Global, len: usize) -> Result<Vec<T>,
 pub(crate) fn unpack_values<T: BitPacked>(
     alloc: Global,
     blocks: PackedBlocks,
-    work: &mut Work,
+    reader: &mut PackedReader,
 ) -> Result<Vec<T>, AllocError>
-    requires { AreReadable (bits_of_type T.PTYPE) blocks }
+    requires { AreReadable (bits_of_type T.PTYPE) reader.old.bytes blocks }
     ensures long { IfOk result (λ v. length v.items ≡ blocks.entry.len) }
-    ensures items { IfOk result (λ v. (i : ℕ) → i < blocks.entry.len → value_at T.value v.items i ≡ item_of_blocks T.PTYPE (blocks_of blocks.entry.widths) blocks.entry.packed.now (blocks.entry.offset + i)) }
-    ensures blocks { work.new.blocks ≤ work.old.blocks + blocks_in blocks.entry }
-    ensures words { work.new.words ≡ work.old.words }
+    ensures items { IfOk result (λ v. (i : ℕ) → i < blocks.entry.len → value_at T.value v.items i ≡ item_of_blocks T.PTYPE (blocks_of blocks.entry.widths) reader.old.bytes (blocks.entry.offset + i)) }
+    ensures most { AreFewBlocks (blocks_in blocks.entry) reader.old reader.new }
 {
     match blocks.widths {
         Widths::Global(width) if width == 0 => {
             let items = zeros(alloc, blocks.len)?;
             Ok(items)
         }
-        _ => decode_blocks(alloc, blocks, work),
+        _ => decode_blocks(alloc, blocks, reader),
     }
 }
 
@@ -184,19 +184,20 @@ fn unpack_typed<T: BitPacked + WrappingAdd>(
 ) -> Result<PrimitiveArray, FastLanesError>
     requires typed { column.now.ptype ≡ T.PTYPE }
     requires fit { Fit (parts_of column.now) }
-    requires readable { AreReadable (bits_of_type column.now.ptype) (blocks_to_read column.now widths) }
+    requires readable { AreReadable (bits_of_type column.now.ptype) column.now.packed.now (blocks_to_read column.now widths) }
     ensures column { Answers column_of_primitive result (Ok (column_of_packed (parts_of column.now) (blocks_of widths.entry))) }
     ensures blocks { work.new.blocks ≤ work.old.blocks + blocks_in (blocks_to_read column.now widths.entry) }
     ensures words { work.new.words ≡ work.old.words }
 {
     let blocks = PackedBlocks {
         widths,
-        packed: column.packed,
         offset: column.offset,
         len: column.len,
     };
-    let values = unpack_values::<T>(alloc, blocks, work)?;
-    let items = with_values(values, column.patches);
+    let mut reader = PackedReader::over(column.packed, work);
+    let values = unpack_values::<T>(alloc, blocks, &mut reader);
+    *work = reader.finish();
+    let items = with_values(values?, column.patches);
     let validity = column.validity.try_clone(alloc)?;
     PrimitiveArray::new(items, validity)
 }

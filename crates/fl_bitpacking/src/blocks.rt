@@ -7,13 +7,16 @@ ghost use Rattle.fl_column.specs.Chunks.{chunk_count};
 ghost use Rattle.fl_bitpacking.specs.BlockSums.{decoded_item};
 ghost use Rattle.fl_bitpacking.specs.Blocks.{block_item, blocks_of, bytes_of_block, global_blocks, value_at};
 ghost use Rattle.fl_bitpacking.specs.Parts.{AreReadable, blocks_in};
+ghost use Rattle.fl_bitpacking.specs.Readings.{bytes_at, more_blocks};
 ghost use Rattle.fl_bitpacking.specs.Taken.{HasStarts};
 
 use crate::bit_packed::BitPacked;
 use crate::bitpack_decompress::block_decoding::BlockDecoder;
 use crate::compute::take::runs::block_start;
+use crate::packed_data::BlockExtent;
+use crate::packed_reader::PackedReader;
 use crate::places::places_from;
-use fastlanes::{FL_CHUNK_SIZE, Work};
+use fastlanes::FL_CHUNK_SIZE;
 use fl_column::chunk_count;
 use fl_patches::Widths;
 use fl_types::NativePType;
@@ -42,24 +45,22 @@ pub(crate) fn global_block(packed: &[u8], width: usize, j: usize) -> &[u8]
 fn decode_part<T: NativePType, D: BlockDecoder<T>>(
     decoder: &D,
     j: usize,
-    width: usize,
-    block: &[u8],
+    extent: BlockExtent,
     low: usize,
     items: &mut [T],
     scratch: &mut [T; FL_CHUNK_SIZE],
-    work: &mut Work,
+    reader: &mut PackedReader,
 )
-    requires width { width ≤ bits_of_type T.PTYPE }
-    requires block { length block.now ≡ 128 * width }
+    requires width { extent.width ≤ bits_of_type T.PTYPE }
+    requires room { extent.start + 128 * extent.width ≤ length reader.old.bytes }
     requires within { low + length items.old ≤ 1024 }
-    ensures items { (i : ℕ) → i < length items.old → value_at T.value items.new i ≡ D.item decoder.now j (block_item T.PTYPE width block.now (low + i)) }
-    ensures blocks { work.new.blocks ≡ min (work.old.blocks + 1) u64.MAX }
-    ensures words { work.new.words ≡ work.old.words }
+    ensures items { (i : ℕ) → i < length items.old → value_at T.value items.new i ≡ D.item decoder.now j (block_item T.PTYPE extent.width (bytes_at extent reader.old.bytes) (low + i)) }
+    ensures counted { reader.new ≡ more_blocks 1 reader.old }
 {
     match items.as_mut_array::<FL_CHUNK_SIZE>() {
-        Some(whole) => decoder.decode_block(j, width, block, whole, work),
+        Some(whole) => decoder.decode_block(j, extent, whole, reader),
         None => {
-            decoder.decode_block(j, width, block, scratch, work);
+            decoder.decode_block(j, extent, scratch, reader);
             let decoded = &scratch[..];
             items.copy_from_slice(&decoded[low..low + items.len()]);
         }
@@ -71,34 +72,24 @@ fn decode_part<T: NativePType, D: BlockDecoder<T>>(
 fn read_part<T: BitPacked, D: BlockDecoder<T>>(
     decoder: &D,
     j: usize,
-    width: usize,
-    block: &[u8],
+    extent: BlockExtent,
     low: usize,
     items: &mut [T],
-    work: &mut Work,
+    reader: &mut PackedReader,
 )
-    requires width { width ≤ bits_of_type T.PTYPE }
-    requires block { length block.now ≡ 128 * width }
+    requires width { extent.width ≤ bits_of_type T.PTYPE }
+    requires room { extent.start + 128 * extent.width ≤ length reader.old.bytes }
     requires within { low + length items.old ≤ 1024 }
-    ensures items { (i : ℕ) → i < length items.old → value_at T.value items.new i ≡ D.item decoder.now j (block_item T.PTYPE width block.now (low + i)) }
-    ensures blocks { work.new.blocks ≡ min (work.old.blocks + 1) u64.MAX }
-    ensures words { work.new.words ≡ work.old.words }
+    ensures items { (i : ℕ) → i < length items.old → value_at T.value items.new i ≡ D.item decoder.now j (block_item T.PTYPE extent.width (bytes_at extent reader.old.bytes) (low + i)) }
+    ensures counted { reader.new ≡ more_blocks 1 reader.old }
 {
     match items.as_mut_array::<FL_CHUNK_SIZE>() {
-        Some(whole) => decoder.decode_block(j, width, block, whole, work),
+        Some(whole) => decoder.decode_block(j, extent, whole, reader),
         None => {
             let mut scratch = [T::zero(); FL_CHUNK_SIZE];
-            decode_part(decoder, j, width, block, low, items, &mut scratch, work)
+            decode_part(decoder, j, extent, low, items, &mut scratch, reader)
         }
     }
-}
-
-/// A count of blocks fits its type.
-pub(crate) fn prove_count_fits(work: &Work)
-    ensures { work.now.blocks ≤ u64.MAX }
-{
-    // For the proof: the count is a `u64`.
-    let _blocks = work.blocks();
 }
 
 /// Packed blocks, and which of their items are read.
@@ -106,8 +97,6 @@ pub(crate) fn prove_count_fits(work: &Work)
 pub(crate) struct PackedBlocks<'a> {
     /// The widths of the blocks.
     pub(crate) widths: Widths<'a>,
-    /// Their bytes, one block after another.
-    pub(crate) packed: &'a [u8],
     /// The position of the first item in the first block, below 1024.
     pub(crate) offset: usize,
     /// The number of items.
@@ -145,22 +134,23 @@ impl PackedBlocks<'_> {
         start: usize,
         items: &mut [T],
         scratch: &mut [T; FL_CHUNK_SIZE],
-        work: &mut Work,
+        reader: &mut PackedReader,
     ) -> usize
-        requires readable { AreReadable (bits_of_type T.PTYPE) self }
+        requires readable { AreReadable (bits_of_type T.PTYPE) reader.old.bytes self }
         requires block { j < blocks_in self }
         requires start { start ≡ (blocks_of self.widths).start j }
         requires room { 1024 * j - self.offset + length items.old ≤ 1024 * (j + 1) - self.offset }
-        ensures items { (i : ℕ) → i < length items.old → value_at T.value items.new i ≡ decoded_item (D.item decoder.now) T.PTYPE (blocks_of self.entry.widths) self.entry.packed.now (self.entry.offset + (1024 * j - self.entry.offset + i)) }
+        ensures items { (i : ℕ) → i < length items.old → value_at T.value items.new i ≡ decoded_item (D.item decoder.now) T.PTYPE (blocks_of self.entry.widths) reader.old.bytes (self.entry.offset + (1024 * j - self.entry.offset + i)) }
         ensures next { result ≡ (blocks_of self.entry.widths).start (j + 1) }
-        ensures blocks { work.new.blocks ≡ min (work.old.blocks + 1) u64.MAX }
-        ensures words { work.new.words ≡ work.old.words }
+        ensures counted { reader.new ≡ more_blocks 1 reader.old }
     {
+        // For the proof: the block ends below 2 ^ 64.
+        let _size = reader.size();
         let width = self.widths.of_block(j);
-        let block = block_at(self.packed, start, width);
         let low = self.offset.saturating_sub(FL_CHUNK_SIZE * j);
-        decode_part(decoder, j, width, block, low, items, scratch, work);
-        start + block.len()
+        let extent = BlockExtent { start, width };
+        decode_part(decoder, j, extent, low, items, scratch, reader);
+        start + FL_CHUNK_SIZE / 8 * width
     }
 
     /// Writes all items, unpacking each block once.
@@ -169,20 +159,20 @@ impl PackedBlocks<'_> {
         decoder: &D,
         items: &mut [T],
         scratch: &mut [T; FL_CHUNK_SIZE],
-        work: &mut Work,
+        reader: &mut PackedReader,
     )
-        requires readable { AreReadable (bits_of_type T.PTYPE) self }
+        requires readable { AreReadable (bits_of_type T.PTYPE) reader.old.bytes self }
         requires long { length items.old ≡ self.len }
-        ensures items { (i : ℕ) → i < length items.old → value_at T.value items.new i ≡ decoded_item (D.item decoder.now) T.PTYPE (blocks_of self.entry.widths) self.entry.packed.now (self.entry.offset + i) }
-        ensures blocks { work.new.blocks ≡ min (work.old.blocks + blocks_in self.entry) u64.MAX }
-        ensures words { work.new.words ≡ work.old.words }
+        ensures items { (i : ℕ) → i < length items.old → value_at T.value items.new i ≡ decoded_item (D.item decoder.now) T.PTYPE (blocks_of self.entry.widths) reader.old.bytes (self.entry.offset + i) }
+        ensures counted { reader.new ≡ more_blocks (blocks_in self.entry) reader.old }
     {
-        prove_count_fits(work);
+        // For the proof: the count is a `u64`.
+        let _blocks = reader.blocks();
         let mut start = 0;
         for j in 0..self.count() {
             let (from, to) = self.places(j);
             let part = &mut items[from..to];
-            start = self.decode_block(decoder, j, start, part, scratch, work);
+            start = self.decode_block(decoder, j, start, part, scratch, reader);
         }
     }
 
@@ -193,23 +183,22 @@ impl PackedBlocks<'_> {
         j: usize,
         low: usize,
         items: &mut [T],
-        work: &mut Work,
+        reader: &mut PackedReader,
     )
-        requires readable { AreReadable (bits_of_type T.PTYPE) self }
+        requires readable { AreReadable (bits_of_type T.PTYPE) reader.old.bytes self }
         requires starts { HasStarts self.widths }
         requires block { j < blocks_in self }
         requires low { low < 1024 }
         requires within { low + length items.old ≤ 1024 }
-        ensures items { (i : ℕ) → i < length items.old → value_at T.value items.new i ≡ decoded_item (D.item decoder.now) T.PTYPE (blocks_of self.entry.widths) self.entry.packed.now (1024 * j + low + i) }
-        ensures blocks { work.new.blocks ≡ min (work.old.blocks + 1) u64.MAX }
-        ensures words { work.new.words ≡ work.old.words }
+        ensures items { (i : ℕ) → i < length items.old → value_at T.value items.new i ≡ decoded_item (D.item decoder.now) T.PTYPE (blocks_of self.entry.widths) reader.old.bytes (1024 * j + low + i) }
+        ensures counted { reader.new ≡ more_blocks 1 reader.old }
     {
-        let bits = self.widths.of_block(j);
+        let width = self.widths.of_block(j);
         // For the proof: the block ends below 2 ^ 64.
-        let _size = self.packed.len();
+        let _size = reader.size();
         let start = block_start(self.widths, j);
-        let block = block_at(self.packed, start, bits);
-        read_part(decoder, j, bits, block, low, items, work);
+        let extent = BlockExtent { start, width };
+        read_part(decoder, j, extent, low, items, reader);
     }
 
     /// Writes the items from index `start` on, as many as the slice has. Each block that has one of them is unpacked
@@ -219,21 +208,21 @@ impl PackedBlocks<'_> {
         decoder: &D,
         start: usize,
         items: &mut [T],
-        work: &mut Work,
+        reader: &mut PackedReader,
     )
-        requires readable { AreReadable (bits_of_type T.PTYPE) self }
+        requires readable { AreReadable (bits_of_type T.PTYPE) reader.old.bytes self }
         requires starts { HasStarts self.widths }
         requires range { start + length items.old ≤ self.len }
-        ensures items { (i : ℕ) → i < length items.old → value_at T.value items.new i ≡ decoded_item (D.item decoder.now) T.PTYPE (blocks_of self.entry.widths) self.entry.packed.now (self.entry.offset + (start + i)) }
-        ensures blocks { work.new.blocks ≡ min (work.old.blocks + (chunk_count (self.entry.offset + start + length items.old) - (self.entry.offset + start) / 1024)) u64.MAX }
-        ensures words { work.new.words ≡ work.old.words }
+        ensures items { (i : ℕ) → i < length items.old → value_at T.value items.new i ≡ decoded_item (D.item decoder.now) T.PTYPE (blocks_of self.entry.widths) reader.old.bytes (self.entry.offset + (start + i)) }
+        ensures counted { reader.new ≡ more_blocks (chunk_count (self.entry.offset + start + length items.old) - (self.entry.offset + start) / 1024) reader.old }
     {
-        prove_count_fits(work);
+        // For the proof: the count is a `u64`.
+        let _blocks = reader.blocks();
         let (first, len) = (self.offset + start, items.len());
         for j in first / FL_CHUNK_SIZE..chunk_count(first + len) {
             let (from, to) = places_from(first, len, j);
             let low = first.saturating_sub(FL_CHUNK_SIZE * j);
-            self.read_block(decoder, j, low, &mut items[from..to], work);
+            self.read_block(decoder, j, low, &mut items[from..to], reader);
         }
     }
 }

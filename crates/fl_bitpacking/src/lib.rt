@@ -11,6 +11,7 @@ mod boundary_checks;
 pub mod compute;
 pub mod laws;
 pub mod packed_data;
+mod packed_reader;
 mod patching;
 pub mod places;
 pub mod references;

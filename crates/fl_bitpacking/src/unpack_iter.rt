@@ -13,6 +13,7 @@ ghost use Rattle.fl_bitpacking.specs.Blocks.{block_item, value_at};
 pub use crate::bit_packed::{BitCount, BitPacked};
 use crate::bitpack_decompress::block_decoding::AsStored;
 use crate::blocks::PackedBlocks;
+use crate::packed_reader::PackedReader;
 pub use crate::unpack_iter::bit_unpack_iterator::BitUnpackIterator;
 pub use crate::unpack_iter::bit_unpacked_chunks::BitUnpackedChunks;
 use crate::unpack_iter::cut_blocks::{lends_first, lends_last, unpack_at, whole_blocks};
@@ -234,13 +235,14 @@ impl<'a, T: BitPacked, S: UnpackStrategy<T> + Drop> UnpackedChunks<'a, T, S> {
     {
         let blocks = PackedBlocks {
             widths: Widths::Global(self.bit_width),
-            packed: self.packed,
             offset: self.offset,
             len: self.len,
         };
         let decoder = AsStored {
             strategy: &self.strategy,
         };
-        blocks.decode_into(&decoder, output, self.scratch, &mut self.work);
+        let mut reader = PackedReader::over(self.packed, &mut self.work);
+        blocks.decode_into(&decoder, output, self.scratch, &mut reader);
+        self.work = reader.finish();
     }
 }

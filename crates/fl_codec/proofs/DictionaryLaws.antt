@@ -1,6 +1,6 @@
 -- Dictionaries of chunks.
-use Rattle.std.proofs.Common.{◌≡◌, ℕ, ℤ, pos, zero, suc, ◌+◌, ◌*◌, ◌<◌, ◌≤◌, Bool, true, false, List, [], ◌∷◌, length, map, get_or, Option, None, IsTrue, refl, ap, sym, ◌∙◌, inl, inr, arith}
-use Rattle.std.specs.Prelude.{◌<ℤ◌, ◌≤ℤ◌, ◌↔◌, ◌||◌, AllPairs, Contains}
+use Rattle.std.proofs.Common.{◌≡◌, ℕ, ℤ, pos, suc, ◌+◌, ◌*◌, ◌<◌, ◌≤◌, true, List, [], ◌∷◌, length, map, get_or, Option, None, IsTrue, refl, ap, sym, ◌∙◌, inl, inr, arith}
+use Rattle.std.specs.Prelude.{◌<ℤ◌, ◌≤ℤ◌, ◌↔◌, AllPairs, Contains}
 use Rattle.std.specs.Ordering.{int_eq}
 use Rattle.std.proofs.lemmas.Bool.Decides.{Decides-int_eq, same_from_decides}
 use Rattle.std.proofs.lemmas.List.FromFn.{fill_by_all}
@@ -21,7 +21,7 @@ use Rattle.fl_codec.specs.Distinct.{distinct, has, rank, rank_above}
 use Rattle.fl_codec.specs.Dictionaries.{chunk_dictionary, dictionaries_to, dictionary_index, dictionary_indices_to, dictionary_offsets_to, encode_dictionaries, items_in_chunk}
 use Rattle.fl_codec.proofs.ChunkedRuns.{Names, chunks_back, chunks_well}
 use Rattle.fl_codec.proofs.RankLaws.{rank_from, rank_from_back, rank_to, rank_to_back}
-use Rattle.fl_codec.proofs.Rising.{distinct_few, distinct_some, eq_yes, has-distinct, or_true, rank_there, rising_distinct, rising_from_pairs, rising_same}
+use Rattle.fl_codec.proofs.Rising.{distinct_few, distinct_some, has-distinct, has_at, or_true, rank_there, rising_distinct, rising_from_pairs, rising_same}
 
 -- ---- the items of a chunk
 pub items_long : (item : ℕ → ℤ) (k : ℕ) → length (items_in_chunk item k) ≡ 1024
@@ -31,15 +31,6 @@ items_long item k = length-table (λ q. item (1024 * k + q)) 1024
 pub item_in : (item : ℕ → ℤ) (k q : ℕ) (d : ℤ) → q < 1024 → get_or (items_in_chunk item k) q d ≡ item (1024 * k + q)
 unfolding items_in_chunk
 item_in item k q d h = get_or-table (λ q. item (1024 * k + q)) 1024 q d h
-
-or_right : (a b : Bool) → b ≡ true → (a || b) ≡ true
-or_right true b e = refl
-or_right false b e = e
-
-pub has_at : (xs : List ℤ) (i : ℕ) (d : ℤ) → i < length xs → has (get_or xs i d) xs ≡ true
-has_at [] i d h = absurd (omega arith)
-has_at (x ∷ xs) zero d h = rw (eq_yes x x refl) refl
-has_at (x ∷ xs) (suc i) d h = or_right (int_eq (get_or xs i d) x) (has (get_or xs i d) xs) (has_at xs i d (omega arith))
 
 pub has_item : (item : ℕ → ℤ) (k q : ℕ) → q < 1024 → has (item (1024 * k + q)) (chunk_dictionary item k) ≡ true
 has_item item k q h =

@@ -30,6 +30,8 @@ pub mod RunIndices
 pub mod ChunkedRuns
 pub mod Rising
 pub mod DistinctSteps
+pub mod SortedDistinct
+pub mod MarkLaws
 pub mod RankLaws
 pub mod DictionaryLaws
 pub mod Comparisons

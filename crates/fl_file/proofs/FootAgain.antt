@@ -5,7 +5,7 @@ use Rattle.std.specs.Int.{cast_signed, cast_unsigned, from_le_bytes, to_le_bytes
 use Rattle.std.specs.List.{AllByRecursion}
 use Rattle.std.proofs.lemmas.Bool.{and_from, cond-true, eq-eqb, le-leb, le-ltb, lt-ltb}
 use Rattle.std.proofs.lemmas.Int.{to_z-of_z}
-use Rattle.std.proofs.lemmas.List.{take_at}
+use Rattle.std.proofs.lemmas.List.{drop-drop, take_at}
 use Rattle.std.proofs.lemmas.List.Concat.{flat_map-cons}
 use Rattle.std.proofs.lemmas.Nat.{div-add-mod', from_le_bytes-to_le_bytes_8, mod_below, shr_below}
 use Rattle.fl_types.specs.declared.dtype.Nullability.{Nullability}
@@ -20,7 +20,7 @@ use Rattle.fl_file.specs.Crc32c.{crc32c_of}
 use Rattle.fl_file.specs.Foot.{FootParts, bit_word, body_bytes, end_bytes, entry_bytes, foot_bytes, greatest_of, least_of, type_word, word_bytes}
 use Rattle.fl_file.proofs.FootSteps.{body_made}
 use Rattle.fl_file.specs.FootLaws.{EntryFits, ExtremesAreHeld, IsFootOf, extremes_fit}
-use Rattle.fl_file.specs.FootReading.{body_of, entries_at, entry_at, entry_of, extremes_of, foot_len_of, foot_of, foot_of_body, foot_with_len, integer_of_words, lie_between, order_of_word, placed, statistics_of, then_with, type_of_word, word_at}
+use Rattle.fl_file.specs.FootReading.{body_of, entries_at, entry_at, entry_of, extremes_of, foot_len_of, len_at_end, foot_of, foot_of_body, foot_with_len, integer_of_words, lie_between, order_of_word, placed, statistics_of, then_with, type_of_word, word_at}
 
 -- ---- words and integers
 word_again : (n : ℕ) → n < 2 ^ 64 → from_le_bytes w64 (to_le_bytes w64 n) ≡ n
@@ -70,11 +70,11 @@ entry_again : (t : PType) (e : ChunkEntry) → EntryFits t e → entry_at t (ent
 unfolding entry_at
 entry_again t e fit =
     let s = e.statistics in
-    let held = least_held s.extremes fit.held in
+    let held = least_held s.extremes fit.statistics.held in
     fields_same t _ e.offset _ e.size _ e.checksum _ s.len _ s.null_count _ (bit_word s.is_sorted) _ (least_of s.extremes) _ (greatest_of s.extremes) _ s.sum
-    (word_again e.offset fit.offset) (word_again e.size fit.size) (word_again e.checksum (omega (arith, fit.checksum))) (word_again s.len (omega (arith, fit.len))) (word_again s.null_count (omega (arith, fit.len, fit.null_count))) (word_again (bit_word s.is_sorted) (bit_word_below s.is_sorted))
-    (integer_again (least_of s.extremes) held.0) (integer_again (greatest_of s.extremes) held.1) (integer_again s.sum fit.sum)
-    ∙ ap (entry_of e.offset e.size e.checksum) (statistics_again t s.len s.null_count s.extremes s.is_sorted s.sum fit.len fit.null_count fit.extremes)
+    (word_again e.offset fit.offset) (word_again e.size fit.size) (word_again e.checksum (omega (arith, fit.checksum))) (word_again s.len (omega (arith, fit.statistics.len))) (word_again s.null_count (omega (arith, fit.statistics.len, fit.statistics.null_count))) (word_again (bit_word s.is_sorted) (bit_word_below s.is_sorted))
+    (integer_again (least_of s.extremes) held.0) (integer_again (greatest_of s.extremes) held.1) (integer_again s.sum fit.statistics.sum)
+    ∙ ap (entry_of e.offset e.size e.checksum) (statistics_again t s.len s.null_count s.extremes s.is_sorted s.sum fit.statistics.len fit.statistics.null_count fit.statistics.extremes)
     ∙ cond-true (nat_lt e.checksum (2 ^ 32)) (Some e) None (lt-ltb e.checksum (2 ^ 32) fit.checksum)
 
 entries_step : (t : PType) (n : ℕ) (bytes : List ℕ) (e : ChunkEntry) (es : List ChunkEntry) → entry_at t (take 96 bytes) ≡ Some e → entries_at t n (drop 96 bytes) ≡ Some es → entries_at t (suc n) bytes ≡ Some (e ∷ es)
@@ -116,6 +116,9 @@ length_entries (e ∷ es) =
 pub length_body : (foot : FootParts) → length (body_bytes foot) ≡ 8 + 96 * length foot.chunks
 length_body foot = omega (arith, length-append (word_bytes (type_word foot.ptype foot.nullability ∷ [])) (flat_map entry_bytes foot.chunks), length_entries foot.chunks)
 
+pub length_foot : (foot : FootParts) → length (foot_bytes foot) ≡ 28 + 96 * length foot.chunks
+length_foot foot = length-append (body_bytes foot) (end_bytes (body_bytes foot)) ∙ ap (λ n. n + 20) (length_body foot) ∙ omega arith
+
 body_again : (foot : FootParts) → AllByRecursion (EntryFits foot.ptype) foot.chunks → body_of (body_bytes foot) ≡ Some foot
 body_again foot fit =
     body_made (body_bytes foot) foot.ptype foot.nullability (length foot.chunks) foot.chunks (type_again foot.ptype foot.nullability (flat_map entry_bytes foot.chunks)) (omega (arith, length_body foot)) (entries_again foot.ptype foot.chunks fit)
@@ -128,9 +131,12 @@ tail_at (x ∷ P) E k (suc m) e = tail_at P E k m (omega arith)
 
 len_step : (bytes : List ℕ) (file_len size : ℕ) → 28 ≤ length bytes → length bytes ≤ file_len → drop (length bytes - 4) bytes ≡ codes "FLC2" → word_at (length bytes - 12) bytes ≡ size → size % 96 ≡ 16 → size ≤ length bytes - 12
     → foot_len_of bytes file_len ≡ Ok size
-unfolding foot_len_of
+unfolding len_at_end
 len_step bytes file_len size long within mark word form room =
-    rw (word, le-ltb (length bytes) 28 long, le-ltb file_len (length bytes) within, mark, form, le-leb size (length bytes - 12) room) refl
+    let at : (k : ℕ) → drop k (drop (length bytes - 28) bytes) ≡ drop (length bytes - 28 + k) bytes = λ k. drop-drop k (length bytes - 28) bytes in
+    let mark_there : drop 24 (drop (length bytes - 28) bytes) ≡ codes "FLC2" = at 24 ∙ ap (λ m. drop m bytes) (omega arith) ∙ mark in
+    let word_there : word_at 16 (drop (length bytes - 28) bytes) ≡ size = ap (λ l. from_le_bytes w64 (take 8 l)) (at 16 ∙ ap (λ m. drop m bytes) (omega arith)) ∙ word in
+    rw (le-ltb (length bytes) 28 long, le-ltb file_len (length bytes) within, mark_there, word_there, form, le-leb size (length bytes - 12) room) refl
 
 body_is_read : (start : ℕ) (body : List ℕ) (foot : FootParts) (sum : ℕ) → sum ≡ crc32c_of body → body_of body ≡ Some foot → IsTrue (lie_between 4 start foot.chunks) → foot_of_body start body sum ≡ Ok foot
 body_is_read start body foot sum e f g =

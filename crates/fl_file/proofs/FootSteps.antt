@@ -52,6 +52,10 @@ no_entry errors.BadMark t front count i bytes total lt h so_far = absurd h
 no_entry errors.BadLength t front count i bytes total lt h so_far = absurd h
 no_entry errors.BadChecksum t front count i bytes total lt h so_far = absurd h
 no_entry errors.BadPlace t front count i bytes total lt h so_far = absurd h
+no_entry errors.BadChunk t front count i bytes total lt h so_far = absurd h
+no_entry errors.TooLong t front count i bytes total lt h so_far = absurd h
+no_entry errors.ReadFault t front count i bytes total lt h so_far = absurd h
+no_entry errors.WriteFault t front count i bytes total lt h so_far = absurd h
 
 pub all_entries : (t : PType) (front : List ChunkEntry) (count i : ℕ) (bytes : List ℕ) (total : Option (List ChunkEntry)) → count ≤ i → with_entries front (entries_at t (count - i) bytes) ≡ total → total ≡ Some front
 unfolding entries_at
@@ -69,6 +73,10 @@ refused errors.BadLength read h = h
 refused errors.BadChecksum read h = h
 refused errors.BadField read h = h
 refused errors.BadPlace read h = h
+refused errors.BadChunk read h = h
+refused errors.TooLong read h = h
+refused errors.ReadFault read h = h
+refused errors.WriteFault read h = h
 
 pub placed_missing : (e : FileError) (end : ℕ) (found : Option FootParts) → IsMissing e found → Refuses e (placed end found)
 placed_missing errors.OutOfMemory end found h = tt
@@ -78,6 +86,10 @@ placed_missing errors.BadMark end found h = absurd h
 placed_missing errors.BadLength end found h = absurd h
 placed_missing errors.BadChecksum end found h = absurd h
 placed_missing errors.BadPlace end found h = absurd h
+placed_missing errors.BadChunk end found h = absurd h
+placed_missing errors.TooLong end found h = absurd h
+placed_missing errors.ReadFault end found h = absurd h
+placed_missing errors.WriteFault end found h = absurd h
 
 -- ---- places
 -- no chunks end at a place that lies before their beginning
@@ -143,6 +155,10 @@ body_missing errors.BadMark bytes t n f h = absurd h
 body_missing errors.BadLength bytes t n f h = absurd h
 body_missing errors.BadChecksum bytes t n f h = absurd h
 body_missing errors.BadPlace bytes t n f h = absurd h
+body_missing errors.BadChunk bytes t n f h = absurd h
+body_missing errors.TooLong bytes t n f h = absurd h
+body_missing errors.ReadFault bytes t n f h = absurd h
+body_missing errors.WriteFault bytes t n f h = absurd h
 
 on_ok : {A E : Type 0} (r : Result A E) (P Q : Type 0) → (P → Q) → OnOk r P → OnOk r Q
 on_ok (Ok x) P Q f h = f h

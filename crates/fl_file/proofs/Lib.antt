@@ -2,3 +2,11 @@ pub mod PruneLaws
 pub mod Crc32cLaws
 pub mod FootSteps
 pub mod FootAgain
+pub mod SummaryLaws
+pub mod StatisticsLaws
+pub mod EndLaws
+pub mod WriterLaws
+pub mod ReaderLaws
+pub mod FileAgain
+pub mod CutAgain
+pub mod PlanLaws

@@ -1,6 +1,6 @@
 -- Tests of the integers from a least to a greatest one.
-use Rattle.std.proofs.Common.{◌≡◌, ℤ, pos, negsuc, ◌-◌, ◌^◌, ◌≤◌, ◌&&◌, Bool, true, false, int_le, not, refl, ap, sym, ◌∙◌, inl, inr, arith, ◌≤ℤ◌, ◌<ℤ◌}
-use Rattle.std.specs.Prelude.{FitsSigned, Option, Some, ◌⊎◌}
+use Rattle.std.proofs.Common.{◌≡◌, ℤ, pos, negsuc, ◌-◌, ◌^◌, ◌≤◌, ◌&&◌, Bool, true, false, int_le, int_lt, not, refl, ap, sym, ◌∙◌, inl, inr, arith, ◌≤ℤ◌, ◌<ℤ◌}
+use Rattle.std.specs.Prelude.{if◌then◌else◌, FitsSigned, Option, Some, ◌⊎◌}
 use Rattle.std.specs.Int.{int_max, int_min, w128}
 use Rattle.std.specs.Ordering.{int_eq}
 use Rattle.std.proofs.lemmas.Bool.{cases_Bool, le-leb}
@@ -13,7 +13,8 @@ use Rattle.fl_column.specs.Queries.{holds, is_before}
 use Rattle.fl_file.specs.declared.pruning.Pruning.{Pruning}
 use Rattle.fl_file.specs.declared.pruning.Pruning.TheVariants as prunings
 use Rattle.fl_file.specs.declared.pruning.Test.TheVariants.{Between}
-use Rattle.fl_file.specs.Pruning.{IsExact, EachAnswers, IsAnswered, is_from, is_up_to, passes}
+use Rattle.fl_file.specs.declared.pruning.PassingRange.{PassingRange}
+use Rattle.fl_file.specs.Pruning.{IsExact, EachAnswers, IsAnswered, is_from, is_in_range, is_up_to}
 
 -- two tests that agree from least to greatest are decided alike
 pub exact_alike : (p : Pruning) (f g : ℤ → Bool) (least greatest : ℤ) → ((z : ℤ) → least ≤ℤ z → z ≤ℤ greatest → g z ≡ f z) → IsExact p f least greatest → IsExact p g least greatest
@@ -64,62 +65,12 @@ fits_between a (pos n) (negsuc m) f g h k = absurd (omega (arith, ints))
 fits_between (negsuc m) (negsuc n) b f g h k = let e : n ≤ m = omega (arith, ints) in record { sfits = omega (arith, f.sfits, e) }
 fits_between (pos m) (negsuc n) b f g h k = absurd (omega (arith, ints))
 
-not_above : (z : ℤ) → FitsSigned w128 z → int_le z (pos (2 ^ 127 - 1)) ≡ true
-not_above (pos n) h = le-leb n (2 ^ 127 - 1) (omega (arith, h.sfits))
-not_above (negsuc n) h = refl
+-- ---- a range that is exact from least to greatest
+pub exact_of_test : (p : Pruning) (f g : ℤ → Bool) (least greatest : ℤ) → FitsSigned w128 least → FitsSigned w128 greatest → ((z : ℤ) → FitsSigned w128 z → g z ≡ f z) → IsExact p f least greatest → IsExact p g least greatest
+exact_of_test p f g least greatest low high same h = exact_alike p f g least greatest (λ z a b. same z (fits_between least z greatest low high a b)) h
 
-not_below : (z : ℤ) → FitsSigned w128 z → int_le (negsuc (2 ^ 127 - 1)) z ≡ true
-not_below (pos n) h = refl
-not_below (negsuc n) h = le-leb n (2 ^ 127 - 1) (omega (arith, h.sfits))
-
-true_right : (b c : Bool) → c ≡ true → b ≡ (b && c)
-true_right true c e = sym e
-true_right false c e = refl
-
-true_left : (b c : Bool) → b ≡ true → c ≡ (b && c)
-true_left true c e = refl
-true_left false c e = absurd cc
-
-both_same : (a b c d : Bool) → a ≡ b → c ≡ d → (a && c) ≡ (b && d)
-both_same a b c d e f = ap (λ x. x && c) e ∙ ap (λ x. b && x) f
-
--- ---- comparisons as ranges
-equal_is : (k z : ℤ) → int_eq z k ≡ (int_le k z && int_le z k)
-equal_is k z = elim (cases_Bool (int_eq z k)) [
-  | inl e ↦ let same : z ≡ k = (Decides-int_eq z k).0 e in e ∙ sym (within k k z (omega (arith, ints)) (omega (arith, ints)))
-  | inr e ↦ by_lt_z z k
-      (λ under. e ∙ sym (below k k z under))
-      (λ above. by_lt_z k z
-      (λ over. e ∙ sym (beyond k k z over))
-      (λ most. let same : z ≡ k = omega (arith, ints) in absurd (let t : int_eq z k ≡ true = (Decides-int_eq z k).1 same in cc)))
-]
-
-pub eq_exact : (p : Pruning) (k least greatest : ℤ) → IsExact p (λ z. int_le k z && int_le z k) least greatest → IsExact p (holds Eq k) least greatest
-eq_exact p k least greatest h = exact_alike p (λ z. int_le k z && int_le z k) (holds Eq k) least greatest (λ z a b. equal_is k z) h
-
-pub ne_exact : (p : Pruning) (k least greatest : ℤ) → IsExact p (λ z. not (int_le k z && int_le z k)) least greatest → IsExact p (holds NotEq k) least greatest
-ne_exact p k least greatest h = exact_alike p (λ z. not (int_le k z && int_le z k)) (holds NotEq k) least greatest (λ z a b. ap not (equal_is k z)) h
-
-pub gte_exact : (p : Pruning) (k least greatest : ℤ) → FitsSigned w128 least → FitsSigned w128 greatest → IsExact p (λ z. int_le k z && int_le z (pos (2 ^ 127 - 1))) least greatest → IsExact p (holds Gte k) least greatest
-gte_exact p k least greatest f g h =
-    exact_alike p (λ z. int_le k z && int_le z (pos (2 ^ 127 - 1))) (holds Gte k) least greatest
-    (λ z a b. true_right (int_le k z) (int_le z (pos (2 ^ 127 - 1))) (not_above z (fits_between least z greatest f g a b))) h
-
-pub gt_exact : (p : Pruning) (first : Option ℤ) (k least greatest : ℤ) → FitsSigned w128 least → FitsSigned w128 greatest → ((z : ℤ) → FitsSigned w128 z → is_before Strict k z ≡ is_from first z)
-    → IsExact p (λ z. is_from first z && is_up_to (Some (pos (2 ^ 127 - 1))) z) least greatest → IsExact p (holds Gt k) least greatest
-gt_exact p first k least greatest f g same h =
-    exact_alike p (λ z. is_from first z && is_up_to (Some (pos (2 ^ 127 - 1))) z) (holds Gt k) least greatest
-    (λ z a b. let fit = fits_between least z greatest f g a b in same z fit ∙ true_right (is_from first z) (int_le z (pos (2 ^ 127 - 1))) (not_above z fit)) h
-
-pub lt_exact : (p : Pruning) (last : Option ℤ) (k least greatest : ℤ) → FitsSigned w128 least → FitsSigned w128 greatest → ((z : ℤ) → FitsSigned w128 z → is_before Strict z k ≡ is_up_to last z)
-    → IsExact p (λ z. is_from (Some (negsuc (2 ^ 127 - 1))) z && is_up_to last z) least greatest → IsExact p (holds Lt k) least greatest
-lt_exact p last k least greatest f g same h =
-    exact_alike p (λ z. is_from (Some (negsuc (2 ^ 127 - 1))) z && is_up_to last z) (holds Lt k) least greatest
-    (λ z a b. let fit = fits_between least z greatest f g a b in same z fit ∙ true_left (int_le (negsuc (2 ^ 127 - 1)) z) (is_up_to last z) (not_below z fit)) h
-
-pub between_exact : (p : Pruning) (first last : Option ℤ) (lower upper : ℤ) (options : BetweenOptions) (least greatest : ℤ) → FitsSigned w128 least → FitsSigned w128 greatest
-    → ((z : ℤ) → FitsSigned w128 z → is_before options.lower_strict lower z ≡ is_from first z) → ((z : ℤ) → FitsSigned w128 z → is_before options.upper_strict z upper ≡ is_up_to last z)
-    → IsExact p (λ z. is_from first z && is_up_to last z) least greatest → IsExact p (passes (Between lower upper options)) least greatest
-between_exact p first last lower upper options least greatest f g low high h =
-    exact_alike p (λ z. is_from first z && is_up_to last z) (passes (Between lower upper options)) least greatest
-    (λ z a b. let fit = fits_between least z greatest f g a b in both_same (is_before options.lower_strict lower z) (is_from first z) (is_before options.upper_strict z upper) (is_up_to last z) (low z fit) (high z fit)) h
+-- what is exact of the integers outside of an inverted range
+pub exact_inverted : (p : Pruning) (r : PassingRange) (least greatest : ℤ) → r.is_inverted ≡ true → IsExact p (λ z. not (int_le r.first z && int_le z r.last)) least greatest → IsExact p (is_in_range r) least greatest
+exact_inverted p r least greatest h e =
+    exact_alike p (λ z. not (int_le r.first z && int_le z r.last)) (is_in_range r) least greatest
+    (λ z a b. ap (λ inverted. if inverted then not (int_le r.first z && int_le z r.last) else (int_le r.first z && int_le z r.last)) h) e

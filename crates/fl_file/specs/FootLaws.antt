@@ -5,6 +5,7 @@ use Rattle.std.specs.List.{AllByRecursion}
 use Rattle.fl_types.specs.declared.dtype.PType.{PType}
 use Rattle.fl_types.specs.Integers.{fits}
 use Rattle.fl_file.specs.declared.foot.ChunkEntry.{ChunkEntry}
+use Rattle.fl_file.specs.declared.statistics.ChunkStatistics.{ChunkStatistics}
 use Rattle.fl_file.specs.declared.statistics.Extremes.{Extremes}
 use Rattle.fl_file.specs.Foot.{FootParts, foot_bytes}
 use Rattle.fl_file.specs.FootReading.{foot_of, lie_between}
@@ -18,16 +19,20 @@ extremes_fit ptype some (Some e) = some && (fits ptype e.least && fits ptype e.g
 abbrev pub ExtremesAreHeld : Option Extremes → Type 0
 ExtremesAreHeld extremes = IfSome extremes (λ e. FitsSigned w128 e.least × FitsSigned w128 e.greatest)
 
+-- no statistic of a chunk of this type is out of its range
+pub record StatisticsFit (ptype : PType) (s : ChunkStatistics) : Type 0 where
+  pub len : s.len < 2 ^ 63
+  pub null_count : s.null_count ≤ s.len
+  pub extremes : IsTrue (extremes_fit ptype (nat_lt s.null_count s.len) s.extremes)
+  pub held : ExtremesAreHeld s.extremes
+  pub sum : FitsSigned w128 s.sum
+
 -- no field of an entry is out of its range
 pub record EntryFits (ptype : PType) (e : ChunkEntry) : Type 0 where
   pub offset : e.offset < 2 ^ 64
   pub size : e.size < 2 ^ 64
   pub checksum : e.checksum < 2 ^ 32
-  pub len : e.statistics.len < 2 ^ 63
-  pub null_count : e.statistics.null_count ≤ e.statistics.len
-  pub extremes : IsTrue (extremes_fit ptype (nat_lt e.statistics.null_count e.statistics.len) e.statistics.extremes)
-  pub held : ExtremesAreHeld e.statistics.extremes
-  pub sum : FitsSigned w128 e.statistics.sum
+  pub statistics : StatisticsFit ptype e.statistics
 
 -- a foot of a file with so many bytes: its fields are in their ranges, and its chunks lie before it
 pub record IsFootOf (file_len : ℕ) (foot : FootParts) : Type 0 where

@@ -130,14 +130,18 @@ placed end (Some foot) = if lie_between 4 end foot.chunks then Ok foot else Err 
 abbrev pub foot_of_body : ℕ → List ℕ → ℕ → Result FootParts FileError
 foot_of_body start body checksum = if checksum == crc32c_of body then placed start (body_of body) else Err BadChecksum
 
--- how many bytes the body and its checksum are, at the end of these bytes, which are the last ones of a file with so many bytes
-unfoldable pub foot_len_of : List ℕ → ℕ → Result ℕ FileError
+-- how many bytes the body and its checksum are, in a file with so many bytes of which these are the last 28
+unfoldable pub len_at_end : List ℕ → ℕ → Result ℕ FileError
+len_at_end end file_len =
+    let size = word_at 16 end in
+    if not (bytes_eq (drop 24 end) (codes "FLC2")) then Err BadMark
+    else if (size % 96 == 16) && nat_le size (file_len - 12) then Ok size else Err BadLength
+
+-- the same at the end of these bytes, which are the last ones of a file with so many bytes, and have to be so many
+abbrev pub foot_len_of : List ℕ → ℕ → Result ℕ FileError
 foot_len_of bytes file_len =
     let n = length bytes in
-    let size = word_at (n - 12) bytes in
-    if nat_lt n 28 || nat_lt file_len n then Err TooShort
-    else if not (bytes_eq (drop (n - 4) bytes) (codes "FLC2")) then Err BadMark
-    else if (size % 96 == 16) && nat_le size (n - 12) then Ok size else Err BadLength
+    if nat_lt n 28 || nat_lt file_len n then Err TooShort else len_at_end (drop (n - 28) bytes) n
 
 -- the foot whose body and checksum are so many bytes before the last twelve
 abbrev pub foot_with_len : List ℕ → ℕ → ℕ → Result FootParts FileError

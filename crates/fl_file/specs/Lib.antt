@@ -4,3 +4,7 @@ pub mod Crc32c
 pub mod Foot
 pub mod FootReading
 pub mod FootLaws
+pub mod Ends
+pub mod Files
+pub mod FileReading
+pub mod FileLaws

@@ -1,10 +1,16 @@
 -- What is known of a test of a chunk's items.
-use Rattle.std.specs.Prelude.{◌≡◌, ◌≤ℤ◌, ℤ, Bool, true, false, List, All, Option, Some, None, int_le, ⊤}
+use Rattle.std.specs.Prelude.{◌≡◌, ◌≤ℤ◌, ◌&&◌, not, if◌then◌else◌, ℤ, Bool, true, false, List, [], ◌∷◌, All, Option, Some, None, int_le, ⊤}
+use Rattle.fl_column.specs.Columns.{Column}
 use Rattle.fl_column.specs.Queries.{holds, is_between}
+use Rattle.fl_file.specs.declared.foot.ChunkEntry.{ChunkEntry}
 use Rattle.fl_file.specs.declared.pruning.Pruning.{Pruning}
 use Rattle.fl_file.specs.declared.pruning.Pruning.TheVariants as prunings
+use Rattle.fl_file.specs.declared.pruning.PassingRange.{PassingRange}
 use Rattle.fl_file.specs.declared.pruning.Test.{Test}
 use Rattle.fl_file.specs.declared.pruning.Test.TheVariants.{Compare, Between}
+use Rattle.fl_file.specs.declared.statistics.ChunkStatistics.{ChunkStatistics}
+use Rattle.fl_file.specs.declared.statistics.Extremes.{Extremes}
+use Rattle.fl_file.specs.Statistics.{AreStatisticsOf, valid_items}
 
 -- the item passes the test
 abbrev pub passes : Test → ℤ → Bool
@@ -20,6 +26,10 @@ is_from (Some first) z = int_le first z
 abbrev pub is_up_to : Option ℤ → ℤ → Bool
 is_up_to None z = false
 is_up_to (Some last) z = int_le z last
+
+-- the integer is in the range, or outside of it where that is inverted
+abbrev pub is_in_range : PassingRange → ℤ → Bool
+is_in_range range z = if range.is_inverted then not (int_le range.first z && int_le z range.last) else (int_le range.first z && int_le z range.last)
 
 -- each of these integers fails, or each passes, or nothing is said
 abbrev pub SaysOf : Pruning → (ℤ → Bool) → List ℤ → Type 0
@@ -43,3 +53,17 @@ abbrev pub IsExact : Pruning → (ℤ → Bool) → ℤ → ℤ → Type 0
 IsExact prunings.Skip test least greatest = EachAnswers test false least greatest
 IsExact prunings.All test least greatest = EachAnswers test true least greatest
 IsExact prunings.Some test least greatest = IsAnswered test true least greatest × IsAnswered test false least greatest
+
+-- ---- plans
+-- the statistics of a chunk say this of the test, and no less
+pub record IsPruningOf (test : Test) (s : ChunkStatistics) (p : Pruning) : Type 0 where
+  pub sound : (c : Column) → AreStatisticsOf s c → SaysOf p (passes test) (valid_items c)
+  pub no_item : s.extremes ≡ None → p ≡ prunings.Skip
+  pub exact : (e : Extremes) → s.extremes ≡ Some e → e.least ≤ℤ e.greatest → IsExact p (passes test) e.least e.greatest
+
+-- for each of these chunks, what its statistics say of the test
+abbrev pub IsPlanOf : Test → List ChunkEntry → List Pruning → Type 0
+IsPlanOf test [] [] = ⊤
+IsPlanOf test [] (p ∷ ps) = ⊥
+IsPlanOf test (e ∷ es) [] = ⊥
+IsPlanOf test (e ∷ es) (p ∷ ps) = IsPruningOf test e.statistics p × IsPlanOf test es ps

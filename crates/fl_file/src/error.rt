@@ -2,11 +2,13 @@
 
 ghost use Rattle.std.specs.Prelude.{◌≡◌};
 ghost use Rattle.fl_file.specs.declared.error.FileError.TheVariants.{OutOfMemory};
+ghost use Rattle.fl_file.specs.declared.error.FileError.TheVariants as errors;
 
+use crate::ends::{ReadFault, WriteFault};
 use std::alloc::{AllocError, AllocFailed};
 use thiserror::Error;
 
-/// Why the foot of a file is not read. Where several apply, the first of them in this order is given.
+/// Why a file is not read or written. Where several of those of a foot apply, the first of them in this order is given.
 #[derive(Clone, Copy, Debug, PartialEq, Eq, Error)]
 pub enum FileError {
     /// A growth of memory was refused.
@@ -31,6 +33,18 @@ pub enum FileError {
     /// the foot.
     #[error("BadPlace")]
     BadPlace,
+    /// The checksum is not that of the chunk's bytes.
+    #[error("BadChunk")]
+    BadChunk,
+    /// The file would have 2^63 bytes.
+    #[error("TooLong")]
+    TooLong,
+    /// A read failed.
+    #[error("ReadFault")]
+    ReadFault,
+    /// A write failed, now or before.
+    #[error("WriteFault")]
+    WriteFault,
 }
 
 impl From<AllocError> for FileError {
@@ -46,5 +60,21 @@ impl<T: Drop> From<AllocFailed<T>> for FileError {
 
     fn from(_e: AllocFailed<T>) -> FileError {
         FileError::OutOfMemory
+    }
+}
+
+impl From<ReadFault> for FileError {
+    ghost from_gives = { λ _ e. e ≡ errors.ReadFault };
+
+    fn from(_e: ReadFault) -> FileError {
+        FileError::ReadFault
+    }
+}
+
+impl From<WriteFault> for FileError {
+    ghost from_gives = { λ _ e. e ≡ errors.WriteFault };
+
+    fn from(_e: WriteFault) -> FileError {
+        FileError::WriteFault
     }
 }

@@ -4,7 +4,7 @@ ghost use Rattle.std.specs.Prelude.{◌≡◌, ◌≤◌, ◌<◌, ◌+◌, ◌*
 ghost use Rattle.fl_types.specs.Integers.{fits};
 ghost use Rattle.fl_file.specs.declared.foot.ChunkEntry.{ChunkEntry};
 ghost use Rattle.fl_file.specs.Foot.{foot_parts};
-ghost use Rattle.fl_file.specs.FootReading.{Finds, Gives, body_of, entries_at, entry_at, extremes_of, foot_len_of, foot_of, foot_with_len, integer_at, lie_between, lies_from, order_of_word, placed, ptype_numbered, statistics_at, statistics_of, type_of_word, word_at};
+ghost use Rattle.fl_file.specs.FootReading.{Finds, Gives, body_of, entries_at, entry_at, extremes_of, foot_len_of, foot_of, foot_with_len, integer_at, len_at_end, lie_between, lies_from, order_of_word, placed, ptype_numbered, statistics_at, statistics_of, type_of_word, word_at};
 
 use crate::checksum::crc32c;
 use crate::error::FileError;
@@ -31,7 +31,6 @@ pub fn read_foot(alloc: Global, bytes: &[u8], file_len: u64) -> Result<Foot, Fil
 }
 
 /// How many bytes the body and its checksum are.
-#[tactic(auto, unfolding(crate::specs::FootReading::foot_len_of))]
 fn foot_len(bytes: &[u8], file_len: u64) -> Result<usize, FileError>
     ensures exact { result ≡ foot_len_of bytes.now file_len }
     ensures range { IfOk result (λ size. (16 ≤ size) × (size % 96 ≡ 16) × (size + 12 ≤ length bytes.now) × (length bytes.now ≤ file_len)) }
@@ -40,12 +39,23 @@ fn foot_len(bytes: &[u8], file_len: u64) -> Result<usize, FileError>
     if len < 28 || file_len < len as u64 {
         return Err(FileError::TooShort);
     }
-    let mark = &bytes[len - 4..];
+    len_at_end(&bytes[len - 28..], len)
+}
+
+/// How many bytes the body and its checksum are, in a file of whose bytes the last 28 are given.
+#[tactic(auto, unfolding(crate::specs::FootReading::len_at_end))]
+pub(crate) fn len_at_end(end: &[u8], file_len: usize) -> Result<usize, FileError>
+    requires end { length end.now ≡ 28 }
+    requires file { 28 ≤ file_len }
+    ensures exact { result ≡ len_at_end end.now file_len }
+    ensures range { IfOk result (λ size. (16 ≤ size) × (size % 96 ≡ 16) × (size + 12 ≤ file_len)) }
+{
+    let (_, mark) = end.split_at(24);
     if mark != b"FLC2".as_slice() {
         return Err(FileError::BadMark);
     }
-    let size = word_at(bytes, len - 12) as usize;
-    if size % 96 == 16 && size <= len - 12 {
+    let size = word_at(end, 16) as usize;
+    if size % 96 == 16 && size <= file_len - 12 {
         Ok(size)
     } else {
         Err(FileError::BadLength)
@@ -53,7 +63,12 @@ fn foot_len(bytes: &[u8], file_len: u64) -> Result<usize, FileError>
 }
 
 /// The foot whose body and checksum are so many bytes before the last twelve.
-fn foot_with_len(alloc: Global, bytes: &[u8], file_len: u64, size: usize) -> Result<Foot, FileError>
+pub(crate) fn foot_with_len(
+    alloc: Global,
+    bytes: &[u8],
+    file_len: u64,
+    size: usize,
+) -> Result<Foot, FileError>
     requires form { (16 ≤ size) × (size % 96 ≡ 16) }
     requires range { size + 12 ≤ length bytes.now }
     requires file { length bytes.now ≤ file_len }

@@ -20,3 +20,4 @@ mod ReadLists
 mod CastReads
 mod RangeReads
 mod TestedLists
+mod PickedItems

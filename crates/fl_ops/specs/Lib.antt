@@ -8,3 +8,4 @@ pub mod Takes
 pub mod Sums
 pub mod Unpacked
 pub mod BlockReads
+pub mod TakenItems

@@ -4,8 +4,10 @@
 pub(crate) mod cast;
 pub(crate) mod constancy;
 pub(crate) mod filter;
+mod indices;
 pub(crate) mod order;
 pub(crate) mod ranges;
+pub(crate) mod take;
 pub(crate) mod tests;
 
 ghost use Rattle.std.specs.Prelude.{◌≡◌, ◌+◌, ◌<◌, None, length, option_map, slice_index_or};

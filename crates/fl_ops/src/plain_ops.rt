@@ -28,7 +28,7 @@ use fl_column::{
 use std::alloc::Global;
 
 /// The items that plain indices name. Of an encoding without a way of its own they are read one by one where the
-/// indices are at most one for each chunk of the array, and else the array is decoded.
+/// indices are at most one for each chunk of the array, and else by blocks.
 fn take_plain(
     alloc: Global,
     array: &ArrayRef,
@@ -48,7 +48,7 @@ fn take_plain(
     if indices.len() <= array.len() / FL_CHUNK_SIZE {
         return take_items(alloc, array, indices);
     }
-    array.to_primitive(alloc)?.take(alloc, indices)
+    by_blocks::take::take(alloc, array, indices)
 }
 
 /// The items that indices name.

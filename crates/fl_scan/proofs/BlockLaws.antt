@@ -18,7 +18,7 @@ use Rattle.fl_scan.specs.Totals.{valid_items}
 use Rattle.fl_scan.proofs.ValidLaws.{valid_all, valid_masked, valid_none}
 
 -- ---- items
-there_is : (o : Option ℤ) → is_some o ≡ true → o ≡ Some (unwrap_or o (pos 0))
+pub there_is : (o : Option ℤ) → is_some o ≡ true → o ≡ Some (unwrap_or o (pos 0))
 there_is None wrong = cc
 there_is (Some z) some = refl
 
@@ -26,7 +26,7 @@ integer_is : (o : Option ℤ) (z : ℤ) → o ≡ Some z → unwrap_or o (pos 0)
 integer_is None z e = cc
 integer_is (Some y) z e = cc
 
-integer_at : (c : Column) (k : ℕ) → k < length c.items → get_or (integers_in c) k (pos 0) ≡ unwrap_or (get_or c.items k None) (pos 0)
+pub integer_at : (c : Column) (k : ℕ) → k < length c.items → get_or (integers_in c) k (pos 0) ≡ unwrap_or (get_or c.items k None) (pos 0)
 integer_at c k h = get_or-map (λ (item : Option ℤ). unwrap_or item (pos 0)) c.items k None (pos 0) h
 
 -- the integer that was read of an item that is not null
@@ -35,7 +35,7 @@ read_there c start n i integer read h inside some =
     let o = get_or c.items (start + i) None in
     read i (unwrap_or o (pos 0)) h (there_is o some) ∙ sym (integer_at c (start + i) inside)
 
-get_or-between : {A : Type 0} (xs : List A) (start end i : ℕ) (d : A) → start + i < end → get_or (between start end xs) i d ≡ get_or xs (start + i) d
+pub get_or-between : {A : Type 0} (xs : List A) (start end i : ℕ) (d : A) → start + i < end → get_or (between start end xs) i d ≡ get_or xs (start + i) d
 get_or-between xs start end i d h = get_or-take (end - start) (drop start xs) i d (omega arith) ∙ get_or-drop start xs i d
 
 pub length_integers : (c : Column) → length (integers_in c) ≡ length c.items

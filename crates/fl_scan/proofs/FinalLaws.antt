@@ -1,31 +1,23 @@
 -- What was gathered of a whole column.
-use Rattle.std.proofs.Common.{◌≡◌, ℕ, ℤ, pos, negsuc, ◌+◌, ◌-◌, ◌*◌, ◌%◌, ◌<◌, ◌≤◌, ◌^◌, min, List, [], ◌∷◌, length, Bool, true, false, Option, Some, None, refl, ap, sym, ◌∙◌, arith, to_z, of_z, SFits}
-use Rattle.std.specs.Prelude.{◌+ℤ◌, ◌&&◌, count_by, filter_map, unsigned_abs}
-use Rattle.std.specs.Int.{int_rem_euclid, int_wrap, w8, w16, w32, w64, w128}
+use Rattle.std.proofs.Common.{◌≡◌, ℕ, ℤ, pos, negsuc, ◌+◌, ◌-◌, ◌*◌, ◌%◌, ◌<◌, ◌≤◌, ◌^◌, List, [], ◌∷◌, length, Bool, true, false, Option, Some, None, refl, ap, sym, ◌∙◌, arith, to_z, of_z, SFits}
+use Rattle.std.specs.Prelude.{◌+ℤ◌, ◌≤ℤ◌, ◌<ℤ◌, ◌&&◌, filter_map, unsigned_abs}
+use Rattle.std.proofs.Math.Nat.{mul-le-mul_left}
+use Rattle.std.proofs.Math.Path.{subst}
+use Rattle.std.specs.Int.{Width, int_rem_euclid, int_wrap, w8, w16, w32, w64, w128}
 use Rattle.std.specs.List.{list_all}
 use Rattle.std.proofs.lemmas.Int.{SFits-int_wrap, fits_signed_from_abs, int_wrap_fits, ints, of_z-to_z}
-use Rattle.std.proofs.lemmas.List.Sums.{count_by-le-length}
 use Rattle.std.proofs.lemmas.Bool.Decides.{Decides-int_eq}
 use Rattle.fl_types.specs.declared.dtype.PType.{PType}
 use Rattle.fl_types.specs.declared.dtype.PType.TheVariants.{U8, U16, U32, U64, I8, I16, I32, I64}
 use Rattle.fl_types.specs.Integers.{fits, is_unsigned, wrap}
 use Rattle.fl_column.specs.Columns.{Column, option_all}
-use Rattle.fl_scan.specs.Totals.{count_of, sum_of, total, valid_items}
+use Rattle.fl_scan.specs.Raised.{raise}
+use Rattle.fl_scan.specs.Totals.{sum_of, total, valid_items}
 
 pub few_valid : (items : List (Option ℤ)) → length (filter_map (λ o. o) items) ≤ length items
 few_valid [] = omega arith
 few_valid (None ∷ items) = let rest = few_valid items in omega arith
 few_valid (Some z ∷ items) = let rest = few_valid items in omega arith
-
-pub few_items_valid : (c : Column) → length (valid_items c) ≤ length c.items
-few_items_valid c = few_valid c.items
-
--- the count of a whole column
-pub count_is : (test : ℤ → Bool) (c : Column) (count : ℕ) → length c.items < 2 ^ 64 → count < 2 ^ 64 → min count 18446744073709551615 ≡ min (0 + count_by test (valid_items c)) 18446744073709551615 → count ≡ count_of test c
-count_is test c count few small is =
-    let valid = few_items_valid c in
-    let counted = count_by-le-length test (valid_items c) in
-    omega arith
 
 -- ---- sums
 both : (a b : Bool) → (a && b) ≡ true → (a ≡ true) × (b ≡ true)
@@ -120,3 +112,42 @@ unsigned_total t c sum u each few fit is =
     let read : int_wrap w128 (pos whole.0) ≡ to_z w128 whole.0 = ap (to_z w128) (omega arith) in
     let same : sum ≡ to_z w128 whole.0 = sym (int_wrap_fits w128 sum fit) ∙ (is ∙ (ap (int_wrap w128) whole.1.0 ∙ read)) in
     ap (λ z. pos (of_z w128 z)) same ∙ (ap pos (of_z-to_z w128 whole.0 small) ∙ sym whole.1.0)
+
+-- ---- integers counted from the least one of their type
+signed_again : {w : Width} (t : PType) (z : ℤ) → fits t z ≡ true → SFits w (wrap t z) → SFits w z
+signed_again {w} t z h f = subst (λ x. SFits w x) (fitted t z h) f
+
+natural : (t : PType) (z : ℤ) → fits t z ≡ true → is_unsigned t ≡ true → raise t ≡ 0 → (pos 0 ≤ℤ (z +ℤ pos (raise t))) × ((z +ℤ pos (raise t)) <ℤ pos 18446744073709551616)
+natural t z h u none =
+    let r = unsigned_range t z u in
+    let is : z ≡ pos r.0 = sym (fitted t z h) ∙ r.1.0 in
+    let low = r.1.1 in
+    (omega (arith, ints), omega (arith, ints))
+
+-- none is below 0, and each is below 2 ^ 64
+pub raised_range : (t : PType) (z : ℤ) → fits t z ≡ true → (pos 0 ≤ℤ (z +ℤ pos (raise t))) × ((z +ℤ pos (raise t)) <ℤ pos 18446744073709551616)
+raised_range U8 z h = natural U8 z h refl refl
+raised_range U16 z h = natural U16 z h refl refl
+raised_range U32 z h = natural U32 z h refl refl
+raised_range U64 z h = natural U64 z h refl refl
+raised_range I8 z h = let f = signed_again {w = w8} I8 z h (fits_8 z) in (omega (arith, ints), omega (arith, ints))
+raised_range I16 z h = let f = signed_again {w = w16} I16 z h (fits_16 z) in (omega (arith, ints), omega (arith, ints))
+raised_range I32 z h = let f = signed_again {w = w32} I32 z h (fits_32 z) in (omega (arith, ints), omega (arith, ints))
+raised_range I64 z h = let f = signed_again {w = w64} I64 z h (fits_64 z) in (omega (arith, ints), omega (arith, ints))
+
+pub raise_small : (t : PType) → raise t ≤ 9223372036854775808
+raise_small U8 = omega arith
+raise_small U16 = omega arith
+raise_small U32 = omega arith
+raise_small U64 = omega arith
+raise_small I8 = omega arith
+raise_small I16 = omega arith
+raise_small I32 = omega arith
+raise_small I64 = omega arith
+
+pub raised_few : (t : PType) (n r : ℕ) → n ≤ 1024 → r ≡ raise t → n * r ≤ 9444732965739290427392
+raised_few t n r few is =
+    let small = raise_small t in
+    let low : r ≤ 9223372036854775808 = omega arith in
+    let most : n * r ≤ n * 9223372036854775808 = mul-le-mul_left n low in
+    omega arith

@@ -1,8 +1,7 @@
 -- Answers for the items that a mask keeps.
-use Rattle.std.proofs.Common.{◌≡◌, ◌&&◌, ℕ, ℤ, List, [], ◌∷◌, length, Bool, true, false, Option, Some, None, Result, Ok, Err, IsTrue, refl, ap, sym, ◌∙◌}
+use Rattle.std.proofs.Common.{◌≡◌, ◌&&◌, ℤ, List, [], ◌∷◌, length, Bool, true, false, Option, Some, None, Result, Ok, Err, refl, ap, sym, ◌∙◌}
 use Rattle.std.specs.Prelude.{filter_map, if◌then◌else◌}
 use Rattle.std.specs.List.{list_all}
-use Rattle.std.proofs.Math.Path.{subst}
 use Rattle.fl_types.specs.declared.error.FastLanesError.{FastLanesError}
 use Rattle.fl_types.specs.declared.error.FastLanesError.TheVariants.{NotInteger}
 use Rattle.fl_types.specs.declared.mask.Mask.{Mask}
@@ -11,7 +10,7 @@ use Rattle.fl_types.specs.Refusals.{Answers}
 use Rattle.fl_types.specs.Types.{is_integer}
 use Rattle.fl_column.specs.Columns.{Column, option_all}
 use Rattle.fl_column.specs.Operations.{filter_of}
-use Rattle.fl_column.proofs.ListLaws.{all_kept, and_first, and_second, and_true}
+use Rattle.fl_column.proofs.ListLaws.{all_kept}
 use Rattle.fl_scan.specs.Totals.{of_integers, of_kept, valid_column, valid_items}
 use Rattle.fl_scan.proofs.KeptColumns.{kept_answer}
 use Rattle.fl_scan.proofs.ValidLaws.{valid_all}

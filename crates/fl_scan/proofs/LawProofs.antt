@@ -1,20 +1,26 @@
 -- Laws of what is asked of a column.
-use Rattle.std.proofs.Common.{◌≡◌, ℕ, ℤ, zero, suc, ◌+◌, ◌-◌, ◌≤◌, ◌++◌, List, [], ◌∷◌, length, map, take, drop, Bool, true, false, cond, Option, Some, None, ◌⊎◌, inl, inr, refl, ap, sym, ◌∙◌, arith}
-use Rattle.std.specs.Prelude.{◌+ℤ◌, ◌≤ℤ◌, All, Contains, count_by, filter, filter_map, fold, option_map}
+use Rattle.std.proofs.Common.{◌≡◌, ℕ, ℤ, zero, suc, ◌+◌, ◌-◌, ◌≤◌, ◌++◌, List, [], ◌∷◌, length, map, get_or, take, drop, Bool, true, false, cond, Option, Some, None, ◌⊎◌, inl, inr, refl, ap, sym, ◌∙◌, arith}
+use Rattle.std.specs.Prelude.{◌+ℤ◌, ◌≤ℤ◌, ◌&&◌, All, Contains, count_by, filter, filter_map, fold, option_map}
 use Rattle.std.specs.Int.{int_max, int_min}
 use Rattle.std.specs.List.{reduce}
 use Rattle.std.proofs.lemmas.Int.{fold-int_max_bounds, fold-int_max_reached, fold-int_min_bounds, fold-int_min_reached}
 use Rattle.std.proofs.lemmas.List.{length-drop, take-append-drop, take_all}
 use Rattle.std.proofs.lemmas.List.Elements.{filter_map-append}
 use Rattle.std.proofs.lemmas.List.Sums.{sum_by-append, sum_by-cons}
+use Rattle.fl_types.specs.declared.mask.Mask.{Mask}
 use Rattle.fl_types.specs.declared.mask.Mask.TheVariants.{Values}
-use Rattle.fl_types.specs.Bits.{kept}
+use Rattle.fl_types.specs.Bits.{kept, true_count}
+use Rattle.fl_types.specs.Masks.{mask_bits, mask_len}
 use Rattle.fl_types.specs.Values.{bool_number}
 use Rattle.fl_column.specs.Columns.{Column}
 use Rattle.fl_column.specs.Operations.{filter_of, slice_of}
 use Rattle.fl_column.specs.Queries.{tested}
+use Rattle.fl_scan.specs.Counts.{count_below}
+use Rattle.fl_scan.specs.Selections.{is_passed, passed_under}
 use Rattle.fl_scan.specs.TotalLaws.{total-append}
 use Rattle.fl_scan.specs.Totals.{count_of, filtered_by, greatest_item, is_true, least_item, sum_of, total, valid_items}
+use Rattle.fl_scan.proofs.CountedColumns.{first_below}
+use Rattle.fl_scan.proofs.MarkLaws.{mask_long}
 
 -- ---- answers
 number_true : (b : Bool) → is_true (Some (bool_number b)) ≡ b
@@ -96,3 +102,25 @@ least_bounds c z e = least (valid_items c) z e
 
 pub greatest_bounds : (c : Column) (z : ℤ) → greatest_item c ≡ Some z → Contains (valid_items c) z × All (λ x. x ≤ℤ z) (valid_items c)
 greatest_bounds c z e = greatest (valid_items c) z e
+
+-- ---- masks
+none_more : (n m k : ℕ) → n ≡ m → k ≡ 0 + m → n ≡ k
+none_more n m k is more = omega arith
+
+counted_kept : (test : ℤ → Bool) (bits : List Bool) (items : List (Option ℤ)) → length bits ≡ length items
+    → count_by test (filter_map (λ o. o) (kept bits items)) ≡ count_below (λ i. get_or bits i false && is_passed test (get_or items i None)) (length items)
+counted_kept test [] [] h = refl
+counted_kept test [] (item ∷ items) h = absurd (omega arith)
+counted_kept test (bit ∷ bits) [] h = absurd (omega arith)
+counted_kept test (true ∷ bits) (Some z ∷ items) h =
+    sum_by-cons (λ x. cond (test x) 1 0) z (filter_map (λ o. o) (kept bits items))
+    ∙ (ap (λ n. cond (test z) 1 0 + n) (counted_kept test bits items (omega arith)) ∙ sym (first_below (λ i. get_or (true ∷ bits) i false && is_passed test (get_or (Some z ∷ items) i None)) (length items)))
+counted_kept test (true ∷ bits) (None ∷ items) h =
+    none_more (count_by test (filter_map (λ o. o) (kept bits items))) (count_below (λ i. get_or bits i false && is_passed test (get_or items i None)) (length items)) (count_below (λ i. get_or (true ∷ bits) i false && is_passed test (get_or (None ∷ items) i None)) (suc (length items)))
+    (counted_kept test bits items (omega arith)) (first_below (λ i. get_or (true ∷ bits) i false && is_passed test (get_or (None ∷ items) i None)) (length items))
+counted_kept test (false ∷ bits) (item ∷ items) h =
+    none_more (count_by test (filter_map (λ o. o) (kept bits items))) (count_below (λ i. get_or bits i false && is_passed test (get_or items i None)) (length items)) (count_below (λ i. get_or (false ∷ bits) i false && is_passed test (get_or (item ∷ items) i None)) (suc (length items)))
+    (counted_kept test bits items (omega arith)) (first_below (λ i. get_or (false ∷ bits) i false && is_passed test (get_or (item ∷ items) i None)) (length items))
+
+pub counted_under : (mask : Mask) (test : ℤ → Bool) (c : Column) → mask_len mask ≡ length c.items → true_count (passed_under mask test c) ≡ count_of test (filter_of mask c)
+counted_under mask test c long = sym (counted_kept test (mask_bits mask) c.items (mask_long mask ∙ long))

@@ -1,5 +1,7 @@
 pub mod BlockLaws
 pub mod BoundLaws
+pub mod CountedColumns
+pub mod CountingLaws
 pub mod FinalLaws
 pub mod GatherSteps
 pub mod KeptAnswers
@@ -12,6 +14,7 @@ pub mod NullLaws
 pub mod PassingLaws
 pub mod PositionLaws
 pub mod SearchLaws
+pub mod SelectLaws
 pub mod SourceLaws
 pub mod StepLaws
 pub mod ValidLaws

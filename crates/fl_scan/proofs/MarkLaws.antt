@@ -30,7 +30,7 @@ test_and (suc zero) (suc zero) h k = refl
 test_and (suc (suc x)) y h k = absurd (omega arith)
 test_and x (suc (suc y)) h k = absurd (omega arith)
 
-of_and : (a b j : ℕ) → bit_of_word (bit_and a b) j ≡ (bit_of_word a j && bit_of_word b j)
+pub of_and : (a b j : ℕ) → bit_of_word (bit_and a b) j ≡ (bit_of_word a j && bit_of_word b j)
 unfolding bit_of_word
 of_and a b j = ap (λ (n : ℕ). n == 1) (bit_at_and a b j) ∙ test_and (bit_at a j) (bit_at b j) (bit_at-lt a j) (bit_at-lt b j)
 

@@ -9,11 +9,11 @@ use Rattle.fl_types.proofs.KeptLaws.{bit_true, kept_nothing, kept_split}
 use Rattle.fl_column.proofs.FilterLaws.{kept_agree, kept_all}
 use Rattle.fl_column.proofs.ListLaws.{kept_no, kept_yes}
 
-length_word : (word : ℕ) → length (bits_of_word word) ≡ 64
+pub length_word : (word : ℕ) → length (bits_of_word word) ≡ 64
 unfolding bits_of_word
 length_word word = length-map-range_with_len (bit_of_word word) 0 64
 
-get_word : (word i : ℕ) → i < 64 → get_or (bits_of_word word) i false ≡ bit_of_word word i
+pub get_word : (word i : ℕ) → i < 64 → get_or (bits_of_word word) i false ≡ bit_of_word word i
 unfolding bits_of_word
 get_word word i h = get_or-map-range_with_len (bit_of_word word) 0 64 i i false h (omega arith)
 
@@ -35,15 +35,15 @@ pub full_word : (zs : List ℤ) → length zs ≤ 64 → kept (bits_of_word 1844
 full_word zs few = kept_all (bits_of_word 18446744073709551615) zs (λ i h. get_word 18446744073709551615 i (omega arith) ∙ bit_true 18446744073709551615 i (bit_at_ones 64 i (omega arith)))
 
 -- a part of the items
-part_of : {X : Type 0} (value : X → ℤ) (xs : List X) (m count : ℕ) → count ≡ min (length xs - m) 64 → take 64 (drop m (map value xs)) ≡ map value (take count (drop m xs))
-part_of value xs m count is =
+pub part_of : {X : Type 0} (value : X → ℤ) (xs : List X) (m n count : ℕ) → count ≡ min (length xs - m) n → take n (drop m (map value xs)) ≡ map value (take count (drop m xs))
+part_of value xs m n count is =
     let rest = length-drop m xs in
     let mapped = length-map (drop m xs) value in
-    let first : take 64 (map value (drop m xs)) ≡ take count (map value (drop m xs)) = elim (cases_lt (length xs - m) 64) [
-      | inl short ↦ take_all 64 (map value (drop m xs)) (omega arith) ∙ sym (take_all count (map value (drop m xs)) (omega arith))
-      | inr long ↦ (let same : 64 ≡ count = omega arith in ap (λ n. take n (map value (drop m xs))) same)
+    let first : take n (map value (drop m xs)) ≡ take count (map value (drop m xs)) = elim (cases_lt (length xs - m) n) [
+      | inl short ↦ take_all n (map value (drop m xs)) (omega arith) ∙ sym (take_all count (map value (drop m xs)) (omega arith))
+      | inr long ↦ (let same : n ≡ count = omega arith in ap (λ k. take k (map value (drop m xs))) same)
     ] in
-    ap (take 64) (drop-map value m xs) ∙ (first ∙ take-map value count (drop m xs))
+    ap (take n) (drop-map value m xs) ∙ (first ∙ take-map value count (drop m xs))
 
 -- the integers of one more word
 pub words_more : {X : Type 0} (value : X → ℤ) (xs part : List X) (bits : List Bool) (start k count word : ℕ) → start + length xs ≤ length bits → 64 * k < length xs → count ≡ min (length xs - 64 * k) 64
@@ -75,4 +75,4 @@ words_more value xs part bits start k count word room more count_is part_is same
     ∙ (ap (λ bs. kept bs (take m (take (m + 64) zs)) ++ kept (drop m (take (m + 64) all)) (drop m (take (m + 64) zs))) (take-take m (m + 64) all (omega arith))
     ∙ (ap (λ ys. kept (take m all) ys ++ kept (drop m (take (m + 64) all)) (drop m (take (m + 64) zs))) (take-take m (m + 64) zs (omega arith))
     ∙ ap (λ ys. kept (take m all) (take m zs) ++ ys)
-    (ap (λ bs. kept bs (drop m (take (m + 64) zs))) (drop-take m 64 all) ∙ (ap (kept (take 64 (drop m all))) (drop-take m 64 zs ∙ (part_of value xs m count count_is ∙ ap (map value) (sym part_is))) ∙ agrees)))))
+    (ap (λ bs. kept bs (drop m (take (m + 64) zs))) (drop-take m 64 all) ∙ (ap (kept (take 64 (drop m all))) (drop-take m 64 zs ∙ (part_of value xs m 64 count count_is ∙ ap (map value) (sym part_is))) ∙ agrees)))))

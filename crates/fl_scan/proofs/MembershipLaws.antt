@@ -1,16 +1,16 @@
 -- Answers of a test, and lists of constants.
-use Rattle.std.proofs.Common.{◌≡◌, ◌==◌, ◌||◌, ℕ, ℤ, pos, ◌+◌, ◌-◌, ◌<◌, ◌≤◌, ◌++◌, List, [], ◌∷◌, length, map, get_or, take, Bool, true, false, cond, Option, Some, None, Result, Ok, refl, ap, sym, ◌∙◌, arith, inl, inr, length-append, option_map}
+use Rattle.std.proofs.Common.{◌≡◌, ◌||◌, ℕ, ℤ, pos, ◌+◌, ◌-◌, ◌<◌, ◌++◌, List, [], ◌∷◌, length, map, get_or, take, Bool, true, false, cond, Option, Some, None, Result, Ok, refl, ap, sym, ◌∙◌, arith, inl, inr, length-append, option_map}
 use Rattle.std.specs.Prelude.{is_some}
 use Rattle.std.specs.List.{list_any}
 use Rattle.std.specs.Ordering.{int_eq}
 use Rattle.std.proofs.lemmas.Bool.{cases_lt}
-use Rattle.std.proofs.lemmas.List.{append_assoc, get_or-append-add, get_or-map, get_or_append_left, get_or_default, length-map, map-append, same_lists, take_more}
+use Rattle.std.proofs.lemmas.List.{append_assoc, get_or-append-add, get_or-map, get_or_append_left, length-map, map-append, same_lists, take_more}
 use Rattle.std.proofs.lemmas.List.Folds.{list_any-append, list_any_at}
 use Rattle.fl_types.specs.declared.error.FastLanesError.{FastLanesError}
 use Rattle.fl_types.specs.declared.validity.Validity.{Validity}
 use Rattle.fl_types.specs.Refusals.{Answers}
 use Rattle.fl_types.specs.Types.{nullability_in}
-use Rattle.fl_types.specs.Validities.{covers, is_valid_at, items_of, nullability_of}
+use Rattle.fl_types.specs.Validities.{covers, is_valid_at, items_of}
 use Rattle.fl_types.specs.Values.{bool_number}
 use Rattle.fl_types.specs.declared.dtype.DType.TheVariants as dtypes
 use Rattle.fl_column.specs.Columns.{BoolParts, Column, column_of_bools, new_bools}

@@ -1,5 +1,5 @@
 -- Marks of items that pass a test.
-use Rattle.std.proofs.Common.{◌≡◌, ◌≢◌, ◌==◌, ◌&&◌, ℕ, ℤ, pos, zero, suc, ◌+◌, ◌-◌, ◌<◌, ◌≤◌, List, [], ◌∷◌, length, map, get_or, take, drop, Bool, true, false, cond, Option, None, Some, Result, Ok, Err, IsTrue, refl, ap, sym, ◌∙◌, arith, inl, inr}
+use Rattle.std.proofs.Common.{◌≡◌, ◌≢◌, ◌==◌, ◌&&◌, ℕ, ℤ, pos, zero, suc, ◌+◌, ◌-◌, ◌<◌, ◌≤◌, List, [], ◌∷◌, length, map, get_or, take, drop, Bool, true, false, cond, Option, None, Some, Result, Ok, Err, refl, ap, sym, ◌∙◌, arith, inl, inr}
 use Rattle.std.proofs.Math.Path.{subst}
 use Rattle.std.specs.Prelude.{◌⊎◌, IfOk, is_some, slice_set}
 use Rattle.std.proofs.lemmas.Bool.{cases_lt}

@@ -1,36 +1,20 @@
 -- One more integer.
-use Rattle.std.proofs.Common.{◌≡◌, ℕ, ℤ, pos, ◌+◌, ◌*◌, ◌%◌, ◌<◌, ◌≤◌, ◌^◌, List, [], ◌∷◌, length, map, get_or, take, replicate, zero, suc, negsuc, Bool, true, false, cond, Option, Some, None, refl, ap, sym, ◌∙◌, arith, rules, to_z, of_z, SFits}
-use Rattle.std.specs.Prelude.{◌+ℤ◌, ◌*ℤ◌, count_by, fold, neg_ℤ}
+use Rattle.std.proofs.Common.{◌≡◌, ℕ, ℤ, pos, ◌+◌, ◌-◌, ◌*◌, ◌/◌, ◌%◌, ◌<◌, ◌≤◌, ◌^◌, List, [], ◌∷◌, length, map, get_or, min, take, drop, replicate, zero, suc, negsuc, Option, Some, None, refl, ap, sym, ◌∙◌, arith, rules, to_z, of_z, SFits}
+use Rattle.std.specs.Prelude.{◌+ℤ◌, ◌*ℤ◌, fold, neg_ℤ}
 use Rattle.std.specs.Int.{int_max, int_min, int_wrap, w128}
 use Rattle.std.proofs.Math.IntN.{*ℤ-zero, negsuc-*ℤ-pos, pos-*ℤ-pos}
 use Rattle.std.proofs.lemmas.Int.{SFits-int_wrap, int_wrap-add_right, int_wrap-add_same, int_wrap_fits, ints, wrapping_add_is, wrapping_add_onto, wrapping_mul_is}
+use Rattle.std.proofs.Math.Seq.{take-add}
 use Rattle.std.proofs.lemmas.List.{get_or-map, length-map, take_more}
-use Rattle.std.proofs.lemmas.List.Sums.{fold_more, sum_by_more}
+use Rattle.std.proofs.lemmas.List.Sums.{fold_more}
 use Rattle.fl_scan.specs.ExtremeLaws.{picked}
 use Rattle.fl_scan.specs.TotalLaws.{total-append}
 use Rattle.fl_scan.specs.Totals.{total}
+use Rattle.fl_scan.proofs.MaskLaws.{part_of}
 
 -- an integer of a list of values
 pub mapped_item : {X : Type 0} (value : X → ℤ) (xs : List X) (i : ℕ) (x : X) → i < length xs → x ≡ get_or xs i x → get_or (map value xs) i (pos 0) ≡ value x
 mapped_item value xs i x h is = get_or-map value xs i x (pos 0) h ∙ ap value (sym is)
-
--- ---- counts
-bool_case : (b : Bool) → mir.Val.bool_byte b ≡ cond b 1 0
-bool_case true = refl
-bool_case false = refl
-
-at_most_one : (b : Bool) → mir.Val.bool_byte b ≤ 1
-at_most_one true = omega arith
-at_most_one false = omega arith
-
-pub counted_more : {X : Type 0} (value : X → ℤ) (p : ℤ → Bool) (xs : List X) (i n : ℕ) (x : X) (b : Bool) → i < length xs → x ≡ get_or xs i x → b ≡ p (value x) → (n ≡ count_by p (take i (map value xs))) × (n ≤ i)
-    → (n + mir.Val.bool_byte b ≡ count_by p (take (i + 1) (map value xs))) × (n + mir.Val.bool_byte b ≤ i + 1)
-counted_more value p xs i n x b h is passes so_far =
-    let inside : i < length (map value xs) = let same = length-map xs value in omega arith in
-    let more = sum_by_more (λ z. cond (p z) 1 0) (map value xs) i (pos 0) inside in
-    let here : mir.Val.bool_byte b ≡ cond (p (get_or (map value xs) i (pos 0))) 1 0 = bool_case b ∙ ap (λ c. cond c 1 0) (passes ∙ ap p (sym (mapped_item value xs i x h is))) in
-    let few = at_most_one b in
-    (omega arith, omega arith)
 
 -- ---- sums
 wrapped_twice : (z : ℤ) → int_wrap w128 (int_wrap w128 z) ≡ int_wrap w128 z
@@ -119,3 +103,24 @@ least_once o n v some = picked_once int_min o n v (min_same v) (min_twice v) som
 
 pub greatest_once : (o : Option ℤ) (n : ℕ) (v : ℤ) → 0 < n → picked int_max o (replicate n v) ≡ picked int_max o (v ∷ [])
 greatest_once o n v some = picked_once int_max o n v (max_same v) (max_twice v) some
+
+-- ---- sums of halves
+times_more : (i r : ℕ) → (i + 1) * r ≡ i * r + r
+times_more i r = omega arith
+
+pub halves_more : (raise low high r i : ℕ) (z sum next : ℤ) → pos r ≡ z +ℤ pos raise → sum +ℤ z ≡ next → pos (4294967296 * high + low) ≡ sum +ℤ pos (i * raise) → low ≤ i * 4294967295 → r < 18446744073709551616 → high ≤ i * 4294967295
+    → (pos (4294967296 * (high + r / 4294967296) + (low + r % 4294967296)) ≡ next +ℤ pos ((i + 1) * raise)) × ((low + r % 4294967296 ≤ (i + 1) * 4294967295) × (high + r / 4294967296 ≤ (i + 1) * 4294967295))
+halves_more raise low high r i z sum next is more so_far few small few_high =
+    let product = times_more i raise in
+    let whole : 4294967296 * (high + r / 4294967296) + (low + r % 4294967296) ≡ 4294967296 * high + low + r = omega arith in
+    (omega (arith, ints), (omega arith, omega arith))
+
+-- the sum of one more block
+pub block_total : {X : Type 0} (value : X → ℤ) (xs part : List X) (k count : ℕ) → count ≡ min (length xs - 1024 * k) 1024 → part ≡ take count (drop (1024 * k) xs)
+    → total (take (1024 * k) (map value xs)) +ℤ total (map value part) ≡ total (take (1024 * (k + 1)) (map value xs))
+block_total value xs part k count is part_is =
+    let zs = map value xs in
+    let next : 1024 * k + 1024 ≡ 1024 * (k + 1) = omega arith in
+    let here : map value part ≡ take 1024 (drop (1024 * k) zs) = ap (map value) part_is ∙ sym (part_of value xs (1024 * k) 1024 count is) in
+    ap (λ ys. total (take (1024 * k) zs) +ℤ total ys) here
+    ∙ (sym (total-append (take (1024 * k) zs) (take 1024 (drop (1024 * k) zs))) ∙ ap total (sym (take-add (1024 * k) 1024 zs) ∙ ap (λ n. take n zs) next))

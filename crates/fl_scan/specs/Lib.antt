@@ -1,11 +1,13 @@
 pub mod Blocks
 pub mod Bounds
 pub mod Constants
-pub mod CountLaws
+pub mod Counts
 pub mod ExtremeLaws
 pub mod GatherLaws
 pub mod Indices
 pub mod Membership
+pub mod Raised
+pub mod Selected
 pub mod Selections
 pub mod Sources
 pub mod TotalLaws

@@ -1,13 +1,15 @@
 //! What is gathered of integers that come one after another.
 
-pub(crate) mod count;
 pub(crate) mod extremes;
 pub(crate) mod gather;
 pub(crate) mod one_of;
+pub(crate) mod selecting;
 pub(crate) mod tests;
 pub(crate) mod total;
 
-ghost use Rattle.std.specs.Prelude.{◌≡◌, ◌∷◌, ◌++◌, [], ℤ, List, IfErr, OnOk, map, replicate};
+ghost use Rattle.std.specs.Prelude.{◌≡◌, ◌∷◌, ◌++◌, [], ℤ, List, IfErr, IfSome, OnOk, length, map, replicate};
+ghost use Rattle.fl_types.specs.Bits.{bits_of_word, kept};
+ghost use Rattle.fl_scan.specs.Selected.{selected};
 ghost use Rattle.fl_types.specs.declared.error.FastLanesError.TheVariants.{OutOfMemory};
 
 use fl_column::{FastLanesError, NativePType};
@@ -31,6 +33,11 @@ pub(crate) trait Fold<T: NativePType> {
     fn add_repeated(&mut self, item: T, times: usize) -> Result<(), FastLanesError>
         ensures gathered { OnOk result (Leads self.old (replicate times (T.value item)) self.new) }
         ensures memory { IfErr result (λ e. e ≡ OutOfMemory) };
+
+    /// An integer that can be gathered in the place of each of 64 integers whose bit in a word is not set, if there is one.
+    fn stand_in(items: &[T], word: u64) -> Option<T>
+        requires { length items.now ≡ 64 }
+        ensures { IfSome result (λ other. (a b : Self) → Leads a (selected (bits_of_word word) (map T.value items.now) (T.value other)) b → Leads a (kept (bits_of_word word) (map T.value items.now)) b) };
 
     // No integer changes nothing.
     ghost stays: { (s : Self) → Leads s [] s };

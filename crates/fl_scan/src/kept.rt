@@ -6,13 +6,16 @@ ghost use Rattle.fl_types.specs.Masks.{mask_len};
 ghost use Rattle.fl_types.specs.Refusals.{Answers};
 ghost use Rattle.fl_types.specs.Types.{has_ptype};
 ghost use Rattle.fl_column.specs.Operations.{filter_of};
+ghost use Rattle.fl_bitpacking.specs.RangeTests.{IsTestOf, passes};
 ghost use Rattle.fl_array.specs.Trees.{column};
-ghost use Rattle.fl_scan.specs.Totals.{of_integers, valid_column, valid_items};
+ghost use Rattle.fl_scan.specs.Totals.{count_of, of_integers, valid_column, valid_items};
 
 use crate::blocks::add_marked;
+use crate::counts::count_marked;
 use crate::folds::Fold;
 use crate::marks::marks_of;
 use fl_array::{ArrayRef, Reader};
+use fl_bitpacking::RangeTest;
 use fl_bitpacking::unpack_iter::BitPacked;
 use fl_column::{FastLanesError, Mask, PhysicalPType, Validity};
 use num_traits::WrappingAdd;
@@ -76,5 +79,17 @@ impl Kept<'_> {
         ensures memory { IfErr result (λ e. e ≡ OutOfMemory) }
     {
         add_marked(fold, &self.reader, &self.marks)
+    }
+
+    /// How many of the items pass a test.
+    pub(crate) fn count<T: BitPacked + PhysicalPType + WrappingAdd>(
+        &self,
+        range: RangeTest,
+    ) -> usize
+        requires typed { IsTrue (has_ptype T.PTYPE self.now.dtype) }
+        requires test { IsTestOf T.PTYPE range }
+        ensures { result ≡ count_of (passes range) self.now }
+    {
+        count_marked::<T>(&self.reader, &self.marks, range)
     }
 }

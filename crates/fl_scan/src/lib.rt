@@ -4,6 +4,8 @@
 mod arrays;
 mod blocks;
 mod bounds;
+mod counting;
+mod counts;
 mod folds;
 pub mod indices;
 mod kept;

@@ -1,23 +1,16 @@
 //! Gathering the valid ones of integers that lie side by side.
 
-ghost use Rattle.std.specs.Prelude.{◌≡◌, ◌+◌, ◌<◌, ◌≤◌, IfErr, IsTrue, OnOk, length, map};
+ghost use Rattle.std.specs.Prelude.{◌≡◌, ◌+◌, ◌≤◌, IfErr, IsTrue, OnOk, length, map};
 ghost use Rattle.fl_types.specs.declared.error.FastLanesError.TheVariants.{OutOfMemory};
-ghost use Rattle.fl_types.specs.Bits.{between, bit_of_word, bits_of_word, kept};
+ghost use Rattle.fl_types.specs.Bits.{between, bits_of_word, kept};
 ghost use Rattle.fl_types.specs.Types.{has_ptype};
 ghost use Rattle.fl_column.specs.Columns.{column_of_constant, column_of_primitive};
+ghost use Rattle.fl_scan.specs.Selected.{selected};
 ghost use Rattle.fl_scan.specs.Totals.{valid_items};
 
 use crate::folds::Fold;
+use crate::folds::selecting::{is_set, select};
 use fl_column::{BitList, ConstantArray, FastLanesError, NativePType, PrimitiveArray, Validity};
-
-/// Whether a bit of a word is set.
-#[tactic(auto, unfolding(fl_types::specs::Bits::bit_of_word))]
-fn is_set(word: u64, j: usize) -> bool
-    requires { j < 64 }
-    ensures { result ≡ bit_of_word word j }
-{
-    word >> j & 1 == 1
-}
 
 /// Gathers the integers whose bits are set in a word.
 fn add_word<T: NativePType, F: Fold<T>>(
@@ -37,7 +30,24 @@ fn add_word<T: NativePType, F: Fold<T>>(
     Ok(())
 }
 
-/// Gathers up to 64 integers whose bits are set in a word: all of them at once where each bit is.
+/// Gathers the integers whose bits are set in a word, all of them at once, with a stand-in for the others.
+fn add_selected<T: NativePType, F: Fold<T>>(
+    fold: &mut F,
+    items: &[T],
+    word: u64,
+    other: T,
+) -> Result<(), FastLanesError>
+    requires { length items.now ≡ 64 }
+    ensures gathered { OnOk result (F.Leads fold.old (selected (bits_of_word word) (map T.value items.now) (T.value other)) fold.new) }
+    ensures memory { IfErr result (λ e. e ≡ OutOfMemory) }
+{
+    let mut chosen = [other; 64];
+    select(items, word, other, &mut chosen);
+    fold.add_all(&chosen)
+}
+
+/// Gathers up to 64 integers whose bits are set in a word: all of them at once where each bit is, or where there is a
+/// stand-in for the others.
 fn add_valid_word<T: NativePType, F: Fold<T>>(
     fold: &mut F,
     items: &[T],
@@ -49,6 +59,11 @@ fn add_valid_word<T: NativePType, F: Fold<T>>(
 {
     if word == u64::MAX {
         return fold.add_all(items);
+    }
+    if items.len() == 64
+        && let Some(other) = F::stand_in(items, word)
+    {
+        return add_selected(fold, items, word, other);
     }
     add_word(fold, items, word)
 }

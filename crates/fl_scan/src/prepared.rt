@@ -4,13 +4,16 @@ ghost use Rattle.std.specs.Prelude.{◌≡◌, IfErr, IsTrue, OnOk, length};
 ghost use Rattle.fl_types.specs.declared.error.FastLanesError.TheVariants.{OutOfMemory};
 ghost use Rattle.fl_types.specs.Refusals.{Answers};
 ghost use Rattle.fl_types.specs.Types.{has_ptype};
+ghost use Rattle.fl_bitpacking.specs.RangeTests.{IsTestOf, passes};
 ghost use Rattle.fl_array.specs.Reads.{integer_column};
 ghost use Rattle.fl_array.specs.Trees.{column};
-ghost use Rattle.fl_scan.specs.Totals.{valid_items};
+ghost use Rattle.fl_scan.specs.Totals.{count_of, valid_items};
 
 use crate::blocks::add_marked;
+use crate::counts::count_marked;
 use crate::folds::Fold;
 use fl_array::{ArrayRef, Reader};
+use fl_bitpacking::RangeTest;
 use fl_bitpacking::unpack_iter::BitPacked;
 use fl_column::{FastLanesError, PhysicalPType, Validity};
 use num_traits::WrappingAdd;
@@ -67,5 +70,17 @@ impl Blocks<'_> {
         ensures memory { IfErr result (λ e. e ≡ OutOfMemory) }
     {
         add_marked(fold, &self.reader, &self.validity)
+    }
+
+    /// How many of the valid items pass a test.
+    pub(crate) fn count<T: BitPacked + PhysicalPType + WrappingAdd>(
+        &self,
+        range: RangeTest,
+    ) -> usize
+        requires typed { IsTrue (has_ptype T.PTYPE self.now.dtype) }
+        requires test { IsTestOf T.PTYPE range }
+        ensures { result ≡ count_of (passes range) self.now }
+    {
+        count_marked::<T>(&self.reader, &self.validity, range)
     }
 }

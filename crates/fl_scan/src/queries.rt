@@ -70,7 +70,8 @@ pub fn count(
     };
     let value = integer_for(array, constant);
     let source = source_of(alloc, array)?;
-    match_each_integer_ptype!(ptype, count_compared(&source, operator, value))
+    let count = match_each_integer_ptype!(ptype, count_compared(&source, operator, value));
+    Ok(count)
 }
 
 /// How many items lie between two bounds of the array's type that are not null; a null does not. If the lower bound is
@@ -94,7 +95,8 @@ pub fn count_between(
     };
     let (low, high) = (integer_for(array, lower), integer_for(array, upper));
     let source = source_of(alloc, array)?;
-    match_each_integer_ptype!(ptype, count_in_range(&source, low, high, *options))
+    let count = match_each_integer_ptype!(ptype, count_in_range(&source, low, high, *options));
+    Ok(count)
 }
 
 /// The least and the greatest valid item, or `None` if no item is valid.

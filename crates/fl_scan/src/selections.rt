@@ -55,15 +55,10 @@ fn source_under<'a>(
 }
 
 /// How many valid items compare so with a constant.
-fn count_typed(
-    source: &Source,
-    ptype: PType,
-    operator: CompareOperator,
-    constant: PValue,
-) -> Result<usize, FastLanesError>
+fn count_typed(source: &Source, ptype: PType, operator: CompareOperator, constant: PValue) -> usize
     requires typed { IsTrue (has_ptype ptype (column_of_source source.now).dtype) }
     requires constant { ptype_of_value constant ≡ ptype }
-    ensures { Answers (λ n. n) result (Ok (count_of (holds operator (integer_of constant)) (column_of_source source.now))) }
+    ensures { result ≡ count_of (holds operator (integer_of constant)) (column_of_source source.now) }
 {
     match_each_integer_ptype!(ptype, count_compared(source, operator, constant))
 }
@@ -235,7 +230,7 @@ pub fn count_under(
     };
     let value = integer_for(array, constant);
     let source = source_under(alloc, array, mask)?;
-    count_typed(&source, ptype, operator, value)
+    Ok(count_typed(&source, ptype, operator, value))
 }
 
 /// The least and the greatest valid item that a mask keeps, or `None` if there is none.

@@ -9,14 +9,16 @@ ghost use Rattle.fl_types.specs.Values.{integer_of, ptype_of_value};
 ghost use Rattle.fl_column.specs.Columns.{column_of_primitive};
 ghost use Rattle.fl_column.specs.Queries.{holds, is_between};
 ghost use Rattle.fl_scan.specs.Sources.{column_of_source};
+ghost use Rattle.fl_scan.specs.Counts.{IsRange};
 ghost use Rattle.fl_scan.specs.Totals.{count_of, filtered_by, greatest_item, least_item, sum_of};
 
-use crate::folds::count::Count;
+use crate::counts::{count_constant, count_plain};
 use crate::folds::extremes::Extremes;
 use crate::folds::gather::Gather;
 use crate::folds::tests::{Between, Comparison, ItemTest};
 use crate::folds::total::Total;
 use crate::source::Source;
+use fl_bitpacking::RangeTest;
 use fl_bitpacking::unpack_iter::BitPacked;
 use fl_column::{
     BetweenOptions, CompareOperator, FastLanesError, NativePType, Nullability, PValue,
@@ -63,14 +65,19 @@ pub(crate) fn range<T: NativePType>(
 fn count_passing<T: BitPacked + PhysicalPType + WrappingAdd, P: ItemTest<T>>(
     source: &Source,
     test: P,
-) -> Result<usize, FastLanesError>
-    requires { IsTrue (has_ptype T.PTYPE (column_of_source source.now).dtype) }
-    ensures { Answers (λ n. n) result (Ok (count_of (P.passing test) (column_of_source source.now))) }
+    range: RangeTest,
+) -> usize
+    requires typed { IsTrue (has_ptype T.PTYPE (column_of_source source.now).dtype) }
+    requires ranged { IsRange T.PTYPE (P.passing test) range }
+    ensures { result ≡ count_of (P.passing test) (column_of_source source.now) }
 {
-    source.prove_few();
-    let mut fold = Count::new(test);
-    source.scan(&mut fold)?;
-    Ok(fold.count())
+    match source {
+        Source::Primitive(plain) => count_plain(plain, test),
+        Source::Constant(constant) => count_constant(constant, test),
+        Source::Blocks(blocks) => blocks.count::<T>(range),
+        Source::Kept(kept) => kept.count::<T>(range),
+        Source::Decoded(plain) => count_plain(plain, test),
+    }
 }
 
 /// How many valid items compare so with a constant.
@@ -78,12 +85,14 @@ pub(crate) fn count_compared<T: BitPacked + PhysicalPType + WrappingAdd>(
     source: &Source,
     operator: CompareOperator,
     constant: PValue,
-) -> Result<usize, FastLanesError>
+) -> usize
     requires typed { IsTrue (has_ptype T.PTYPE (column_of_source source.now).dtype) }
     requires constant { ptype_of_value constant ≡ T.PTYPE }
-    ensures { Answers (λ n. n) result (Ok (count_of (holds operator (integer_of constant)) (column_of_source source.now))) }
+    ensures { result ≡ count_of (holds operator (integer_of constant)) (column_of_source source.now) }
 {
-    count_passing(source, comparison::<T>(operator, constant))
+    let test = comparison::<T>(operator, constant);
+    let range = RangeTest::comparing(operator, constant);
+    count_passing(source, test, range)
 }
 
 /// How many valid items lie between two bounds.
@@ -92,13 +101,15 @@ pub(crate) fn count_in_range<T: BitPacked + PhysicalPType + WrappingAdd>(
     lower: PValue,
     upper: PValue,
     options: BetweenOptions,
-) -> Result<usize, FastLanesError>
+) -> usize
     requires typed { IsTrue (has_ptype T.PTYPE (column_of_source source.now).dtype) }
     requires lower { ptype_of_value lower ≡ T.PTYPE }
     requires upper { ptype_of_value upper ≡ T.PTYPE }
-    ensures { Answers (λ n. n) result (Ok (count_of (is_between options (integer_of lower) (integer_of upper)) (column_of_source source.now))) }
+    ensures { result ≡ count_of (is_between options (integer_of lower) (integer_of upper)) (column_of_source source.now) }
 {
-    count_passing(source, range::<T>(lower, upper, options))
+    let test = range::<T>(lower, upper, options);
+    let range = RangeTest::between(lower, upper, options);
+    count_passing(source, test, range)
 }
 
 /// The valid items that pass a test.

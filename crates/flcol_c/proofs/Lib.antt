@@ -13,3 +13,4 @@ pub mod CompressLaws
 pub mod NullCounts
 pub mod BooleanLaws
 pub mod PlainLaws
+pub mod PassingLaws

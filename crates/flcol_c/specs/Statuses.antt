@@ -4,7 +4,7 @@ use Rattle.fl_types.specs.declared.error.FastLanesError.{FastLanesError}
 use Rattle.fl_types.specs.declared.error.FastLanesError.TheVariants.{OutOfMemory}
 use Rattle.fl_types.specs.Refusals.{number_of}
 use Rattle.flcol_c.specs.declared.fault.Fault.{Fault}
-use Rattle.flcol_c.specs.declared.fault.Fault.TheVariants.{BadContainer, BadOperator, BadScheme, NoArray, Refused, WrongLength, WrongType}
+use Rattle.flcol_c.specs.declared.fault.Fault.TheVariants.{BadContainer, BadEncodings, BadOperator, BadScheme, NoArray, Refused, WrongLength, WrongType}
 
 -- the status that says a fault: a refusal's number, 42 of containers, from 100 on those of the calls alone
 abbrev pub status_of : Fault → ℤ
@@ -15,6 +15,7 @@ status_of WrongType = pos 101
 status_of WrongLength = pos 102
 status_of BadScheme = pos 103
 status_of BadOperator = pos 104
+status_of BadEncodings = pos 106
 
 -- the status that says the first fault, or 0 where there is none
 abbrev pub status_at : Option Fault → ℤ

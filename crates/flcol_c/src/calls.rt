@@ -8,6 +8,7 @@ pub mod give_back;
 pub mod look;
 pub mod make;
 pub mod operate;
+pub mod passing;
 pub mod queries;
 pub mod read;
 pub mod selections;

@@ -28,6 +28,8 @@ pub enum Fault {
     BadScheme,
     /// No operator has the number.
     BadOperator,
+    /// A bit stands for no encoding.
+    BadEncodings,
 }
 
 impl Fault {
@@ -43,6 +45,7 @@ impl Fault {
             Fault::WrongLength => 102,
             Fault::BadScheme => 103,
             Fault::BadOperator => 104,
+            Fault::BadEncodings => 106,
         }
     }
 }

@@ -17,6 +17,7 @@ mod logic;
 mod looks;
 mod making;
 mod operations;
+mod passing;
 mod plain;
 pub mod ranges;
 mod reading;

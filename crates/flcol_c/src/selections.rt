@@ -48,7 +48,7 @@ fn mask_of(alloc: Global, bitmap: &[u8], len: usize) -> Result<Mask, FastLanesEr
 /// # Errors
 /// `MaskLength` where the bytes are not those of a bit for each item.
 #[tactic(auto, using(crate::proofs::StatusLaws::refused))]
-fn mask_for(alloc: Global, array: &ArrayRef, bitmap: &[u8]) -> Result<Mask, Fault>
+pub(crate) fn mask_for(alloc: Global, array: &ArrayRef, bitmap: &[u8]) -> Result<Mask, Fault>
     ensures mask { GivesAfter (mask_fault (length bitmap.now) (column array.now)) None (λ m. m ≡ mask_in bitmap.now (length (column array.now).items)) result }
     ensures long { IfOk result (λ m. mask_len m ≡ length (column array.now).items) }
 {

@@ -21,7 +21,8 @@ pub use fl_ops::laws::{
     take_of_slice,
 };
 pub use fl_scan::laws::{
-    count_is_of_true_answers, extremes_bound_each_item, filter_is_by_true_answers, slices_add_up,
+    count_is_of_true_answers, extremes_bound_each_item, filter_is_by_true_answers,
+    marks_count_what_is_kept, slices_add_up,
 };
 pub use fl_serde::laws::{
     bytes_are_those_of_buffers, node_has_one_column, round_trip, same_column_and_kind,

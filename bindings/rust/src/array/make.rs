@@ -6,6 +6,7 @@ use crate::bitmap::Bitmap;
 use crate::error::Error;
 use crate::ffi;
 use crate::item::Item;
+use crate::limits::Limits;
 use crate::memory::{gathered, push, reserved};
 use std::ptr;
 
@@ -141,6 +142,22 @@ impl Array {
     /// `NotInteger`, `OutOfMemory`.
     pub fn compress(&self) -> Result<Array, Error> {
         Array::make(|out| unsafe { ffi::flcol_compress(self.word(), out) })
+    }
+
+    /// The same column by the scheme that takes the fewest bytes within limits. Fewer encodings compress faster.
+    ///
+    /// ```
+    /// # use flcol::{Array, Encoding, Limits};
+    /// let plain = Array::new(&[3_u16, 1000, 3, 1000, 3].repeat(1000))?;
+    /// assert_eq!(plain.compress_within(Limits::of(&[Encoding::Bitpacked]))?.scheme()?, "bitpacked:10");
+    /// assert!(plain.compress_within(Limits::default().without(Encoding::Dict))?.nbytes() >= plain.compress()?.nbytes());
+    /// # Ok::<(), flcol::Error>(())
+    /// ```
+    ///
+    /// # Errors
+    /// `NotInteger`, `OutOfMemory`.
+    pub fn compress_within(&self, limits: Limits) -> Result<Array, Error> {
+        Array::make(|out| unsafe { ffi::flcol_compress_within(self.word(), limits.encodings(), limits.depth(), out) })
     }
 }
 

@@ -1,11 +1,13 @@
 //! What is said of the items that a mask keeps.
 
-use super::compare::comparison;
+use super::compare::{bounds, comparison, ends};
 use super::{at_item_type, Array};
 use crate::bitmap::Bitmap;
 use crate::error::{checked, Error};
 use crate::item::{Integer, Item};
+use crate::memory::written;
 use crate::types::{Op, PType};
+use std::ops::RangeBounds;
 
 impl Array {
     /// How many of the items whose bits are set compare so with a constant, as of [`Array::count_where`]. A block of 1024
@@ -23,6 +25,41 @@ impl Array {
     /// `NotInteger`, `MaskLength` if the mask is for another number of items, `OutOfMemory`.
     pub fn count_under(&self, mask: &Bitmap, op: Op, constant: impl Integer) -> Result<usize, Error> {
         at_item_type!(self.count_kept(mask, op, constant.to_i128()))
+    }
+
+    /// Which of the items whose bits are set compare so with a constant, as of [`Array::compare`]: a mask in its turn, under
+    /// which another array is asked. Of a null and of any other item the bit is not set.
+    ///
+    /// ```
+    /// # use flcol::{Array, Op};
+    /// let (days, prices) = (Array::try_from([3_u16, 4, 5, 6])?, Array::try_from([90_u32, 20, 70, 10])?);
+    /// let late = days.between(4..)?.into_mask();
+    /// let cheap = prices.compare_under(&late, Op::Lt, 50)?;
+    /// assert_eq!(prices.sum_under::<u32>(&cheap)?, 30);
+    /// # Ok::<(), flcol::Error>(())
+    /// ```
+    ///
+    /// # Errors
+    /// `NotInteger`, `MaskLength`, `OutOfMemory`.
+    pub fn compare_under(&self, mask: &Bitmap, op: Op, constant: impl Integer) -> Result<Bitmap, Error> {
+        at_item_type!(self.compare_kept(mask, op, constant.to_i128()))
+    }
+
+    /// Which of the items whose bits are set lie in a range of values, as of [`Array::between`], as a mask.
+    ///
+    /// ```
+    /// # use flcol::{Array, Bitmap};
+    /// let array = Array::from_options(&[Some(-7_i16), None, Some(40), Some(3)])?;
+    /// let mask: Bitmap = [true, true, true, false].into_iter().collect();
+    /// assert_eq!(array.between_under(&mask, -10..=10)?, [true, false, false, false].into_iter().collect());
+    /// # Ok::<(), flcol::Error>(())
+    /// ```
+    ///
+    /// # Errors
+    /// `NotInteger`, `MaskLength`, `OutOfMemory`.
+    pub fn between_under<C: Integer>(&self, mask: &Bitmap, range: impl RangeBounds<C>) -> Result<Bitmap, Error> {
+        let (least, greatest) = ends(range);
+        at_item_type!(self.kept_between(mask, least, greatest))
     }
 
     /// The sum of the items whose bits are set and that aren't null, exactly, as of [`Array::sum`].
@@ -72,6 +109,29 @@ impl Array {
         let mask = self.mask_bytes(mask)?;
         let (op, constant) = comparison::<T>(op, constant);
         self.ask(|array, count| unsafe { T::COUNT_UNDER(array, mask.as_ptr(), mask.len(), op as u8, constant, count) })
+    }
+
+    fn compare_kept<T: Item>(&self, mask: &Bitmap, op: Op, constant: i128) -> Result<Bitmap, Error> {
+        let mask = self.mask_bytes(mask)?;
+        let (op, constant) = comparison::<T>(op, constant);
+        self.mask_of(mask.len(), |bits, len| unsafe {
+            T::COMPARE_UNDER(self.word(), mask.as_ptr(), mask.len(), op as u8, constant, bits, len)
+        })
+    }
+
+    fn kept_between<T: Item>(&self, mask: &Bitmap, least: i128, greatest: i128) -> Result<Bitmap, Error> {
+        let mask = self.mask_bytes(mask)?;
+        let (least, greatest) = bounds::<T>(least, greatest);
+        self.mask_of(mask.len(), |bits, len| unsafe {
+            T::BETWEEN_UNDER(self.word(), mask.as_ptr(), mask.len(), least, greatest, 0, 0, bits, len)
+        })
+    }
+
+    /// The mask of a call that writes so many bytes, a bit for each item.
+    fn mask_of(&self, bytes: usize, call: impl FnOnce(*mut u8, usize) -> i32) -> Result<Bitmap, Error> {
+        // SAFETY: the call writes so many bytes.
+        let bits = unsafe { written(bytes, |bits| call(bits, bytes)) }?;
+        Bitmap::from_bytes(bits, self.len())
     }
 
     /// The bytes of a mask that has a bit for each item.

@@ -1,5 +1,6 @@
-//! Tests of a range on the items of one block. The sums of deltas are tested in their lanes, and not put in the order of the
-//! items.
+//! Tests of a range on the items of one block. Packed items and the sums of deltas are tested in their lanes, and not put in
+//! the order of the items; of run-length encoded arrays the run values are tested, and the run indices say which items have
+//! them.
 
 ghost use Rattle.std.specs.Prelude.{◌≡◌, ◌+◌, ◌/◌, ◌%◌, ◌<◌, ℕ, ℤ, IsTrue, None, Some, length, slice_index_or, true};
 ghost use Rattle.fl_types.specs.Types.{has_ptype};
@@ -13,6 +14,7 @@ ghost use Rattle.fl_array.specs.Trees.{column};
 
 use crate::delta::DeltaArray;
 use crate::reader::direct::{DirectReader, Part};
+use crate::reader::packed::test_packed;
 use crate::reader::{Reader, Source};
 use fastlanes::{FL_CHUNK_SIZE, FastLanes, Work};
 use fl_bitpacking::RangeTest;
@@ -53,6 +55,30 @@ fn test_delta_block<T: BitPacked + PhysicalPType + WrappingAdd>(
 }
 
 impl DirectReader<'_> {
+    /// The answers of a test for the items of block `j` of a bit-packed array, with or without references; `false`, and no
+    /// answers, if the array is of another kind.
+    pub(crate) fn test_packed<T: PhysicalPType>(
+        &self,
+        j: usize,
+        range: RangeTest,
+        bits: &mut [u64; 16],
+        work: &mut Work,
+    ) -> bool
+        requires typed { IsTrue (has_ptype T.PTYPE self.now.column.dtype) }
+        requires test { IsTestOf T.PTYPE range }
+        requires block { j < chunk_count (self.now.offset + length self.now.column.items) }
+        ensures answers { result ≡ true → AreBlockAnswers (passes range) bits.new j self.now.offset self.now.column }
+        ensures whole { length bits.new ≡ 16 }
+    {
+        match &self.part {
+            Part::Packed(packed) => {
+                test_packed::<T>(packed, j, range, bits, work);
+                true
+            }
+            _ => false,
+        }
+    }
+
     /// The answers of a test for the items of block `j` of a delta array; `false`, and no answers, if the array is of another
     /// kind.
     fn test_deltas<T: BitPacked + PhysicalPType + WrappingAdd>(
@@ -117,8 +143,8 @@ impl Reader<'_> {
         test_items(range, scratch, bits);
     }
 
-    /// The answers of a test for the items of block `j`, where no item has to be read for them; `false`, and no answers, elsewhere.
-    fn test_in_lanes<T: BitPacked + PhysicalPType + WrappingAdd>(
+    /// The answers of a test for the items of block `j`, where they need not be read for them; `false`, and no answers, elsewhere.
+    fn test_unread<T: BitPacked + PhysicalPType + WrappingAdd>(
         &self,
         j: usize,
         range: RangeTest,
@@ -133,8 +159,14 @@ impl Reader<'_> {
         ensures whole { length bits.new ≡ 16 }
     {
         match &self.source {
-            Source::Direct(reader) => reader.test_deltas(j, range, scratch, bits, work),
-            Source::RLE(_) => false,
+            Source::Direct(reader) => {
+                reader.test_packed::<T>(j, range, bits, work)
+                    || reader.test_deltas(j, range, scratch, bits, work)
+            }
+            Source::RLE(runs) => {
+                runs.test_block(j, range, scratch, bits, work);
+                true
+            }
         }
     }
 
@@ -155,7 +187,7 @@ impl Reader<'_> {
         ensures whole { length bits.new ≡ 16 }
     {
         let mut work = Work::new();
-        if !self.test_in_lanes(j, range, scratch, bits, &mut work) {
+        if !self.test_unread(j, range, scratch, bits, &mut work) {
             self.test_read(j, range, scratch, bits, &mut work);
         }
     }

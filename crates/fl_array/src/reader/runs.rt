@@ -1,12 +1,12 @@
 //! Items of run-length encoded arrays, chunk by chunk.
 
-ghost use Rattle.std.specs.Prelude.{◌≡◌, ◌+◌, ◌%◌, ◌≤◌, ◌<◌, ◌^◌, ℕ, IfSome, IsTrue, false, length, true};
+ghost use Rattle.std.specs.Prelude.{◌≡◌, ◌+◌, ◌*◌, ◌%◌, ◌≤◌, ◌<◌, ◌^◌, ℕ, IfSome, IsTrue, false, length, map, true};
 ghost use Rattle.fl_types.specs.Types.{has_ptype, is_nullable};
 ghost use Rattle.fl_column.specs.Columns.{integers_in, numbers_of};
 ghost use Rattle.fl_codec.specs.RunColumns.{run_item};
 ghost use Rattle.fl_bitpacking.specs.Blocks.{value_at};
 ghost use Rattle.fl_array.specs.Readers.{AreItemsFrom};
-ghost use Rattle.fl_array.specs.ReaderSources.{AreRunParts};
+ghost use Rattle.fl_array.specs.ReaderSources.{AreRunParts, AreRunValues};
 ghost use Rattle.fl_array.specs.RLEArrays.{tree_of_rle};
 ghost use Rattle.fl_array.specs.Trees.{column};
 
@@ -32,7 +32,6 @@ pub(crate) struct RunReader<'a> {
 }
 
 /// Writes items of one chunk, that at index `at` of the run indices first.
-#[tactic(auto, using(crate::proofs::ItemTypes::rle_typed))]
 fn read_chunk<T: NativePType, I: BitPacked + PhysicalPType + WrappingAdd>(
     runs: &RunReader,
     all_named: bool,
@@ -53,11 +52,7 @@ fn read_chunk<T: NativePType, I: BitPacked + PhysicalPType + WrappingAdd>(
     let mut scratch = [I::zero(); FL_CHUNK_SIZE];
     let names = &mut scratch[..items.len()];
     runs.indices.read_items(at, names, work);
-    let stored = runs.values.array().as_slice::<T>();
-    let starts = runs.offsets.array();
-    // For the proof: the chunk has a run offset.
-    let _count = starts.len();
-    let own = values_of_chunk(stored, starts, at / FL_CHUNK_SIZE);
+    let own = runs.values_of_chunk::<T>(at / FL_CHUNK_SIZE);
     write_run_items(own, names, all_named, items);
 }
 
@@ -87,6 +82,22 @@ fn read_runs<T: NativePType, I: BitPacked + PhysicalPType + WrappingAdd>(
 }
 
 impl RunReader<'_> {
+    /// The run values of chunk `k`.
+    #[tactic(auto, using(crate::proofs::ItemTypes::rle_typed))]
+    pub(crate) fn values_of_chunk<T: NativePType>(&self, k: usize) -> &[T]
+        requires parts { AreRunParts self.now }
+        requires typed { IsTrue (has_ptype T.PTYPE (column (tree_of_rle self.now.array.now)).dtype) }
+        requires chunk { 1024 * k < length self.now.indices.column.items }
+        ensures { AreRunValues self.now.array.now k (map T.value result.now) }
+    {
+        self.array.prove_well_formed();
+        let stored = self.values.array().as_slice::<T>();
+        let starts = self.offsets.array();
+        // For the proof: the chunk has a run offset.
+        let _count = starts.len();
+        values_of_chunk(stored, starts, k)
+    }
+
     /// The number of items.
     pub(crate) fn len(&self) -> usize
         ensures { result ≡ length (column (tree_of_rle self.now.array.now)).items }

@@ -1,14 +1,17 @@
 //! How the items of a block are made of its stored integers: they are the items, or a reference is added to
 //! each.
 
-ghost use Rattle.std.specs.Prelude.{◌≡◌, ◌+◌, ◌*◌, ◌<◌, ◌≤◌, ◌+ℤ◌, ℕ, ℤ, length, map, min, option_map};
+ghost use Rattle.std.specs.Prelude.{◌≡◌, ◌+◌, ◌*◌, ◌<◌, ◌≤◌, ◌+ℤ◌, ℕ, ℤ, length, map, option_map};
 ghost use Rattle.fl_types.specs.Integers.{bits_of_type, wrap};
 ghost use Rattle.fl_bitpacking.specs.Blocks.{block_item, value_at};
 ghost use Rattle.fl_bitpacking.specs.BlockSums.{block_reference, plus_block_reference};
+ghost use Rattle.fl_bitpacking.specs.Readings.{bytes_at, more_blocks};
 
 use crate::bit_packed::BitPacked;
+use crate::packed_data::BlockExtent;
+use crate::packed_reader::PackedReader;
 use crate::unpack_iter::UnpackStrategy;
-use fastlanes::{FL_CHUNK_SIZE, Work};
+use fastlanes::FL_CHUNK_SIZE;
 use fl_types::NativePType;
 use num_traits::WrappingAdd;
 
@@ -17,21 +20,19 @@ pub(crate) trait BlockDecoder<T: NativePType> {
     /// The item of an integer of block `j`.
     ghost item: { Self → ℕ → ℤ → ℤ };
 
-    /// Writes the items of block `j`, whose `128 * width` bytes these are.
+    /// Writes the items of block `j`, of which this is the extent.
     fn decode_block(
         &self,
         j: usize,
-        width: usize,
-        block: &[u8],
+        extent: BlockExtent,
         items: &mut [T; FL_CHUNK_SIZE],
-        work: &mut Work,
+        reader: &mut PackedReader,
     )
-        requires width { width ≤ bits_of_type T.PTYPE }
-        requires block { length block.now ≡ 128 * width }
-        ensures items { (i : ℕ) → i < 1024 → value_at T.value items.new i ≡ item self.now j (block_item T.PTYPE width block.now i) }
+        requires width { extent.width ≤ bits_of_type T.PTYPE }
+        requires room { extent.start + 128 * extent.width ≤ length reader.old.bytes }
+        ensures items { (i : ℕ) → i < 1024 → value_at T.value items.new i ≡ item self.now j (block_item T.PTYPE extent.width (bytes_at extent reader.old.bytes) i) }
         ensures whole { length items.new ≡ 1024 }
-        ensures blocks { work.new.blocks ≡ min (work.old.blocks + 1) u64.MAX }
-        ensures words { work.new.words ≡ work.old.words };
+        ensures counted { reader.new ≡ more_blocks 1 reader.old };
 }
 
 /// The integers are the items.
@@ -47,12 +48,11 @@ impl<'a, T: NativePType, S: UnpackStrategy<T>> BlockDecoder<T> for AsStored<'a, 
     fn decode_block(
         &self,
         _j: usize,
-        width: usize,
-        block: &[u8],
+        extent: BlockExtent,
         items: &mut [T; FL_CHUNK_SIZE],
-        work: &mut Work,
+        reader: &mut PackedReader,
     ) {
-        self.strategy.unpack_chunk(width, block, items, work);
+        reader.unpack_block_by(self.strategy, extent, items);
     }
 }
 
@@ -103,14 +103,13 @@ impl<'a, T: BitPacked> BlockDecoder<T> for PlusReferences<'a, T> {
     fn decode_block(
         &self,
         j: usize,
-        width: usize,
-        block: &[u8],
+        extent: BlockExtent,
         items: &mut [T; FL_CHUNK_SIZE],
-        work: &mut Work,
+        reader: &mut PackedReader,
     ) {
         match reference_of(self.references, j) {
-            Some(reference) => T::unfor_block(width, block, reference, items, work),
-            None => T::unpack_block(width, block, items, work),
+            Some(reference) => reader.unfor_block(extent, reference, items),
+            None => reader.unpack_block(extent, items),
         }
     }
 }

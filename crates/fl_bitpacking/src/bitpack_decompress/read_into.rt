@@ -18,6 +18,7 @@ use crate::bitpack_decompress::PackedColumn;
 use crate::bitpack_decompress::block_decoding::PlusReferences;
 use crate::blocks::PackedBlocks;
 use crate::packed_data::PackedData;
+use crate::packed_reader::PackedReader;
 use crate::patching::ranges::write_patches_from;
 use crate::references::References;
 use fastlanes::Work;
@@ -35,7 +36,7 @@ fn read_items<'a, T: BitPacked + WrappingAdd>(
 )
     requires typed { column.now.ptype ≡ T.PTYPE }
     requires fit { Fit (parts_of column.now) }
-    requires readable { AreReadable (bits_of_type column.now.ptype) (blocks_to_read column.now widths) }
+    requires readable { AreReadable (bits_of_type column.now.ptype) column.now.packed.now (blocks_to_read column.now widths) }
     requires starts { HasStarts widths }
     requires range { start + length items.old ≤ column.now.len }
     ensures items { AreItemsFrom start (length items.old) (value_at T.value items.new) (decoded_column (plus_block_reference T.PTYPE (map T.value references.now)) (parts_of column.now) (blocks_of widths.entry)) }
@@ -44,12 +45,13 @@ fn read_items<'a, T: BitPacked + WrappingAdd>(
 {
     let blocks = PackedBlocks {
         widths,
-        packed: column.packed,
         offset: column.offset,
         len: column.len,
     };
     let decoder = PlusReferences { references };
-    blocks.read_into(&decoder, start, items, work);
+    let mut reader = PackedReader::over(column.packed, work);
+    blocks.read_into(&decoder, start, items, &mut reader);
+    *work = reader.finish();
     let first = column.offset + start;
     write_patches_from(column.patches, start, references, first, items);
 }
@@ -66,7 +68,7 @@ fn read_sums<'a, T: BitPacked + WrappingAdd>(
     requires typed { column.now.ptype ≡ T.PTYPE }
     requires references { AreReferencesOf column.now.ptype (block_count (parts_of column.now)) references }
     requires fit { Fit (parts_of column.now) }
-    requires readable { AreReadable (bits_of_type column.now.ptype) (blocks_to_read column.now widths) }
+    requires readable { AreReadable (bits_of_type column.now.ptype) column.now.packed.now (blocks_to_read column.now widths) }
     requires starts { HasStarts widths }
     requires range { start + length items.old ≤ column.now.len }
     ensures items { AreItemsFrom start (length items.old) (value_at T.value items.new) (plus_references references.entry column.now.offset (column_of_packed (parts_of column.now) (blocks_of widths.entry))) }

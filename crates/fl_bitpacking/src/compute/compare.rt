@@ -4,6 +4,8 @@ mod block_tests;
 pub mod blocks;
 mod packed_data;
 pub mod primitive;
+mod single_block;
+pub mod values;
 
 ghost use Rattle.std.specs.Prelude.{◌≡◌, ◌==◌, ◌+◌, ◌*◌, ◌/◌, ◌<◌, ◌≤◌, ◌^◌, ℕ, IfOk, IfSome, OnOk, Ok, false, length, map, min, not, option_map, pos, slice_index_or, slice_set, unwrap_or, if◌then◌else◌};
 ghost use Rattle.std.specs.Option.{option_copied};
@@ -23,16 +25,19 @@ ghost use Rattle.fl_bitpacking.specs.Compared.{AreBlockTests, IsPackedTest, answ
 ghost use Rattle.fl_bitpacking.specs.Decided.{is_decided, undecided_below, undecided_by_block};
 ghost use Rattle.fl_bitpacking.specs.Parts.{AreReadable, Fit, blocks_in, parts_of};
 ghost use Rattle.fl_bitpacking.specs.ReadWidths.{AreWidthsOf};
+ghost use Rattle.fl_bitpacking.specs.Readings.{AreFewBlocks, bytes_at, more_blocks};
 ghost use Rattle.fl_bitpacking.specs.Placed.{ArePlaced, value_beside};
 ghost use Rattle.fl_bitpacking.specs.RangeTests.{IsTestOf, answer_of, in_range, passes};
 ghost use Rattle.fl_bitpacking.specs.References.{AreBlockReferences, of_sum_if_some, plus_block_references};
 
 use crate::bitpack_decompress::PackedColumn;
-use crate::blocks::{PackedBlocks, block_at, prove_count_fits};
+use crate::blocks::PackedBlocks;
 use crate::compute::compare::block_tests::BlockTests;
 use crate::compute::range_test::{PatternTest, RangeTest};
+use crate::packed_data::BlockExtent;
+use crate::packed_reader::PackedReader;
 use crate::patching::place_of;
-use fastlanes::{FL_CHUNK_SIZE, FastLanes, Work, transpose_bits, unpack_cmp_bytes};
+use fastlanes::{FL_CHUNK_SIZE, FastLanes, Work, transpose_bits};
 use fl_column::{BoolArray, PhysicalPType, PrimitiveArray};
 use fl_patches::{Patches, Widths};
 use fl_types::laws::integer_is_in_range;
@@ -110,28 +115,24 @@ fn is_in_range<W: FastLanes>(word: W, low: W, span: W) -> bool
 /// Sets bit `i` where the pattern of item `i` of a packed block minus `low`, modulo 2 to its bits, is at most `span`, and no
 /// other bit.
 fn compare_block<W: FastLanes>(
-    width: usize,
-    block: &[u8],
+    reader: &mut PackedReader,
+    extent: BlockExtent,
     low: W,
     span: W,
     bits: &mut [u64; 16],
-    work: &mut Work,
 )
-    requires width { width ≤ W.T }
-    requires block { length block.now ≡ 128 * width }
-    ensures bits { (i : ℕ) → i < 1024 → has_bit bits.new i ≡ in_range W.T (W.pattern low) (W.pattern span) (unpacked_item W.T W.LANES width (word_at W.T block.now) i) }
+    requires width { extent.width ≤ W.T }
+    requires room { extent.start + 128 * extent.width ≤ length reader.old.bytes }
+    ensures bits { (i : ℕ) → i < 1024 → has_bit bits.new i ≡ in_range W.T (W.pattern low) (W.pattern span) (unpacked_item W.T W.LANES extent.width (word_at W.T (bytes_at extent reader.old.bytes)) i) }
     ensures whole { length bits.new ≡ 16 }
-    ensures blocks { work.new.blocks ≡ min (work.old.blocks + 1) u64.MAX }
-    ensures words { work.new.words ≡ work.old.words }
+    ensures counted { reader.new ≡ more_blocks 1 reader.old }
 {
     let mut lanes = [0u64; 16];
-    unpack_cmp_bytes(
-        width,
-        block,
+    reader.compare_block(
+        extent,
         &mut lanes,
         |item, low| is_in_range(item, low, span),
         low,
-        work,
     );
     transpose_bits::<W>(&lanes, bits);
 }
@@ -161,7 +162,7 @@ fn uniform_word(on: bool) -> u64
 }
 
 /// Sets all bits, or none.
-fn fill(bits: &mut [u64; 16], on: bool)
+pub fn fill(bits: &mut [u64; 16], on: bool)
     ensures bits { (i : ℕ) → i < 1024 → has_bit bits.new i ≡ on }
     ensures whole { length bits.new ≡ 16 }
 {
@@ -173,23 +174,21 @@ fn fill(bits: &mut [u64; 16], on: bool)
 
 /// Sets bit `i` where item `i` of a packed block passes the test, and no other bit.
 fn compare_patterns<W: FastLanes>(
+    reader: &mut PackedReader,
+    extent: BlockExtent,
     test: PatternTest,
-    width: usize,
-    block: &[u8],
     bits: &mut [u64; 16],
-    work: &mut Work,
 )
     requires low { test.low < 2 ^ W.T }
     requires span { test.span < 2 ^ W.T }
-    requires width { width ≤ W.T }
-    requires block { length block.now ≡ 128 * width }
-    ensures bits { (i : ℕ) → i < 1024 → has_bit bits.new i ≡ answer_of test.negated (in_range W.T test.low test.span (unpacked_item W.T W.LANES width (word_at W.T block.now) i)) }
+    requires width { extent.width ≤ W.T }
+    requires room { extent.start + 128 * extent.width ≤ length reader.old.bytes }
+    ensures bits { (i : ℕ) → i < 1024 → has_bit bits.new i ≡ answer_of test.negated (in_range W.T test.low test.span (unpacked_item W.T W.LANES extent.width (word_at W.T (bytes_at extent reader.old.bytes)) i)) }
     ensures whole { length bits.new ≡ 16 }
-    ensures blocks { work.new.blocks ≡ min (work.old.blocks + 1) u64.MAX }
-    ensures words { work.new.words ≡ work.old.words }
+    ensures counted { reader.new ≡ more_blocks 1 reader.old }
 {
     let (low, span) = (W::from_u64(test.low), W::from_u64(test.span));
-    compare_block(width, block, low, span, bits, work);
+    compare_block(reader, extent, low, span, bits);
     if test.negated {
         negate(bits);
     }
@@ -198,26 +197,25 @@ fn compare_patterns<W: FastLanes>(
 /// Sets bit `i` where item `i` of a packed block passes the test, and no other bit. Nothing is unpacked where the block's width
 /// decides the test.
 fn test_block<W: FastLanes>(
+    reader: &mut PackedReader,
+    extent: BlockExtent,
     test: PackedTest,
-    width: usize,
-    block: &[u8],
     bits: &mut [u64; 16],
-    work: &mut Work,
 )
     requires test { IsPackedTest test }
     requires word { W.T ≡ bits_of_type test.ptype }
-    requires width { width ≤ bits_of_type test.ptype }
-    requires block { length block.now ≡ 128 * width }
-    ensures bits { (i : ℕ) → i < 1024 → has_bit bits.new i ≡ passes test.range (block_item test.ptype width block.now i) }
+    requires width { extent.width ≤ bits_of_type test.ptype }
+    requires room { extent.start + 128 * extent.width ≤ length reader.old.bytes }
+    ensures bits { (i : ℕ) → i < 1024 → has_bit bits.new i ≡ passes test.range (block_item test.ptype extent.width (bytes_at extent reader.old.bytes) i) }
     ensures whole { length bits.new ≡ 16 }
-    ensures blocks { work.new.blocks ≡ min (work.old.blocks + (if is_decided test.ptype width (passes test.range) then 0 else 1)) u64.MAX }
-    ensures words { work.new.words ≡ work.old.words }
+    ensures counted { reader.new ≡ more_blocks (if is_decided test.ptype extent.width (passes test.range) then 0 else 1) reader.old }
 {
-    prove_count_fits(work);
-    if test.is_decided(width) {
+    // For the proof: the count is a `u64`.
+    let _blocks = reader.blocks();
+    if test.is_decided(extent.width) {
         fill(bits, test.is_passed_by_zero());
     } else {
-        compare_patterns::<W>(test.patterns, width, block, bits, work);
+        compare_patterns::<W>(reader, extent, test.patterns, bits);
     }
 }
 
@@ -230,28 +228,29 @@ impl PackedBlocks<'_> {
         j: usize,
         start: usize,
         words: &mut Vec<u64>,
-        work: &mut Work,
+        reader: &mut PackedReader,
     ) -> Result<usize, AllocError>
         requires tests { AreBlockTests (blocks_in self) tests }
         requires word { W.T ≡ bits_of_type tests.test.ptype }
-        requires readable { AreReadable (bits_of_type tests.test.ptype) self }
+        requires readable { AreReadable (bits_of_type tests.test.ptype) reader.old.bytes self }
         requires block { j < blocks_in self }
         requires start { start ≡ (blocks_of self.widths).start j }
         requires begun { length words.old.items ≡ 16 * j }
         ensures long { OnOk result (length words.new.items ≡ 16 * (j + 1)) }
         ensures before { OnOk result ((p : ℕ) → p < 1024 * j → is_set words.new.items p ≡ is_set words.old.items p) }
-        ensures part { OnOk result ((p : ℕ) → 1024 * j ≤ p → p < 1024 * (j + 1) → is_set words.new.items p ≡ answer_at tests.entry (blocks_of self.entry.widths) self.entry.packed.now p) }
+        ensures part { OnOk result ((p : ℕ) → 1024 * j ≤ p → p < 1024 * (j + 1) → is_set words.new.items p ≡ answer_at tests.entry (blocks_of self.entry.widths) reader.old.bytes p) }
         ensures next { IfOk result (λ next. next ≡ (blocks_of self.entry.widths).start (j + 1)) }
-        ensures blocks { work.new.blocks ≡ min (work.old.blocks + (if is_decided tests.entry.test.ptype ((blocks_of self.entry.widths).width j) (passes_in tests.entry j) then 0 else 1)) u64.MAX }
-        ensures words { work.new.words ≡ work.old.words }
+        ensures counted { reader.new ≡ more_blocks (if is_decided tests.entry.test.ptype ((blocks_of self.entry.widths).width j) (passes_in tests.entry j) then 0 else 1) reader.old }
     {
+        // For the proof: the block ends below 2 ^ 64.
+        let _size = reader.size();
         let width = self.widths.of_block(j);
-        let block = block_at(self.packed, start, width);
+        let extent = BlockExtent { start, width };
         let mut bits = [0u64; 16];
         let test = tests.of_block(j);
-        test_block::<W>(test, width, block, &mut bits, work);
+        test_block::<W>(reader, extent, test, &mut bits);
         words.extend_from_slice(&bits)?;
-        Ok(start + block.len())
+        Ok(start + FL_CHUNK_SIZE / 8 * width)
     }
 }
 
@@ -260,22 +259,22 @@ fn test_blocks<W: FastLanes>(
     alloc: Global,
     blocks: PackedBlocks,
     tests: BlockTests,
-    work: &mut Work,
+    reader: &mut PackedReader,
 ) -> Result<Vec<u64>, AllocError>
     requires tests { AreBlockTests (blocks_in blocks) tests }
     requires word { W.T ≡ bits_of_type tests.test.ptype }
-    requires readable { AreReadable (bits_of_type tests.test.ptype) blocks }
+    requires readable { AreReadable (bits_of_type tests.test.ptype) reader.old.bytes blocks }
     ensures long { IfOk result (λ v. length v.items ≡ 16 * blocks_in blocks.entry) }
-    ensures bits { IfOk result (λ v. (p : ℕ) → p < 1024 * blocks_in blocks.entry → is_set v.items p ≡ answer_at tests.entry (blocks_of blocks.entry.widths) blocks.entry.packed.now p) }
-    ensures blocks { OnOk result (work.new.blocks ≡ min (work.old.blocks + undecided_below tests.entry.test.ptype (blocks_of blocks.entry.widths) (passes_in tests.entry) (blocks_in blocks.entry)) u64.MAX) }
-    ensures most { work.new.blocks ≤ work.old.blocks + undecided_below tests.entry.test.ptype (blocks_of blocks.entry.widths) (passes_in tests.entry) (blocks_in blocks.entry) }
-    ensures words { work.new.words ≡ work.old.words }
+    ensures bits { IfOk result (λ v. (p : ℕ) → p < 1024 * blocks_in blocks.entry → is_set v.items p ≡ answer_at tests.entry (blocks_of blocks.entry.widths) reader.old.bytes p) }
+    ensures counted { OnOk result (reader.new ≡ more_blocks (undecided_below tests.entry.test.ptype (blocks_of blocks.entry.widths) (passes_in tests.entry) (blocks_in blocks.entry)) reader.old) }
+    ensures most { AreFewBlocks (undecided_below tests.entry.test.ptype (blocks_of blocks.entry.widths) (passes_in tests.entry) (blocks_in blocks.entry)) reader.old reader.new }
 {
-    prove_count_fits(work);
+    // For the proof: the count is a `u64`.
+    let _blocks = reader.blocks();
     let mut words = Vec::with_capacity(alloc, 16 * blocks.count())?;
     let mut start = 0;
     for j in 0..blocks.count() {
-        start = blocks.push_answers::<W>(tests, j, start, &mut words, work)?;
+        start = blocks.push_answers::<W>(tests, j, start, &mut words, reader)?;
     }
     Ok(words)
 }
@@ -285,21 +284,20 @@ fn test_words(
     alloc: Global,
     blocks: PackedBlocks,
     tests: BlockTests,
-    work: &mut Work,
+    reader: &mut PackedReader,
 ) -> Result<Vec<u64>, AllocError>
     requires tests { AreBlockTests (blocks_in blocks) tests }
-    requires readable { AreReadable (bits_of_type tests.test.ptype) blocks }
+    requires readable { AreReadable (bits_of_type tests.test.ptype) reader.old.bytes blocks }
     ensures long { IfOk result (λ v. length v.items ≡ 16 * blocks_in blocks.entry) }
-    ensures bits { IfOk result (λ v. (p : ℕ) → p < 1024 * blocks_in blocks.entry → is_set v.items p ≡ answer_at tests.entry (blocks_of blocks.entry.widths) blocks.entry.packed.now p) }
-    ensures blocks { OnOk result (work.new.blocks ≡ min (work.old.blocks + undecided_below tests.entry.test.ptype (blocks_of blocks.entry.widths) (passes_in tests.entry) (blocks_in blocks.entry)) u64.MAX) }
-    ensures most { work.new.blocks ≤ work.old.blocks + undecided_below tests.entry.test.ptype (blocks_of blocks.entry.widths) (passes_in tests.entry) (blocks_in blocks.entry) }
-    ensures words { work.new.words ≡ work.old.words }
+    ensures bits { IfOk result (λ v. (p : ℕ) → p < 1024 * blocks_in blocks.entry → is_set v.items p ≡ answer_at tests.entry (blocks_of blocks.entry.widths) reader.old.bytes p) }
+    ensures counted { OnOk result (reader.new ≡ more_blocks (undecided_below tests.entry.test.ptype (blocks_of blocks.entry.widths) (passes_in tests.entry) (blocks_in blocks.entry)) reader.old) }
+    ensures most { AreFewBlocks (undecided_below tests.entry.test.ptype (blocks_of blocks.entry.widths) (passes_in tests.entry) (blocks_in blocks.entry)) reader.old reader.new }
 {
     match tests.test.ptype {
-        PType::U8 | PType::I8 => test_blocks::<u8>(alloc, blocks, tests, work),
-        PType::U16 | PType::I16 => test_blocks::<u16>(alloc, blocks, tests, work),
-        PType::U32 | PType::I32 => test_blocks::<u32>(alloc, blocks, tests, work),
-        PType::U64 | PType::I64 => test_blocks::<u64>(alloc, blocks, tests, work),
+        PType::U8 | PType::I8 => test_blocks::<u8>(alloc, blocks, tests, reader),
+        PType::U16 | PType::I16 => test_blocks::<u16>(alloc, blocks, tests, reader),
+        PType::U32 | PType::I32 => test_blocks::<u32>(alloc, blocks, tests, reader),
+        PType::U64 | PType::I64 => test_blocks::<u64>(alloc, blocks, tests, reader),
     }
 }
 
@@ -308,21 +306,21 @@ fn test_items(
     alloc: Global,
     blocks: PackedBlocks,
     tests: BlockTests,
-    work: &mut Work,
+    reader: &mut PackedReader,
 ) -> Result<BitList, AllocError>
     requires tests { AreBlockTests (blocks_in blocks) tests }
-    requires readable { AreReadable (bits_of_type tests.test.ptype) blocks }
+    requires readable { AreReadable (bits_of_type tests.test.ptype) reader.old.bytes blocks }
     ensures long { IfOk result (λ b. length b ≡ blocks.entry.len) }
-    ensures bits { IfOk result (λ b. (i : ℕ) → i < blocks.entry.len → slice_index_or b i false ≡ answer_at tests.entry (blocks_of blocks.entry.widths) blocks.entry.packed.now (blocks.entry.offset + i)) }
-    ensures blocks { OnOk result (work.new.blocks ≡ min (work.old.blocks + (if blocks.entry.len == 0 then 0 else undecided_below tests.entry.test.ptype (blocks_of blocks.entry.widths) (passes_in tests.entry) (blocks_in blocks.entry))) u64.MAX) }
-    ensures most { work.new.blocks ≤ work.old.blocks + (if blocks.entry.len == 0 then 0 else undecided_below tests.entry.test.ptype (blocks_of blocks.entry.widths) (passes_in tests.entry) (blocks_in blocks.entry)) }
-    ensures words { work.new.words ≡ work.old.words }
+    ensures bits { IfOk result (λ b. (i : ℕ) → i < blocks.entry.len → slice_index_or b i false ≡ answer_at tests.entry (blocks_of blocks.entry.widths) reader.old.bytes (blocks.entry.offset + i)) }
+    ensures counted { OnOk result (reader.new ≡ more_blocks (if blocks.entry.len == 0 then 0 else undecided_below tests.entry.test.ptype (blocks_of blocks.entry.widths) (passes_in tests.entry) (blocks_in blocks.entry)) reader.old) }
+    ensures most { AreFewBlocks (if blocks.entry.len == 0 then 0 else undecided_below tests.entry.test.ptype (blocks_of blocks.entry.widths) (passes_in tests.entry) (blocks_in blocks.entry)) reader.old reader.new }
 {
-    prove_count_fits(work);
+    // For the proof: the count is a `u64`.
+    let _blocks = reader.blocks();
     if blocks.len == 0 {
         return Ok(BitList::new(alloc));
     }
-    let words = test_words(alloc, blocks, tests, work)?;
+    let words = test_words(alloc, blocks, tests, reader)?;
     Ok(BitList::from_words(words, blocks.offset, blocks.len))
 }
 
@@ -479,14 +477,15 @@ fn test_column(
 {
     let blocks = PackedBlocks {
         widths,
-        packed: column.packed,
         offset: column.offset,
         len: column.len,
     };
     let test = PackedTest::new(range, column.ptype);
     let tests = BlockTests { test, references };
-    let stored = test_items(alloc, blocks, tests, work)?;
-    let bits = with_patches(tests, stored, column.patches, column.offset);
+    let mut reader = PackedReader::over(column.packed, work);
+    let stored = test_items(alloc, blocks, tests, &mut reader);
+    *work = reader.finish();
+    let bits = with_patches(tests, stored?, column.patches, column.offset);
     let validity = column.validity.try_clone(alloc)?;
     BoolArray::new(bits, validity)
 }

@@ -1,6 +1,6 @@
 //! Comparisons with constants and between bounds, as tests of one range of integers, or of their sums with a reference.
 
-ghost use Rattle.std.specs.Prelude.{◌≡◌, ◌&&◌, ◌||◌, ◌-◌, ◌%◌, ◌^◌, ◌<◌, ◌≤◌, ◌⊎◌, ◌+◌, ◌≤ℤ◌, ◌<ℤ◌, ◌+ℤ◌, ◌-ℤ◌, ℕ, ℤ, IfNone, IfSome, pos, negsuc, int_le, nat_eq, nat_le, if◌then◌else◌};
+ghost use Rattle.std.specs.Prelude.{◌≡◌, ◌&&◌, ◌||◌, ◌-◌, ◌%◌, ◌^◌, ◌<◌, ◌≤◌, ◌⊎◌, ◌+◌, ◌≤ℤ◌, ◌<ℤ◌, ◌+ℤ◌, ◌-ℤ◌, ℕ, ℤ, IfNone, IfSome, None, pos, negsuc, int_le, nat_eq, nat_le, nat_lt, if◌then◌else◌};
 ghost use Rattle.fl_types.specs.Integers.{bits_of_type, pattern_of, wrap};
 ghost use Rattle.fl_types.specs.Values.{integer_of, ptype_of_value};
 ghost use Rattle.fl_column.specs.Queries.{holds, is_before, is_between};
@@ -203,6 +203,26 @@ impl RangeTest {
             upper,
             negated,
             reference: None,
+        }
+    }
+
+    /// The test of the places from `start` to below `end`, or of all others.
+    pub(crate) fn of_places(start: usize, end: usize, negated: bool) -> RangeTest
+        ensures test { (k : ℕ) → passes result (pos k) ≡ answer_of negated (nat_le start k && nat_lt k end) }
+        ensures plain { result.reference ≡ None }
+    {
+        RangeTest::new(Some(start as i128), Some(end as i128 - 1), negated)
+    }
+
+    /// The test of the integers in the range, whether this one is of those or of all others.
+    #[tactic(auto, unfolding(crate::specs::RangeTests::passes))]
+    pub(crate) fn inside(self) -> RangeTest
+        ensures test { (z : ℤ) → passes self z ≡ answer_of self.negated (passes result z) }
+        ensures reference { result.reference ≡ self.reference }
+    {
+        RangeTest {
+            negated: false,
+            ..self
         }
     }
 

@@ -26,6 +26,7 @@ use crate::compute::take::patch_values::with_patches_at;
 use crate::compute::take::positions::named_positions;
 use crate::compute::take::runs::take_stored;
 use crate::packed_data::PackedData;
+use crate::packed_reader::PackedReader;
 use fastlanes::Work;
 use fl_column::{PhysicalPType, PrimitiveArray, PrimitiveBuilder, is_full};
 use fl_patches::Widths;
@@ -73,7 +74,6 @@ impl<'a> Taking<'a> {
     {
         PackedBlocks {
             widths: self.widths,
-            packed: self.column.packed,
             offset: self.column.offset,
             len: self.column.len,
         }
@@ -87,15 +87,17 @@ impl<'a> Taking<'a> {
     ) -> Result<Vec<T>, AllocError>
         requires typed { self.column.ptype ≡ T.PTYPE }
         requires fit { Fit (parts_of self.column) }
-        requires readable { AreReadable (bits_of_type self.column.ptype) (blocks_to_read self.column self.widths) }
+        requires readable { AreReadable (bits_of_type self.column.ptype) self.column.packed.now (blocks_to_read self.column self.widths) }
         requires starts { HasStarts self.widths }
         requires below { AreBelow self.column.len self.positions.now }
         ensures slots { IfOk result (λ v. AreSlots T.value self.entry v.items) }
         ensures blocks { 17 * work.new.blocks ≤ 17 * work.old.blocks + length self.entry.positions.now }
         ensures words { work.new.words ≤ work.old.words + 2 * length self.entry.positions.now }
     {
-        let items = take_stored(alloc, self.blocks(), self.positions, work)?;
-        Ok(with_patches_at(items, self.column.patches, self.positions))
+        let mut reader = PackedReader::over(self.column.packed, work);
+        let items = take_stored(alloc, self.blocks(), self.positions, &mut reader);
+        *work = reader.finish();
+        Ok(with_patches_at(items?, self.column.patches, self.positions))
     }
 
     /// What is stored at the positions, where all blocks are unpacked first.
@@ -106,12 +108,14 @@ impl<'a> Taking<'a> {
     ) -> Result<Vec<T>, AllocError>
         requires typed { self.column.ptype ≡ T.PTYPE }
         requires fit { Fit (parts_of self.column) }
-        requires readable { AreReadable (bits_of_type self.column.ptype) (blocks_to_read self.column self.widths) }
+        requires readable { AreReadable (bits_of_type self.column.ptype) self.column.packed.now (blocks_to_read self.column self.widths) }
         requires below { AreBelow self.column.len self.positions.now }
         ensures slots { IfOk result (λ v. AreSlots T.value self.entry v.items) }
     {
-        let values = unpack_values(alloc, self.blocks(), work)?;
-        let items = with_values(values, self.column.patches);
+        let mut reader = PackedReader::over(self.column.packed, work);
+        let values = unpack_values(alloc, self.blocks(), &mut reader);
+        *work = reader.finish();
+        let items = with_values(values?, self.column.patches);
         gather(alloc, &items, self.positions)
     }
 
@@ -135,7 +139,7 @@ impl<'a> Taking<'a> {
     ) -> Result<Vec<T>, AllocError>
         requires typed { self.column.ptype ≡ T.PTYPE }
         requires fit { Fit (parts_of self.column) }
-        requires readable { AreReadable (bits_of_type self.column.ptype) (blocks_to_read self.column self.widths) }
+        requires readable { AreReadable (bits_of_type self.column.ptype) self.column.packed.now (blocks_to_read self.column self.widths) }
         requires starts { HasStarts self.widths }
         requires below { AreBelow self.column.len self.positions.now }
         ensures slots { IfOk result (λ v. AreSlots T.value self.entry v.items) }
@@ -303,7 +307,7 @@ fn take_typed<T: BitPacked + PhysicalPType + WrappingAdd>(
 ) -> Result<PrimitiveArray, FastLanesError>
     requires typed { taking.column.ptype ≡ T.PTYPE }
     requires fit { Fit (parts_of taking.column) }
-    requires readable { AreReadable (bits_of_type taking.column.ptype) (blocks_to_read taking.column taking.widths) }
+    requires readable { AreReadable (bits_of_type taking.column.ptype) taking.column.packed.now (blocks_to_read taking.column taking.widths) }
     requires starts { HasStarts taking.widths }
     requires positions { ArePositions taking.column.len (column_of_primitive indices.now).items taking.positions.now }
     ensures column { Answers column_of_primitive result (take_column (column_of_primitive indices.now) (column_of_packed (parts_of taking.entry.column) (blocks_of taking.entry.widths))) }
@@ -322,7 +326,7 @@ fn take_at(
     work: &mut Work,
 ) -> Result<PrimitiveArray, FastLanesError>
     requires fit { Fit (parts_of taking.column) }
-    requires readable { AreReadable (bits_of_type taking.column.ptype) (blocks_to_read taking.column taking.widths) }
+    requires readable { AreReadable (bits_of_type taking.column.ptype) taking.column.packed.now (blocks_to_read taking.column taking.widths) }
     requires starts { HasStarts taking.widths }
     requires positions { ArePositions taking.column.len (column_of_primitive indices.now).items taking.positions.now }
     ensures column { Answers column_of_primitive result (take_column (column_of_primitive indices.now) (column_of_packed (parts_of taking.entry.column) (blocks_of taking.entry.widths))) }

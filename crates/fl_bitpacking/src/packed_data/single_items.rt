@@ -1,20 +1,21 @@
 //! Single items of packed columns: as scalars, in their type, and as their bits are stored.
 
-ghost use Rattle.std.specs.Prelude.{◌≡◌, ◌+◌, ◌-◌, ◌/◌, ◌<◌, ◌≤◌, None, option_map, slice_index_or, unwrap_or};
+ghost use Rattle.std.specs.Prelude.{◌≡◌, ◌+◌, ◌-◌, ◌*◌, ◌/◌, ◌<◌, ◌≤◌, IfSome, None, length, option_map, slice_index_or, unwrap_or};
+ghost use Rattle.fl_types.specs.Integers.{bits_of_type};
 ghost use Rattle.fl_types.specs.Values.{integer_of, ptype_of_value, scalar_parts};
 ghost use Rattle.fl_column.specs.Queries.{scalar_in};
 ghost use Rattle.fl_patches.specs.PatchMaps.{patched_in};
-ghost use Rattle.fl_bitpacking.specs.Blocks.{Blocks, global_blocks};
+ghost use Rattle.fl_bitpacking.specs.Blocks.{Blocks, block_item, global_blocks};
 ghost use Rattle.fl_bitpacking.specs.Columns.{block_count, column_of_packed};
+ghost use Rattle.fl_bitpacking.specs.Readings.{AreFewWords, bytes_at};
 ghost use Rattle.fl_bitpacking.specs.Refusals.{global_refusal};
 ghost use Rattle.fl_bitpacking.specs.SingleItems.{IsBlockIn, IsBlockOf, stored_in_block, stored_scalar};
 
-use crate::bitpack_decompress::unpack_block_item;
-use crate::blocks::block_at;
 use crate::packed_data::PackedData;
+use crate::packed_reader::PackedReader;
 use fastlanes::{FL_CHUNK_SIZE, Work};
 use fl_column::PhysicalPType;
-use fl_types::{NativePType, PValue, Scalar, match_each_integer_ptype};
+use fl_types::{NativePType, PType, PValue, Scalar, match_each_integer_ptype};
 
 /// Where a block of 1024 items lies in the packed bytes.
 #[derive(Clone, Copy)]
@@ -39,64 +40,33 @@ impl BlockExtent {
     }
 }
 
-fn stored_typed<T: PhysicalPType>(
-    parts: &PackedData,
-    extent: BlockExtent,
-    i: usize,
-    work: &mut Work,
-) -> PValue
-    requires typed { parts.now.ptype ≡ T.PTYPE }
-    requires range { i < parts.now.len }
-    requires block { IsBlockIn parts.now extent }
-    ensures value { integer_of result ≡ stored_in_block parts.now extent i }
-    ensures typed { ptype_of_value result ≡ T.PTYPE }
-    ensures few { work.new.words ≤ work.old.words + 2 }
-    ensures blocks { work.new.blocks ≡ work.old.blocks }
-{
-    parts.stored_as::<T>(extent, i, work).into_pvalue()
-}
-
-/// The integer of item `i` as its bits are stored.
-fn stored_of(parts: &PackedData, extent: BlockExtent, i: usize, work: &mut Work) -> PValue
-    requires range { i < parts.now.len }
-    requires block { IsBlockIn parts.now extent }
-    ensures value { integer_of result ≡ stored_in_block parts.now extent i }
-    ensures typed { ptype_of_value result ≡ parts.now.ptype }
-    ensures few { work.new.words ≤ work.old.words + 2 }
-    ensures blocks { work.new.blocks ≡ work.old.blocks }
-{
-    match_each_integer_ptype!(parts.ptype, stored_typed(parts, extent, i, work))
-}
-
 #[inline(always)]
-fn value_typed<T: PhysicalPType>(
-    parts: &PackedData,
+fn item_typed<T: PhysicalPType>(
+    reader: &mut PackedReader,
     extent: BlockExtent,
-    i: usize,
-    work: &mut Work,
+    index: usize,
 ) -> PValue
-    requires typed { parts.now.ptype ≡ T.PTYPE }
-    requires range { i < parts.now.len }
-    requires block { IsBlockIn parts.now extent }
-    ensures value { integer_of result ≡ unwrap_or (patched_in parts.now.patches i) (stored_in_block parts.now extent i) }
+    requires width { extent.width ≤ bits_of_type T.PTYPE }
+    requires room { extent.start + 128 * extent.width ≤ length reader.old.bytes }
+    requires index { index < 1024 }
+    ensures value { integer_of result ≡ block_item T.PTYPE extent.width (bytes_at extent reader.old.bytes) index }
     ensures typed { ptype_of_value result ≡ T.PTYPE }
-    ensures few { work.new.words ≤ work.old.words + 2 }
-    ensures blocks { work.new.blocks ≡ work.old.blocks }
+    ensures few { AreFewWords 2 reader.old reader.new }
 {
-    parts.value_as::<T>(extent, i, work).into_pvalue()
+    reader.item::<T>(extent, index).into_pvalue()
 }
 
-/// The integer of item `i`: its patch, if there is one, else what is stored. It is read under a null too.
+/// The integer of this type at `index` of a block, as its bits are stored.
 #[inline(always)]
-fn value_of(parts: &PackedData, extent: BlockExtent, i: usize, work: &mut Work) -> PValue
-    requires range { i < parts.now.len }
-    requires block { IsBlockIn parts.now extent }
-    ensures value { integer_of result ≡ unwrap_or (patched_in parts.now.patches i) (stored_in_block parts.now extent i) }
-    ensures typed { ptype_of_value result ≡ parts.now.ptype }
-    ensures few { work.new.words ≤ work.old.words + 2 }
-    ensures blocks { work.new.blocks ≡ work.old.blocks }
+fn item_of(reader: &mut PackedReader, ptype: PType, extent: BlockExtent, index: usize) -> PValue
+    requires width { extent.width ≤ bits_of_type ptype }
+    requires room { extent.start + 128 * extent.width ≤ length reader.old.bytes }
+    requires index { index < 1024 }
+    ensures value { integer_of result ≡ block_item ptype extent.width (bytes_at extent reader.old.bytes) index }
+    ensures typed { ptype_of_value result ≡ ptype }
+    ensures few { AreFewWords 2 reader.old reader.new }
 {
-    match_each_integer_ptype!(parts.ptype, value_typed(parts, extent, i, work))
+    match_each_integer_ptype!(ptype, item_typed(reader, extent, index))
 }
 
 impl PackedData {
@@ -133,7 +103,7 @@ impl PackedData {
         if !self.validity.is_valid(i, self.len) {
             return Scalar::null(self.dtype());
         }
-        let value = value_of(self, extent, i, work);
+        let value = self.value(extent, i, work);
         Scalar::primitive(value, self.validity.nullability())
     }
 
@@ -161,8 +131,50 @@ impl PackedData {
         ensures few { work.new.words ≤ work.old.words + 2 }
         ensures blocks { work.new.blocks ≡ work.old.blocks }
     {
-        let value = stored_of(self, extent, i, work);
+        let value = self.stored_value(extent, i, work);
         Scalar::primitive(value, self.validity.nullability())
+    }
+
+    /// The integer of item `i` as its bits are stored.
+    #[inline(always)]
+    fn stored_value(&self, extent: BlockExtent, i: usize, work: &mut Work) -> PValue
+        requires range { i < self.now.len }
+        requires block { IsBlockIn self.now extent }
+        ensures value { integer_of result ≡ stored_in_block self.now extent i }
+        ensures typed { ptype_of_value result ≡ self.now.ptype }
+        ensures few { work.new.words ≤ work.old.words + 2 }
+        ensures blocks { work.new.blocks ≡ work.old.blocks }
+    {
+        let index = (self.offset + i) % FL_CHUNK_SIZE;
+        let mut reader = PackedReader::over(self.packed.as_slice(), work);
+        let value = item_of(&mut reader, self.ptype, extent, index);
+        *work = reader.finish();
+        value
+    }
+
+    /// The patch of item `i`, if there is one.
+    #[inline(always)]
+    fn patch(&self, i: usize) -> Option<PValue>
+        ensures value { option_map integer_of result ≡ patched_in self.now.patches i }
+        ensures typed { IfSome result (λ v. ptype_of_value v ≡ self.now.ptype) }
+    {
+        self.patches.as_ref()?.get_patched(i)
+    }
+
+    /// The integer of item `i`: its patch, if there is one, else what is stored. It is read under a null too.
+    #[inline(always)]
+    fn value(&self, extent: BlockExtent, i: usize, work: &mut Work) -> PValue
+        requires range { i < self.now.len }
+        requires block { IsBlockIn self.now extent }
+        ensures value { integer_of result ≡ unwrap_or (patched_in self.now.patches i) (stored_in_block self.now extent i) }
+        ensures typed { ptype_of_value result ≡ self.now.ptype }
+        ensures few { work.new.words ≤ work.old.words + 2 }
+        ensures blocks { work.new.blocks ≡ work.old.blocks }
+    {
+        match self.patch(i) {
+            Some(value) => value,
+            None => self.stored_value(extent, i, work),
+        }
     }
 
     /// The patch of item `i`, if there is one.
@@ -187,8 +199,10 @@ impl PackedData {
         ensures few { work.new.words ≤ work.old.words + 2 }
         ensures blocks { work.new.blocks ≡ work.old.blocks }
     {
-        let block = block_at(self.packed.as_slice(), extent.start, extent.width);
-        unpack_block_item(extent.width, block, (self.offset + i) % FL_CHUNK_SIZE, work)
+        let mut reader = PackedReader::over(self.packed.as_slice(), work);
+        let item = reader.item(extent, (self.offset + i) % FL_CHUNK_SIZE);
+        *work = reader.finish();
+        item
     }
 
     /// Item `i` in its type: its patch, if there is one, else what is stored. It is read under a null too.

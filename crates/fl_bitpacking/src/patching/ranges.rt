@@ -41,7 +41,7 @@ fn count_from<I: NativePType>(indices: &[I], start: usize, limit: u128) -> usize
 }
 
 /// How many patches are before the item at `from`.
-fn count_before<I: NativePType>(patches: &Patches, from: usize) -> usize
+pub(crate) fn count_before<I: NativePType>(patches: &Patches, from: usize) -> usize
     requires { patches.now.indices.ptype ≡ I.PTYPE }
     ensures { result ≡ patches_before from patches.now }
 {
@@ -68,7 +68,7 @@ pub(crate) fn count_typed<I: NativePType>(
 }
 
 /// The elements from `start` to below `end`.
-fn part_of<T: NativePType>(items: &[T], start: usize, end: usize) -> &[T]
+pub(crate) fn part_of<T: NativePType>(items: &[T], start: usize, end: usize) -> &[T]
     requires order { start ≤ end }
     requires within { end ≤ length items.now }
     ensures { result.now ≡ between start end items.now }

@@ -6,6 +6,7 @@ ghost use Rattle.fl_types.specs.Integers.{bits_of_type};
 use crate::bit_packed::{BitCount, BitPacked};
 use crate::bitpack_decompress::block_decoding::AsStored;
 use crate::blocks::PackedBlocks;
+use crate::packed_reader::PackedReader;
 use crate::unpack_iter::bit_unpack_iterator::BitUnpackIterator;
 use crate::unpack_iter::cut_blocks::{
     end_of_whole_blocks, first_whole_block, lends_first, lends_last, unpack_at,
@@ -192,13 +193,14 @@ impl<'a, T: BitPacked> BitUnpackedChunks<'a, T> {
     {
         let blocks = PackedBlocks {
             widths: Widths::Global(self.bit_width),
-            packed: self.packed,
             offset: self.offset,
             len: self.len,
         };
         let decoder = AsStored {
             strategy: &BitPackingStrategy,
         };
-        blocks.decode_into(&decoder, output, self.scratch, &mut self.work);
+        let mut reader = PackedReader::over(self.packed, &mut self.work);
+        blocks.decode_into(&decoder, output, self.scratch, &mut reader);
+        self.work = reader.finish();
     }
 }

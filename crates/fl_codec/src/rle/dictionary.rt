@@ -3,6 +3,7 @@
 
 mod distinct;
 mod filled;
+mod marks;
 pub mod places;
 
 ghost use Rattle.std.specs.Prelude.{◌≡◌, ◌+◌, ◌*◌, ◌<◌, ◌≤◌, [], OnOk, Ok, length, map};
@@ -14,7 +15,7 @@ ghost use Rattle.fl_codec.specs.Dictionaries.{dictionaries_to, dictionary_indice
 
 use crate::chunks::chunk_count;
 use crate::plain::{non_nullable, with_validity};
-use crate::rle::dictionary::distinct::{CACHE_SIZE, distinct_of, write_ranks};
+use crate::rle::dictionary::distinct::{HINT_COUNT, distinct_of, write_ranks};
 use crate::rle::dictionary::filled::fill_items;
 use crate::rle::{Runs, padded_validity};
 use fastlanes::{FL_CHUNK_SIZE, FastLanes};
@@ -40,7 +41,7 @@ fn push_chunk<T: PhysicalPType>(
     array: &PrimitiveArray,
     k: usize,
     items: &[T; FL_CHUNK_SIZE],
-    cache: &mut [T; CACHE_SIZE],
+    hints: &mut [u16; HINT_COUNT],
     parts: &mut Parts<T>,
 ) -> Result<(), AllocError>
     requires items { map T.value items.now ≡ items_in_chunk (fill_forward Reset (items_of_primitive array.now)) k }
@@ -52,8 +53,8 @@ fn push_chunk<T: PhysicalPType>(
 {
     let mut ranks = [0u16; FL_CHUNK_SIZE];
     parts.dictionary.clear();
-    distinct_of(items, cache, &mut parts.dictionary)?;
-    write_ranks(items, parts.dictionary.as_slice(), cache, &mut ranks);
+    distinct_of(items, hints, &mut parts.dictionary)?;
+    write_ranks(items, parts.dictionary.as_slice(), hints, &mut ranks);
     parts.values.extend_from_slice(parts.dictionary.as_slice())?;
     parts.indices.extend_from_slice(&ranks[..])
 }
@@ -62,7 +63,6 @@ fn push_chunk<T: PhysicalPType>(
 fn push_chunks<T: PhysicalPType>(
     array: &PrimitiveArray,
     items: &mut [T; FL_CHUNK_SIZE],
-    cache: &mut [T; CACHE_SIZE],
     parts: &mut Parts<T>,
 ) -> Result<(), AllocError>
     requires same { array.now.ptype ≡ T.PTYPE }
@@ -74,20 +74,20 @@ fn push_chunks<T: PhysicalPType>(
     ensures offsets { OnOk result (parts.new.offsets.items ≡ dictionary_offsets_to (items_of_primitive array.now) (chunks_of (length array.now.slots))) }
 {
     let mut block = [T::Physical::zero(); FL_CHUNK_SIZE];
+    let mut hints = [0u16; HINT_COUNT];
     for k in 0..chunk_count(array.len()) {
         parts.offsets.push(parts.values.len() as u64)?;
         fill_items::<T>(array, k, &mut block, items);
-        push_chunk(array, k, items, cache, parts)?;
+        push_chunk(array, k, items, &mut hints, parts)?;
     }
     Ok(())
 }
 
-/// The dictionaries of a column of one type, by way of the items of a chunk and a cache of items.
+/// The dictionaries of a column of one type, by way of the items of a chunk.
 fn encode_typed<T: PhysicalPType>(
     alloc: Global,
     array: &PrimitiveArray,
     items: &mut [T; FL_CHUNK_SIZE],
-    cache: &mut [T; CACHE_SIZE],
 ) -> Result<Runs, FastLanesError>
     requires { array.now.ptype ≡ T.PTYPE }
     ensures { Answers run_parts result (Ok (encode_dictionaries array.now)) }
@@ -99,7 +99,7 @@ fn encode_typed<T: PhysicalPType>(
         indices: Vec::with_capacity(alloc, chunks.saturating_mul(FL_CHUNK_SIZE))?,
         offsets: Vec::with_capacity(alloc, chunks)?,
     };
-    push_chunks(array, items, cache, &mut parts)?;
+    push_chunks(array, items, &mut parts)?;
     let Parts {
         values,
         indices,
@@ -127,6 +127,6 @@ pub fn encode(alloc: Global, array: &PrimitiveArray) -> Result<Runs, FastLanesEr
 {
     match_each_integer_ptype!(
         array.ptype(),
-        encode_typed(alloc, array, &mut [0; FL_CHUNK_SIZE], &mut [0; CACHE_SIZE])
+        encode_typed(alloc, array, &mut [0; FL_CHUNK_SIZE])
     )
 }

@@ -1,4 +1,4 @@
-//! Takes that read each item by itself, for a few items of a long array that would else be decoded whole.
+//! Takes that read each item by itself, for a few items of a long array that would else be read by blocks.
 
 ghost use Rattle.std.specs.Prelude.{◌≡◌, ◌&&◌, ◌||◌, ◌++◌, ◌∷◌, [], IfErr, IsTrue, Ok, OnOk, Some, is_none, is_some, length, not, option_map};
 ghost use Rattle.std.specs.List.{list_all};

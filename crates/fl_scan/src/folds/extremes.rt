@@ -72,4 +72,11 @@ impl<T: NativePType> Fold<T> for Extremes<T> {
         }
         Ok(())
     }
+
+    fn stand_in(items: &[T], word: u64) -> Option<T> {
+        if word == 0 {
+            return None;
+        }
+        Some(items[word.trailing_zeros() as usize])
+    }
 }

@@ -105,4 +105,8 @@ impl<T: NativePType, P: ItemTest<T>> Fold<T> for Gather<T, P> {
     fn add_repeated(&mut self, item: T, times: usize) -> Result<(), FastLanesError> {
         repeat_passing(&mut self.items, item, times, self.test)
     }
+
+    fn stand_in(_items: &[T], _word: u64) -> Option<T> {
+        None
+    }
 }

@@ -8,12 +8,12 @@ ghost use Rattle.fl_array.specs.Trees.{column};
 ghost use Rattle.fl_column.specs.Operations.{ranges_column, slice_column};
 ghost use Rattle.flcol_container.specs.ContainerReading.{dtype_of_byte};
 ghost use Rattle.flcol_c.specs.Bitmaps.{short_fault};
-ghost use Rattle.flcol_c.specs.Compressing.{IsCompressionOf};
+ghost use Rattle.flcol_c.specs.Compressing.{IsCompressionBy, IsCompressionOf, limits_of};
 ghost use Rattle.flcol_c.specs.Held.{HoldsFrom, IsKept, IsStatusOn};
 ghost use Rattle.flcol_c.specs.Operations.{AreTaken, IsCast, IsFilteredBy, IsTaken, cast_fault, filter_fault, mask_fault, pairs_of, take_fault, type_fault};
-ghost use Rattle.flcol_c.specs.Statuses.{refusal_in};
+ghost use Rattle.flcol_c.specs.Statuses.{fault_in, refusal_in};
 
-use crate::compressing::compress;
+use crate::compressing::{compress, compress_within};
 use crate::fault::Fault;
 use crate::handle::ArrayHandle;
 use crate::kept::keep;
@@ -156,4 +156,25 @@ pub extern "C" fn flcol_compress(
         return Fault::NoArray.status();
     };
     keep(out, alloc, compress(alloc, source))
+}
+
+/// Makes the array of the same column that takes the fewest bytes of the candidate schemes that use no encodings but those
+/// whose bits are set, and nest at most so many in one another; of several the first.
+#[unsafe(no_mangle)]
+pub extern "C" fn flcol_compress_within(
+    alloc: Global,
+    array: &mut ArrayHandle,
+    encodings: u8,
+    depth: u8,
+    out: &mut ArrayHandle,
+) -> i32
+    ensures kept { IsKept array.old array.new }
+    ensures status { IsStatusOn (λ t. fault_in (limits_of encodings depth)) (λ t. refusal_in (integer_column (column t))) array.old.tree result }
+    ensures made { result ≡ pos 0 → HoldsFrom (IsCompressionBy encodings depth) array.old.tree out.new.tree }
+    ensures unmade { result ≢ pos 0 → out.new ≡ out.old }
+{
+    let Some(source) = array.array() else {
+        return Fault::NoArray.status();
+    };
+    keep(out, alloc, compress_within(alloc, source, encodings, depth))
 }

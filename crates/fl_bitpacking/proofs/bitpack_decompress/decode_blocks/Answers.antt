@@ -1,14 +1,13 @@
-use Rattle.std.proofs.Common.{◌≡◌, ◌+◌, ◌-◌, ◌∙◌, length, arith, inl, inr}
+use Rattle.std.proofs.Common.{◌≡◌, ◌+◌, ◌-◌, ◌∙◌, length, refl, arith, inl, inr}
 use Rattle.std.proofs.lemmas.Bool.{cases_lt}
+use Rattle.fl_bitpacking.proofs.Readings.{bytes_kept, read_after}
 use Rattle.fl_bitpacking.proofs.bitpack_decompress.decode_blocks.Goals as goal
 
 pub loop-j-preserved : goal.loop-j-preserved
 loop-j-preserved g c =
     let items = c.loop-j.items.items in
-    let counted = c.loop-j.invariant.blocks in
-    let read = c.loop-j.invariant.words in
-    let counts = c.in_ok-start.ensures.blocks in
-    let reads = c.in_ok-start.ensures.words in
+    let j = c.loop-j.j in
+    let kept_bytes = bytes_kept c.args.reader.now c.loop-j.reader j c.loop-j.invariant.counted in
     record {
       start = c.in_ok-start.ensures.next;
       long = c.in_ok-start.ensures.long;
@@ -16,8 +15,7 @@ loop-j-preserved g c =
         | inl before ↦ c.in_ok-start.ensures.before i before ∙ c.loop-j.invariant.done i before
         | inr after ↦
             let place : length items + (i - length items) ≡ i = omega arith in
-            rw (← place) (c.in_ok-start.ensures.part (i - length items) (rw place h))
+            rw (← place) (rw kept_bytes at (c.in_ok-start.ensures.part (i - length items) (rw place h)))
       ];
-      blocks = omega arith;
-      words = omega arith;
+      counted = read_after c.args.reader.now c.loop-j.reader c.push_block.new.reader j 1 (j + 1) c.loop-j.invariant.counted c.in_ok-start.ensures.counted refl;
     }

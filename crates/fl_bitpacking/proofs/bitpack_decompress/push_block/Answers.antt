@@ -19,7 +19,7 @@ returns-clause-part g c i h =
     let new = c.decode_block.new.items in
     let blocks = blocks_of c.args.blocks.widths in
     let offset = c.args.blocks.offset in
-    let item = λ (p : ℕ). item_of_blocks g.T.NativePType.PTYPE blocks c.args.blocks.packed.now p in
+    let item = λ (p : ℕ). item_of_blocks g.T.NativePType.PTYPE blocks c.args.reader.now.bytes p in
     let from : c.places-from.result.0 ≡ old.len = c.places-from.ensures.from ∙ (sym c.requires.begun ∙ sym old.ok.0) in
     let order : old.len ≤ c.places-from.result.1 = let below = c.places-from.ensures.order in omega arith in
     let grown = vec_grown c.resize.new.self.len c.places-from.result.1 c.places-from.result.0 old.len c.zero.result old.items c.deref_mut.result.now new _ _ old.ok.0 from order c.in_ok-resize.ensures.len (c.deref_mut.ensures.value ∙ c.in_ok-resize.ensures.items) c.decode_block.auto.items in
@@ -27,7 +27,7 @@ returns-clause-part g c i h =
     let sum = length-append old.items new in
     let kept = c.decode_block.auto.items in
     ap (λ xs. value_at g.T.Number.value xs (length old.items + i)) grown ∙ (value_added g.T.Number.value old.items new i ∙ (c.decode_block.ensures.items i (omega arith)
-    ∙ (item_plus_none g.T.NativePType.PTYPE blocks c.args.blocks.packed.now _ ∙ ap (λ (n : ℕ). item (offset + (n + i))) (sym c.requires.begun))))
+    ∙ (item_plus_none g.T.NativePType.PTYPE blocks c.args.reader.now.bytes _ ∙ ap (λ (n : ℕ). item (offset + (n + i))) (sym c.requires.begun))))
 
 pub returns-clause-long : goal.returns-clause-long
 returns-clause-long g c =

@@ -17,5 +17,5 @@ returns-clause-column g c =
     let typed = sym c.requires.typed in
     let valid = ok_same _ _ c.in_ok-validity.ensures in
     column_made value parts blocks items c.new.result c.requires.fit (c.with_values-items.ensures.long ∙ long)
-    (λ i h. c.with_values-items.ensures.items i (omega arith) ∙ ap (λ z. unwrap_or (patched_in parts.patches i) z) (c.in_ok-values.ensures.items i h ∙ ap (λ t. item_of_blocks t blocks parts.packed (parts.offset + i)) typed))
+    (λ i h. c.with_values-items.ensures.items i (omega arith) ∙ ap (λ z. unwrap_or (patched_in parts.patches i) z) ((rw c.over-reader.ensures at (c.in_ok-values.ensures.items i h)) ∙ ap (λ t. item_of_blocks t blocks parts.packed (parts.offset + i)) typed))
     (c.new.ensures ∙ (ap (λ t. new_primitive t (map value items) c.in_ok-validity.validity) typed ∙ ap (λ v. new_primitive parts.ptype (map value items) v) valid))

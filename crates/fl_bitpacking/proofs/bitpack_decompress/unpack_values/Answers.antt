@@ -7,4 +7,4 @@ pub returns-in_ok-items-in-Global-clause-items : goal.returns-in_ok-items-in-Glo
 returns-in_ok-items-in-Global-clause-items g c i h =
     let place = (c.args.blocks.offset + i) / 1024 in
     let none : (blocks_of c.args.blocks.widths).width place ≡ 0 = ap (λ w. (blocks_of w).width place) c.in-Global.is ∙ c.if-width-eq0.true in
-    c.in_ok-items-in-Global.ensures.items i h ∙ item_of_none g.T.NativePType.PTYPE (blocks_of c.args.blocks.widths) c.args.blocks.packed.now (c.args.blocks.offset + i) none
+    c.in_ok-items-in-Global.ensures.items i h ∙ item_of_none g.T.NativePType.PTYPE (blocks_of c.args.blocks.widths) c.args.reader.now.bytes (c.args.blocks.offset + i) none

@@ -5,13 +5,15 @@ ghost use Rattle.fl_types.specs.Integers.{bits_of_type};
 ghost use Rattle.fl_patches.specs.Widths.{Names};
 ghost use Rattle.fl_bitpacking.specs.Blocks.{blocks_of};
 ghost use Rattle.fl_bitpacking.specs.Parts.{AreReadable};
+ghost use Rattle.fl_bitpacking.specs.Readings.{AreFewWords, more_blocks};
 ghost use Rattle.fl_bitpacking.specs.Taken.{AreBelow, AreTaken, HasStarts, IsRun, unpack_threshold};
 
 use crate::bit_packed::BitPacked;
-use crate::bitpack_decompress::unpack_block_item;
-use crate::blocks::{PackedBlocks, block_at};
+use crate::blocks::PackedBlocks;
+use crate::packed_data::BlockExtent;
+use crate::packed_reader::PackedReader;
 use crate::patching::write_at;
-use fastlanes::{FL_CHUNK_SIZE, Work};
+use fastlanes::FL_CHUNK_SIZE;
 use fl_column::PhysicalPType;
 use fl_patches::Widths;
 use std::alloc::{AllocError, Global};
@@ -65,38 +67,42 @@ pub(crate) fn block_start(widths: Widths, j: usize) -> usize
     }
 }
 
-/// Consecutive positions that lie in one block, and the bytes and the width of the block.
+/// Consecutive positions that lie in one block.
 #[derive(Clone, Copy)]
-struct Run<'a> {
+struct Run {
     /// The index of the first one in the list of positions.
     from: usize,
     /// The index after the last one.
     to: usize,
-    /// The width of the block.
-    width: usize,
-    /// The bytes of the block.
-    block: &'a [u8],
+    /// Where the block lies.
+    extent: BlockExtent,
 }
 
 /// The run that begins at `from`, of blocks whose items have this many bits.
 #[inline(always)]
-fn run_from<'a>(blocks: PackedBlocks<'a>, positions: &[usize], from: usize, bits: usize) -> Run<'a>
-    requires readable { AreReadable bits blocks }
+fn run_from(
+    blocks: PackedBlocks,
+    positions: &[usize],
+    from: usize,
+    bits: usize,
+    reader: &PackedReader,
+) -> Run
+    requires readable { AreReadable bits reader.now.bytes blocks }
     requires starts { HasStarts blocks.widths }
     requires below { AreBelow blocks.len positions.now }
     requires some { from < length positions.now }
-    ensures run { IsRun bits blocks.entry positions.now result }
+    ensures run { IsRun bits reader.now.bytes blocks.entry positions.now result }
     ensures first { result.from ≡ from }
 {
     let j = (blocks.offset + positions[from]) / FL_CHUNK_SIZE;
     let width = blocks.widths.of_block(j);
-    let _size = blocks.packed.len();
+    // For the proof: the block ends below 2 ^ 64.
+    let _size = reader.size();
     let start = block_start(blocks.widths, j);
     Run {
         from,
         to: run_end(blocks.offset, positions, from),
-        width,
-        block: block_at(blocks.packed, start, width),
+        extent: BlockExtent { start, width },
     }
 }
 
@@ -107,18 +113,17 @@ fn pick_run<T: BitPacked>(
     positions: &[usize],
     items: &mut [T],
     scratch: &mut [T; FL_CHUNK_SIZE],
-    work: &mut Work,
+    reader: &mut PackedReader,
 )
-    requires run { IsRun (bits_of_type T.PTYPE) blocks positions.now run }
+    requires run { IsRun (bits_of_type T.PTYPE) reader.old.bytes blocks positions.now run }
     requires below { AreBelow blocks.len positions.now }
     requires few { blocks.offset + blocks.len < 2 ^ 64 }
     requires long { length items.old ≡ length positions.now }
-    requires begun { AreTaken T.value T.PTYPE blocks positions.now run.from items.old }
-    ensures taken { AreTaken T.value T.PTYPE blocks.entry positions.now run.entry.to items.new }
-    ensures blocks { work.new.blocks ≤ work.old.blocks + 1 }
-    ensures words { work.new.words ≡ work.old.words }
+    requires begun { AreTaken T.value T.PTYPE reader.old.bytes blocks positions.now run.from items.old }
+    ensures taken { AreTaken T.value T.PTYPE reader.old.bytes blocks.entry positions.now run.to items.new }
+    ensures counted { reader.new ≡ more_blocks 1 reader.old }
 {
-    T::unpack_block(run.width, run.block, scratch, work);
+    reader.unpack_block(run.extent, scratch);
     for k in run.from..run.to {
         write_at(
             items,
@@ -135,24 +140,19 @@ fn read_run<T: PhysicalPType>(
     run: Run,
     positions: &[usize],
     items: &mut [T],
-    work: &mut Work,
+    reader: &mut PackedReader,
 )
-    requires run { IsRun (bits_of_type T.PTYPE) blocks positions.now run }
+    requires run { IsRun (bits_of_type T.PTYPE) reader.old.bytes blocks positions.now run }
     requires below { AreBelow blocks.len positions.now }
     requires few { blocks.offset + blocks.len < 2 ^ 64 }
     requires long { length items.old ≡ length positions.now }
-    requires begun { AreTaken T.value T.PTYPE blocks positions.now run.from items.old }
-    ensures taken { AreTaken T.value T.PTYPE blocks.entry positions.now run.entry.to items.new }
-    ensures blocks { work.new.blocks ≡ work.old.blocks }
-    ensures words { work.new.words + 2 * run.entry.from ≤ work.old.words + 2 * run.entry.to }
+    requires begun { AreTaken T.value T.PTYPE reader.old.bytes blocks positions.now run.from items.old }
+    ensures taken { AreTaken T.value T.PTYPE reader.old.bytes blocks.entry positions.now run.to items.new }
+    ensures few { AreFewWords (2 * (run.to - run.from)) reader.old reader.new }
 {
     for k in run.from..run.to {
         let index = (blocks.offset + positions[k]) % FL_CHUNK_SIZE;
-        write_at(
-            items,
-            k,
-            unpack_block_item(run.width, run.block, index, work),
-        );
+        write_at(items, k, reader.item(run.extent, index));
     }
 }
 
@@ -163,26 +163,27 @@ fn take_run<T: BitPacked + PhysicalPType>(
     from: usize,
     items: &mut [T],
     scratch: &mut [T; FL_CHUNK_SIZE],
-    work: &mut Work,
+    reader: &mut PackedReader,
 ) -> usize
-    requires readable { AreReadable (bits_of_type T.PTYPE) blocks }
+    requires readable { AreReadable (bits_of_type T.PTYPE) reader.old.bytes blocks }
     requires starts { HasStarts blocks.widths }
     requires below { AreBelow blocks.len positions.now }
     requires long { length items.old ≡ length positions.now }
     requires more { from < length positions.now }
-    requires begun { AreTaken T.value T.PTYPE blocks positions.now from items.old }
-    ensures taken { AreTaken T.value T.PTYPE blocks.entry positions.now result items.new }
+    requires begun { AreTaken T.value T.PTYPE reader.old.bytes blocks positions.now from items.old }
+    ensures taken { AreTaken T.value T.PTYPE reader.old.bytes blocks.entry positions.now result items.new }
     ensures later { from < result }
     ensures within { result ≤ length positions.now }
-    ensures blocks { 17 * work.new.blocks + from ≤ 17 * work.old.blocks + result }
-    ensures words { work.new.words + 2 * from ≤ work.old.words + 2 * result }
+    ensures bytes { reader.new.bytes ≡ reader.old.bytes }
+    ensures blocks { 17 * reader.new.blocks + from ≤ 17 * reader.old.blocks + result }
+    ensures words { reader.new.words + 2 * from ≤ reader.old.words + 2 * result }
 {
     let bits = T::PTYPE.bit_width();
-    let run = run_from(blocks, positions, from, bits);
+    let run = run_from(blocks, positions, from, bits, reader);
     if run.to - run.from > unpack_threshold(bits) {
-        pick_run(blocks, run, positions, items, scratch, work);
+        pick_run(blocks, run, positions, items, scratch, reader);
     } else {
-        read_run(blocks, run, positions, items, work);
+        read_run(blocks, run, positions, items, reader);
     }
     run.to
 }
@@ -193,22 +194,23 @@ pub(crate) fn take_stored<T: BitPacked + PhysicalPType>(
     alloc: Global,
     blocks: PackedBlocks,
     positions: &[usize],
-    work: &mut Work,
+    reader: &mut PackedReader,
 ) -> Result<Vec<T>, AllocError>
-    requires readable { AreReadable (bits_of_type T.PTYPE) blocks }
+    requires readable { AreReadable (bits_of_type T.PTYPE) reader.old.bytes blocks }
     requires starts { HasStarts blocks.widths }
     requires below { AreBelow blocks.len positions.now }
     ensures long { IfOk result (λ v. length v.items ≡ length positions.now) }
-    ensures taken { IfOk result (λ v. AreTaken T.value T.PTYPE blocks.entry positions.now (length positions.now) v.items) }
-    ensures blocks { 17 * work.new.blocks ≤ 17 * work.old.blocks + length positions.now }
-    ensures words { work.new.words ≤ work.old.words + 2 * length positions.now }
+    ensures taken { IfOk result (λ v. AreTaken T.value T.PTYPE reader.old.bytes blocks.entry positions.now (length positions.now) v.items) }
+    ensures bytes { reader.new.bytes ≡ reader.old.bytes }
+    ensures blocks { 17 * reader.new.blocks ≤ 17 * reader.old.blocks + length positions.now }
+    ensures words { reader.new.words ≤ reader.old.words + 2 * length positions.now }
 {
     let mut items = Vec::new(alloc);
     items.resize(positions.len(), T::zero())?;
     let mut scratch = [T::zero(); FL_CHUNK_SIZE];
     let mut from = 0;
     while from < positions.len() {
-        from = take_run(blocks, positions, from, &mut items, &mut scratch, work);
+        from = take_run(blocks, positions, from, &mut items, &mut scratch, reader);
     }
     Ok(items)
 }

@@ -1,5 +1,5 @@
-use Rattle.std.proofs.Common.{◌≡◌, ◌+◌, ◌-◌, ◌<◌, ◌≤◌, ◌∙◌, ap, arith, length, length-take, sym, ℕ}
-use Rattle.fl_scan.specs.Bounds.{block_start, is_below_at}
+use Rattle.std.proofs.Common.{◌≡◌, ◌+◌, ◌-◌, ◌∙◌, ap, arith, length, length-take, sym, ℕ}
+use Rattle.fl_scan.specs.Bounds.{is_below_at}
 use Rattle.fl_scan.proofs.bounds.below_in_block.Goals as goal
 
 pub returns : goal.returns

@@ -1,4 +1,4 @@
-use Rattle.std.proofs.Common.{◌≡◌, ◌+◌, ◌<◌, ◌∙◌, None, arith, get_or, length, sym}
+use Rattle.std.proofs.Common.{◌+◌, ◌∙◌, None, arith, get_or, sym}
 use Rattle.fl_bitpacking.proofs.Natives.{value_at_read}
 use Rattle.fl_scan.proofs.BoundLaws.{valid_below}
 use Rattle.fl_scan.proofs.bounds.is_item_below.Goals as goal

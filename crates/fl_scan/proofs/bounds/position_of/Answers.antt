@@ -1,4 +1,4 @@
-use Rattle.std.proofs.Common.{◌≡◌, ◌+◌, ◌-◌, ◌<◌, ◌≤◌, ◌∙◌, ap, arith, length, min, ℕ}
+use Rattle.std.proofs.Common.{◌≡◌, ◌+◌, ◌-◌, ◌∙◌, ap, arith, length, min, ℕ}
 use Rattle.fl_scan.specs.Bounds.{block_end, block_start, is_below_at}
 use Rattle.fl_scan.proofs.BoundLaws.{bound_in_block}
 use Rattle.fl_scan.proofs.bounds.position_of.Goals as goal

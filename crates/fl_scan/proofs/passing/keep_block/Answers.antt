@@ -1,7 +1,6 @@
 use Rattle.std.proofs.Common.{◌≡◌, ◌+◌, ◌-◌, ◌∙◌, length, length-take, arith, sym}
-use Rattle.std.proofs.Math.Path.{subst}
 use Rattle.fl_scan.specs.Blocks.{items_before}
-use Rattle.fl_scan.proofs.PassingLaws.{IsKept, passing_read, passing_unread}
+use Rattle.fl_scan.proofs.PassingLaws.{passing_read, passing_unread}
 use Rattle.fl_scan.proofs.passing.keep_block.Goals as goal
 
 pub returns-then-count_between-eq0-clause-passing : goal.returns-then-count_between-eq0-clause-passing

@@ -1,4 +1,4 @@
-use Rattle.std.proofs.Common.{◌≡◌, ◌+◌, ◌<◌, ◌≤◌, ◌∙◌, ap, arith, false, length, sym, true}
+use Rattle.std.proofs.Common.{◌+◌, ◌∙◌, ap, arith, sym}
 use Rattle.std.proofs.Math.Path.{subst}
 use Rattle.fl_scan.proofs.PassingLaws.{IsKept, kept_cleared, kept_none, kept_passed}
 use Rattle.fl_scan.proofs.StepLaws.{mapped_item}

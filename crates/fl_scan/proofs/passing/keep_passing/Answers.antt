@@ -1,4 +1,4 @@
-use Rattle.std.proofs.Common.{◌≡◌, ◌+◌, ◌-◌, ◌∙◌, ℕ, length, arith}
+use Rattle.std.proofs.Common.{◌≡◌, ◌∙◌, ℕ, length, arith}
 use Rattle.std.proofs.Math.Path.{subst}
 use Rattle.fl_scan.specs.Blocks.{items_before}
 use Rattle.fl_scan.specs.Selections.{ArePassing}

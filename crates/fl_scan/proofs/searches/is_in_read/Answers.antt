@@ -1,4 +1,4 @@
-use Rattle.std.proofs.Common.{◌≡◌, IsTrue, Ok, length, map, sym}
+use Rattle.std.proofs.Common.{IsTrue, Ok, map, sym}
 use Rattle.std.proofs.Math.Path.{subst}
 use Rattle.fl_types.specs.Refusals.{Answers}
 use Rattle.fl_types.specs.Types.{has_ptype}

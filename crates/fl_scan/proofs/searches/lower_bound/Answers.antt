@@ -1,4 +1,4 @@
-use Rattle.std.proofs.Common.{◌≡◌, ◌∙◌, IsTrue, ap, sym}
+use Rattle.std.proofs.Common.{◌∙◌, IsTrue, sym}
 use Rattle.std.proofs.Math.Path.{subst}
 use Rattle.fl_column.specs.Columns.{Column}
 use Rattle.fl_column.specs.Queries.{are_sorted}

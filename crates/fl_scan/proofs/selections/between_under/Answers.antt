@@ -1,13 +1,9 @@
-use Rattle.std.proofs.Common.{◌≡◌, ◌∙◌, ℤ, Ok, arith, length, sym, true}
-use Rattle.std.proofs.Math.Path.{subst}
-use Rattle.fl_types.specs.declared.mask.Mask.TheVariants.{Values}
-use Rattle.fl_types.specs.Masks.{mask_bits, mask_len}
-use Rattle.fl_types.specs.Refusals.{Answers}
+use Rattle.std.proofs.Common.{◌≡◌, ◌∙◌, arith, length, sym, true}
+use Rattle.fl_types.specs.Masks.{mask_len}
 use Rattle.fl_types.specs.Types.{is_integer}
 use Rattle.fl_types.specs.Values.{integer_of}
 use Rattle.fl_column.specs.Queries.{is_between}
 use Rattle.fl_array.specs.Trees.{column}
-use Rattle.fl_scan.specs.Selections.{passed_under, under_mask}
 use Rattle.fl_scan.proofs.PassingLaws.{answered}
 use Rattle.fl_scan.proofs.SearchLaws.{integers_held}
 use Rattle.fl_scan.proofs.SourceLaws.{read_is}

@@ -1,6 +1,6 @@
-use Rattle.std.proofs.Common.{◌≡◌, ◌∙◌, ℤ, IsTrue, arith, length, sym, true}
+use Rattle.std.proofs.Common.{◌≡◌, ◌∙◌, ℕ, ℤ, IsTrue, ap, arith, length, sym, true}
 use Rattle.std.proofs.Math.Path.{subst}
-use Rattle.std.specs.Prelude.{count_by}
+use Rattle.std.specs.Prelude.{Ok, count_by}
 use Rattle.fl_types.specs.Masks.{mask_len}
 use Rattle.fl_types.specs.Types.{has_ptype, is_integer}
 use Rattle.fl_types.specs.declared.dtype.DType.{DType}
@@ -29,5 +29,5 @@ returns c =
     let m = c.args.mask.now in
     let long : mask_len m ≡ length col.items = omega arith in
     let typed : is_integer col.dtype ≡ true = integers_held col.dtype c.in-Primitive.ptype c.in-Primitive.field-1 (sym c.dtype.ensures ∙ c.in-Primitive.is) in
-    subst (λ (z : ℤ). Answers (λ n. n) c.count_typed.result (of_kept m col (count_of (holds c.args.operator z)))) c.integer_for-value.ensures.value
-    (answered_under (λ n. n) (count_by (holds c.args.operator (integer_of c.integer_for-value.result))) m col s c.count_typed.result long typed c.in_ok-source.ensures.items c.count_typed.ensures)
+    subst (λ (z : ℤ). Answers (λ n. n) (Ok c.count_typed.result) (of_kept m col (count_of (holds c.args.operator z)))) c.integer_for-value.ensures.value
+    (answered_under (λ n. n) (count_by (holds c.args.operator (integer_of c.integer_for-value.result))) m col s (Ok c.count_typed.result) long typed c.in_ok-source.ensures.items (ap (λ (n : ℕ). Ok n) (sym c.count_typed.ensures)))

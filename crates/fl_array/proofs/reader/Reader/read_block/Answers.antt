@@ -1,4 +1,4 @@
-use Rattle.std.proofs.Common.{◌≡◌, ◌+◌, ◌-◌, ◌%◌, drop, length, length-drop, length-take, take, arith}
+use Rattle.std.proofs.Common.{◌+◌, ◌-◌, ◌%◌, drop, length-drop, length-take, arith}
 use Rattle.fl_array.proofs.BlockTests.{placed}
 use Rattle.fl_array.proofs.reader.Reader.read_block.Goals as goal
 

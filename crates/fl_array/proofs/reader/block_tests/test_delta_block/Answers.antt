@@ -1,4 +1,4 @@
-use Rattle.std.proofs.Common.{◌≡◌, ◌+◌, ◌-◌, ◌*◌, ◌≤◌, ◌∙◌, drop, length, length-drop, length-take, refl, rules, arith}
+use Rattle.std.proofs.Common.{◌≡◌, ◌+◌, ◌-◌, ◌*◌, ◌∙◌, drop, length, length-drop, length-take, refl, rules, arith}
 use Rattle.fl_types.specs.Integers.{lanes_of_type}
 use Rattle.fl_codec.proofs.DeltaLaws.{lanes_is}
 use Rattle.fl_bitpacking.specs.RangeTests.{passes}

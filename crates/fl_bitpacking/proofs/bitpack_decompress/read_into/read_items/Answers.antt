@@ -19,4 +19,4 @@ returns-clause-items g c =
     (λ i h. (let place : parts.offset + start + i ≡ parts.offset + (start + i) = omega arith in
     c.write_patches_from.ensures i (omega arith)
     ∙ (ap (λ (p : ℕ). unwrap_or (option_map (item (p / 1024)) (patched_in parts.patches (start + i))) (value_at value c.read_into.new.items i)) place
-    ∙ ap (λ z. unwrap_or (option_map (item ((parts.offset + (start + i)) / 1024)) (patched_in parts.patches (start + i))) z) (c.read_into.ensures.items i h ∙ stored_by_type item g.T.NativePType.PTYPE parts blocks (start + i) c.requires.typed))))
+    ∙ ap (λ z. unwrap_or (option_map (item ((parts.offset + (start + i)) / 1024)) (patched_in parts.patches (start + i))) z) ((rw c.over-reader.ensures at (c.read_into.ensures.items i h)) ∙ stored_by_type item g.T.NativePType.PTYPE parts blocks (start + i) c.requires.typed))))

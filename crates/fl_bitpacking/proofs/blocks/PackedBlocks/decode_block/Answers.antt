@@ -1,4 +1,4 @@
-use Rattle.std.proofs.Common.{◌+◌, ◌-◌, ◌*◌, ◌∙◌, sym, arith, rules}
+use Rattle.std.proofs.Common.{◌+◌, ◌-◌, ◌*◌, ◌∙◌, refl, sym, arith, rules}
 use Rattle.fl_bitpacking.specs.Blocks.{blocks_of}
 use Rattle.fl_bitpacking.proofs.Bounds.{width_named}
 use Rattle.fl_bitpacking.proofs.BlockSums.{decoded_read}
@@ -7,13 +7,6 @@ use Rattle.fl_bitpacking.proofs.blocks.PackedBlocks.decode_block.Goals as goal
 pub of_block-width-requires : goal.of_block-width-requires
 of_block-width-requires g c = c.requires.readable.names c.args.j c.requires.block
 
-pub block_at-block-requires : goal.block_at-block-requires
-block_at-block-requires g c =
-    let room = c.requires.readable.within.room c.args.j c.requires.block in
-    let start = c.requires.start in
-    let width = c.of_block-width.ensures ∙ sym (width_named c.args.self.widths c.args.j (c.requires.readable.names c.args.j c.requires.block)) in
-    omega arith
-
 pub decode_part-requires : goal.decode_part-requires
 decode_part-requires g c =
     let narrow = c.requires.readable.within.narrow c.args.j c.requires.block in
@@ -21,7 +14,9 @@ decode_part-requires g c =
     let inside = c.requires.readable.offset in
     let room = c.requires.room in
     let low = c.saturating_sub-low.ensures in
-    (search rules, (omega arith, (c.block_at-block.ensures.long, omega arith)))
+    let within = c.requires.readable.within.room c.args.j c.requires.block in
+    let start = c.requires.start in
+    (search rules, (omega arith, (omega arith, omega arith)))
 
 pub returns-clause-items : goal.returns-clause-items
 returns-clause-items g c i h =
@@ -31,12 +26,27 @@ returns-clause-items g c i h =
     let room = c.requires.room in
     let low = c.saturating_sub-low.ensures in
     let width = c.of_block-width.ensures ∙ sym (width_named c.args.self.widths c.args.j (c.requires.readable.names c.args.j c.requires.block)) in
-    decoded_read (g.D.BlockDecoder.item c.args.decoder.now) g.T.NativePType.PTYPE blocks c.args.self.packed.now c.block_at-block.result.now c.args.j c.args.start c.of_block-width.result (c.saturating_sub-low.result + i) (offset + (1024 * c.args.j - offset + i)) _ c.requires.start width c.block_at-block.ensures.bytes (omega arith) (omega arith) (c.decode_part.ensures.items i h)
+    decoded_read (g.D.BlockDecoder.item c.args.decoder.now) g.T.NativePType.PTYPE blocks c.args.reader.now.bytes _ c.args.j c.args.start c.of_block-width.result (c.saturating_sub-low.result + i) (offset + (1024 * c.args.j - offset + i)) _ c.requires.start width refl (omega arith) (omega arith) (c.decode_part.ensures.items i h)
 
 pub returns-clause-next : goal.returns-clause-next
 returns-clause-next g c =
     let next = c.requires.readable.joined.next c.args.j c.requires.block in
     let start = c.requires.start in
     let width = c.of_block-width.ensures ∙ sym (width_named c.args.self.widths c.args.j (c.requires.readable.names c.args.j c.requires.block)) in
-    let long = c.block_at-block.ensures.long in
+    omega arith
+
+pub overflow_mul-result : goal.overflow_mul-result
+overflow_mul-result g c =
+    let room = c.requires.readable.within.room c.args.j c.requires.block in
+    let start = c.requires.start in
+    let size = c.size-size.ensures in
+    let width = c.of_block-width.ensures ∙ sym (width_named c.args.self.widths c.args.j (c.requires.readable.names c.args.j c.requires.block)) in
+    omega arith
+
+pub overflow_add-result : goal.overflow_add-result
+overflow_add-result g c =
+    let room = c.requires.readable.within.room c.args.j c.requires.block in
+    let start = c.requires.start in
+    let size = c.size-size.ensures in
+    let width = c.of_block-width.ensures ∙ sym (width_named c.args.self.widths c.args.j (c.requires.readable.names c.args.j c.requires.block)) in
     omega arith

@@ -1,6 +1,7 @@
-use Rattle.std.proofs.Common.{◌≡◌, ◌<◌, ◌+◌, ◌-◌, ◌*◌, ℕ, length, take, drop, sym, arith, length-take, length-drop}
+use Rattle.std.proofs.Common.{◌≡◌, ◌<◌, ◌+◌, ◌-◌, ◌*◌, ℕ, length, take, drop, refl, sym, arith, length-take, length-drop}
 use Rattle.fl_bitpacking.specs.Blocks.{blocks_of, value_at}
 use Rattle.fl_bitpacking.specs.BlockSums.{decoded_item}
+use Rattle.fl_bitpacking.proofs.Readings.{bytes_kept, read_after}
 use Rattle.fl_bitpacking.proofs.Slices.{part_written}
 use Rattle.fl_bitpacking.proofs.blocks.PackedBlocks.decode_into.Goals as goal
 
@@ -8,7 +9,7 @@ pub loop-j-preserved : goal.loop-j-preserved
 loop-j-preserved g c =
     let ptype = g.T.NativePType.PTYPE in
     let blocks = blocks_of c.args.self.widths in
-    let packed = c.args.self.packed.now in
+    let packed = c.args.reader.now.bytes in
     let offset = c.args.self.offset in
     let item = g.D.BlockDecoder.item c.args.decoder.now in
     let items = c.loop-j.items in
@@ -29,15 +30,11 @@ loop-j-preserved g c =
     let size : length (take (to - from) (drop from items)) ≡ to - from = omega arith in
     let written : length new ≡ to - from = let same = c.decode_block-start.auto.items in omega arith in
     let inside = c.requires.readable.offset in
-    let counted = c.loop-j.invariant.blocks in
-    let read = c.loop-j.invariant.words in
-    let counts = c.decode_block-start.ensures.blocks in
-    let reads = c.decode_block-start.ensures.words in
-    let at : (k : ℕ) → k < to - from → value_at g.T.Number.value new k ≡ decoded_item item ptype blocks packed (offset + (from + k)) = λ k below. (let place : 1024 * j - offset ≡ from = sym from_is in rw (← place) (c.decode_block-start.ensures.items k (omega arith))) in
+    let kept_bytes = bytes_kept c.args.reader.now c.loop-j.reader j c.loop-j.invariant.counted in
+    let at : (k : ℕ) → k < to - from → value_at g.T.Number.value new k ≡ decoded_item item ptype blocks packed (offset + (from + k)) = λ k below. (let place : 1024 * j - offset ≡ from = sym from_is in rw (← place) (rw kept_bytes at (c.decode_block-start.ensures.items k (omega arith)))) in
     record {
       start = c.decode_block-start.ensures.next;
       done = λ i h. part_written g.T.Number.value (λ k. decoded_item item ptype blocks packed (offset + k)) items new _ from to i (omega arith) written
           (λ k below. c.loop-j.invariant.done k (omega arith)) at (omega arith);
-      blocks = omega arith;
-      words = omega arith;
+      counted = read_after c.args.reader.now c.loop-j.reader c.decode_block-start.new.reader j 1 (j + 1) c.loop-j.invariant.counted c.decode_block-start.ensures.counted refl;
     }

@@ -1,4 +1,4 @@
-use Rattle.std.proofs.Common.{◌≡◌, ℕ, ◌+◌, ◌≤◌, ◌∙◌, Option, Bor, cond, eqb, min, ap, refl, subst, arith, rules}
+use Rattle.std.proofs.Common.{◌≡◌, ◌+◌, ◌∙◌, Option, Bor, cond, eqb, min, ap, refl, arith, rules}
 use Rattle.std.specs.Option.{option_copied}
 use Rattle.fl_patches.proofs.Parts.{ok_same}
 use Rattle.fl_patches.specs.declared.widths.Widths.{Widths}
@@ -12,6 +12,7 @@ use Rattle.fl_bitpacking.specs.Columns.{block_count}
 use Rattle.fl_bitpacking.specs.Decided.{undecided_below, undecided_by_block}
 use Rattle.fl_bitpacking.specs.Parts.{parts_of}
 use Rattle.fl_bitpacking.specs.RangeTests.{passes}
+use Rattle.fl_bitpacking.specs.Readings.{Reading}
 use Rattle.fl_bitpacking.specs.References.{of_sum_if_some}
 use Rattle.fl_bitpacking.specs.Compared.{passes_in}
 use Rattle.fl_bitpacking.proofs.BlockTestLaws.{item_answered, tests_are, undecided_is}
@@ -19,8 +20,8 @@ use Rattle.fl_bitpacking.proofs.ComparedLaws.{column_tested}
 use Rattle.fl_bitpacking.proofs.ReadWidths.{readable}
 use Rattle.fl_bitpacking.proofs.compute.compare.test_column.Goals as goal
 
-pub test_items-requires-clause-readable : goal.test_items-requires-clause-readable
-test_items-requires-clause-readable c = rw c.new-test.ensures.typed (readable c.args.column.now c.args.widths c.requires.fit c.requires.widths)
+pub test_items-stored-requires-clause-readable : goal.test_items-stored-requires-clause-readable
+test_items-stored-requires-clause-readable c = rw (c.over-reader.ensures, c.new-test.ensures.typed) (readable c.args.column.now c.args.widths c.requires.fit c.requires.widths)
 
 pub returns-clause-column : goal.returns-clause-column
 returns-clause-column c =
@@ -32,7 +33,7 @@ returns-clause-column c =
     let valid = ok_same _ _ c.in_ok-validity.ensures in
     let long = c.in_ok-stored.ensures.long in
     column_tested (passes c.args.range) references parts blocks c.with_patches-bits.result c.new.result c.requires.fit (c.with_patches-bits.ensures.long ∙ long)
-    (λ i h. item_answered tests (of_sum_if_some parts.ptype references (passes c.args.range)) parts blocks _ _ i c.new-test.ensures.typed same (c.with_patches-bits.ensures.bits i (omega arith)) (c.in_ok-stored.ensures.bits i h))
+    (λ i h. item_answered tests (of_sum_if_some parts.ptype references (passes c.args.range)) parts blocks _ _ i c.new-test.ensures.typed same (c.with_patches-bits.ensures.bits i (omega arith)) (rw c.over-reader.ensures at (c.in_ok-stored.ensures.bits i h)))
     (c.new.ensures ∙ ap (λ v. new_bools c.with_patches-bits.result v) valid)
 
 count : (range : RangeTest) (column : PackedColumn) (widths : Widths) (references : Option (Bor PrimitiveParts)) (test : PackedTest) → test.ptype ≡ column.ptype → test.range ≡ range
@@ -44,18 +45,33 @@ count range column widths references test typed same =
 
 pub returns-in_err-stored-clause-most : goal.returns-in_err-stored-clause-most
 returns-in_err-stored-clause-most c =
-    subst (λ (n : ℕ). c.test_items.new.work.blocks ≤ c.args.work.now.blocks + n) (count c.args.range c.args.column.now c.args.widths c.args.references c.new-test.result c.new-test.ensures.typed c.new-test.ensures.range) c.test_items.ensures.most
+    let begun = ap (λ (r : Reading). r.blocks) c.over-reader.ensures in
+    let read = c.test_items-stored.ensures.most.blocks in
+    let ended = c.finish.ensures.blocks in
+    let all = count c.args.range c.args.column.now c.args.widths c.args.references c.new-test.result c.new-test.ensures.typed c.new-test.ensures.range in
+    omega arith
 
 pub returns-in_err-validity-clause-most : goal.returns-in_err-validity-clause-most
 returns-in_err-validity-clause-most c =
-    subst (λ (n : ℕ). c.test_items.new.work.blocks ≤ c.args.work.now.blocks + n) (count c.args.range c.args.column.now c.args.widths c.args.references c.new-test.result c.new-test.ensures.typed c.new-test.ensures.range) c.test_items.ensures.most
+    let begun = ap (λ (r : Reading). r.blocks) c.over-reader.ensures in
+    let read = c.test_items-stored.ensures.most.blocks in
+    let ended = c.finish.ensures.blocks in
+    let all = count c.args.range c.args.column.now c.args.widths c.args.references c.new-test.result c.new-test.ensures.typed c.new-test.ensures.range in
+    omega arith
 
 pub returns-clause-most : goal.returns-clause-most
 returns-clause-most c =
-    subst (λ (n : ℕ). c.test_items.new.work.blocks ≤ c.args.work.now.blocks + n) (count c.args.range c.args.column.now c.args.widths c.args.references c.new-test.result c.new-test.ensures.typed c.new-test.ensures.range) c.test_items.ensures.most
+    let begun = ap (λ (r : Reading). r.blocks) c.over-reader.ensures in
+    let read = c.test_items-stored.ensures.most.blocks in
+    let ended = c.finish.ensures.blocks in
+    let all = count c.args.range c.args.column.now c.args.widths c.args.references c.new-test.result c.new-test.ensures.typed c.new-test.ensures.range in
+    omega arith
 
 pub returns-clause-blocks : goal.returns-clause-blocks
 returns-clause-blocks c =
-    let counted : c.test_items.new.work.blocks ≡ min (c.args.work.now.blocks + undecided_by_block (parts_of c.args.column.now) (blocks_of c.args.widths) (of_sum_if_some c.args.column.now.ptype (option_copied c.args.references) (passes c.args.range))) 18446744073709551615 =
-    subst (λ (n : ℕ). c.test_items.new.work.blocks ≡ min (c.args.work.now.blocks + n) 18446744073709551615) (count c.args.range c.args.column.now c.args.widths c.args.references c.new-test.result c.new-test.ensures.typed c.new-test.ensures.range) c.in_ok-stored.ensures.blocks in
+    let begun = ap (λ (r : Reading). r.blocks) c.over-reader.ensures in
+    let read = ap (λ (r : Reading). r.blocks) c.in_ok-stored.ensures.counted in
+    let ended = c.finish.ensures.blocks in
+    let all = count c.args.range c.args.column.now c.args.widths c.args.references c.new-test.result c.new-test.ensures.typed c.new-test.ensures.range in
+    let counted : c.finish.result.blocks ≡ min (c.args.work.now.blocks + undecided_by_block (parts_of c.args.column.now) (blocks_of c.args.widths) (of_sum_if_some c.args.column.now.ptype (option_copied c.args.references) (passes c.args.range))) 18446744073709551615 = omega arith in
     search rules

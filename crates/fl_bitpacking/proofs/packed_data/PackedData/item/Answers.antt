@@ -23,4 +23,4 @@ returns-clause-item c blocks h =
     let typed = ap (λ (q : BitPackedParts). nullability_of q.validity) c.self.view_is in
     let nulls = c.nullability.ensures in
     let nullability : c.nullability.result ≡ nullability_of p.validity = cc in
-    rw (c.primitive.ensures, c.value_of-value.ensures.typed, c.value_of-value.ensures.value, nullability) (valid_scalar p blocks c.args.i c.args.extent c.requires.range valid h)
+    rw (c.primitive.ensures, c.value-value.ensures.typed, c.value-value.ensures.value, nullability) (valid_scalar p blocks c.args.i c.args.extent c.requires.range valid h)

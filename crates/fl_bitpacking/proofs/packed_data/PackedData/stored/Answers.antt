@@ -10,4 +10,4 @@ returns-clause-item c blocks h =
     let typed = ap (λ (q : BitPackedParts). nullability_of q.validity) c.self.view_is in
     let nulls = c.nullability.ensures in
     let nullability : c.nullability.result ≡ nullability_of p.validity = cc in
-    rw (c.primitive.ensures, c.stored_of-value.ensures.typed, c.stored_of-value.ensures.value, nullability, stored_there p blocks c.args.i c.args.extent h) refl
+    rw (c.primitive.ensures, c.stored_value-value.ensures.typed, c.stored_value-value.ensures.value, nullability, stored_there p blocks c.args.i c.args.extent h) refl

@@ -29,7 +29,7 @@ write_ranks-requires g c =
     let same : length (map value c.as_slice.result.now) ≡ length (chunk_dictionary item c.args.k) = ap length made in
     let few = distinct_few (items_in_chunk item c.args.k) in
     let all = items_long item c.args.k in
-    (search rules, (search rules, (subst (λ xs. AllPairs (λ x y. x <ℤ y) xs) (sym made) (distinct_rises (items_in_chunk item c.args.k)), omega arith)))
+    (search rules, (subst (λ xs. AllPairs (λ x y. x <ℤ y) xs) (sym made) (distinct_rises (items_in_chunk item c.args.k)), omega arith))
 
 pub returns-clause-values : goal.returns-clause-values
 returns-clause-values g c =

@@ -1,4 +1,4 @@
-use Rattle.std.proofs.Common.{◌≡◌, ◌∙◌, ◌≤◌, ap, arith, length, map, sym, take}
+use Rattle.std.proofs.Common.{◌∙◌, ap, arith, map, sym}
 use Rattle.std.proofs.lemmas.List.{length-map, take_all}
 use Rattle.fl_scan.specs.Membership.{is_one_of}
 use Rattle.fl_scan.proofs.MembershipLaws.{none_more, one_found}

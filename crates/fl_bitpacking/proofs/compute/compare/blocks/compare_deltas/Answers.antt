@@ -1,6 +1,6 @@
-use Rattle.std.proofs.Common.{◌≡◌, ◌<◌, ◌^◌, ℕ, pos, get_or, map, rules}
+use Rattle.std.proofs.Common.{◌≡◌, ◌<◌, ◌^◌, pos, get_or, map, rules}
 use Rattle.fastlanes.specs.Compared.{IsAnswer, has_bit}
-use Rattle.fl_types.specs.Integers.{bits_of_type, pattern_of}
+use Rattle.fl_types.specs.Integers.{pattern_of}
 use Rattle.fl_codec.specs.Deltas.{block_integer}
 use Rattle.fl_codec.proofs.Congruence.{pattern_small}
 use Rattle.fl_bitpacking.specs.RangeTests.{in_range}

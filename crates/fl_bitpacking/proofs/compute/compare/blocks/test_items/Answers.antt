@@ -1,4 +1,4 @@
-use Rattle.std.proofs.Common.{◌≡◌, ◌+◌, ◌*◌, ◌/◌, ◌%◌, ◌∙◌, ℕ, pos, get_or, map, ap, inl, inr, arith, length-set, rules}
+use Rattle.std.proofs.Common.{◌*◌, ◌∙◌, map, inl, inr, arith, length-set, rules}
 use Rattle.std.proofs.lemmas.Bool.{cases_lt}
 use Rattle.fl_bitpacking.specs.RangeTests.{passes}
 use Rattle.fl_bitpacking.proofs.BlockAnswers.{bit_answered}

@@ -1,6 +1,7 @@
 use Rattle.std.proofs.Common.{◌≡◌, ℕ, ◌+◌, ◌-◌, ◌*◌, ◌%◌, ◌∙◌, true, false, length, drop, get_or, refl, ap, sym, arith, length-take, length-drop}
 use Rattle.fl_types.specs.Bits.{bit_of_word}
 use Rattle.fl_bitpacking.specs.Blocks.{blocks_of, bytes_of_block, item_of_blocks}
+use Rattle.fl_bitpacking.specs.Readings.{bytes_at}
 use Rattle.fl_bitpacking.proofs.Bounds.{width_named}
 use Rattle.fl_bitpacking.proofs.FilteredLaws.{bit_below, item_in, part_read}
 use Rattle.fl_bitpacking.proofs.TakenLaws.{block_bytes}
@@ -9,17 +10,18 @@ use Rattle.fl_bitpacking.proofs.compute.filter.Filtering.read_items.Goals as goa
 pub of_block-width-requires : goal.of_block-width-requires
 of_block-width-requires g c = c.requires.readable.names c.args.j c.requires.block
 
-pub block_at-block-requires : goal.block_at-block-requires
-block_at-block-requires g c =
+pub read_set-requires-clause-room : goal.read_set-requires-clause-room
+read_set-requires-clause-room g c =
     let room = c.requires.readable.within.room c.args.j c.requires.block in
     let start = c.requires.start in
-    let width = c.of_block-width.ensures ∙ sym (width_named c.args.self.widths c.args.j (c.requires.readable.names c.args.j c.requires.block)) in
+    let size = ap length c.loop-k.invariant.read.bytes in
+    let width = c.of_block-width.ensures ∙ sym (width_named c.args.self.blocks.widths c.args.j (c.requires.readable.names c.args.j c.requires.block)) in
     omega arith
 
 pub read_set-requires-clause-width : goal.read_set-requires-clause-width
 read_set-requires-clause-width g c =
     let narrow = c.requires.readable.within.narrow c.args.j c.requires.block in
-    let width = c.of_block-width.ensures ∙ sym (width_named c.args.self.widths c.args.j (c.requires.readable.names c.args.j c.requires.block)) in
+    let width = c.of_block-width.ensures ∙ sym (width_named c.args.self.blocks.widths c.args.j (c.requires.readable.names c.args.j c.requires.block)) in
     omega arith
 
 pub read_set-requires-clause-within : goal.read_set-requires-clause-within
@@ -48,9 +50,9 @@ loop-k-preserved g c =
     let value = g.T.Number.value in
     let ptype = g.T.NativePType.PTYPE in
     let f = c.args.self in
-    let blocks = blocks_of f.widths in
-    let packed = f.column.packed.now in
-    let offset = f.column.offset in
+    let blocks = blocks_of f.blocks.widths in
+    let packed = c.args.reader.now.bytes in
+    let offset = f.blocks.offset in
     let from = c.args.from in
     let items = c.loop-k.items in
     let new = c.read_set.new.items in
@@ -66,8 +68,13 @@ loop-k-preserved g c =
     let rest = length-drop at items in
     let same = c.read_set.auto.items in
     let written : length new ≡ at + count - at = omega arith in
-    let width : c.of_block-width.result ≡ blocks.width c.args.j = c.of_block-width.ensures ∙ sym (width_named f.widths c.args.j (c.requires.readable.names c.args.j c.requires.block)) in
-    let bytes : c.block_at-block.result.now ≡ bytes_of_block blocks packed c.args.j = block_bytes blocks packed c.block_at-block.result.now c.args.j c.args.start c.of_block-width.result c.requires.start width c.block_at-block.ensures.bytes in
+    let width : c.of_block-width.result ≡ blocks.width c.args.j = c.of_block-width.ensures ∙ sym (width_named f.blocks.widths c.args.j (c.requires.readable.names c.args.j c.requires.block)) in
+    let block = bytes_at (record { start = c.args.start; width = c.of_block-width.result }) packed in
+    let bytes : block ≡ bytes_of_block blocks packed c.args.j = block_bytes blocks packed block c.args.j c.args.start c.of_block-width.result c.requires.start width refl in
+    let before = c.loop-k.invariant.read in
+    let more_read = c.read_set.ensures.read in
+    let read_before = before.blocks in
+    let read_here = more_read.blocks in
     record {
       done = λ i h set. part_read value (λ (k : ℕ). item_of_blocks ptype blocks packed (offset + (from + k))) (λ (k : ℕ). get_or f.bits.now (from + k) false) items new _ at (at + count) (omega arith) written
           (λ k below on. c.loop-k.invariant.done k (omega arith) on)
@@ -75,9 +82,12 @@ loop-k-preserved g c =
           let place : from + at + j ≡ from + (at + j) = omega arith in
           let bit : bit_of_word c.word_from-word.result j ≡ true = c.word_from-word.ensures.bits j (omega arith) ∙ ap (λ (m : ℕ). get_or f.bits.now m false) place ∙ on in
           let end : offset + from + at + j ≡ offset + (from + (at + j)) = omega arith in
-          c.read_set.ensures.items j bit ∙ item_in ptype blocks packed c.block_at-block.result.now c.of_block-width.result c.args.j ((offset + from + at) % 1024) (offset + from + at) j width bytes refl (omega arith) (omega arith)
+          (rw before.bytes at (c.read_set.ensures.items j bit)) ∙ item_in ptype blocks packed block c.of_block-width.result c.args.j ((offset + from + at) % 1024) (offset + from + at) j width bytes refl (omega arith) (omega arith)
           ∙ ap (λ (p : ℕ). item_of_blocks ptype blocks packed p) end) i (omega arith) set;
-      blocks = c.read_set.ensures.blocks ∙ c.loop-k.invariant.blocks;
+      read = record {
+        bytes = more_read.bytes ∙ before.bytes;
+        blocks = omega arith;
+      };
     }
 
 pub returns-clause-items : goal.returns-clause-items

@@ -5,6 +5,6 @@ use Rattle.fl_bitpacking.proofs.compute.take.runs.pick_run.Given as goal
 -- the items so far
 abbrev pub invariant-loop-k : goal.invariant-loop-k
 invariant-loop-k g l = record {
-  taken : AreTaken g.T.Number.value g.T.NativePType.PTYPE l.blocks l.positions l.k l.items;
+  taken : AreTaken g.T.Number.value g.T.NativePType.PTYPE l.initial.reader.bytes l.blocks l.positions l.k l.items;
   long : length l.items ≡ length l.positions;
 }

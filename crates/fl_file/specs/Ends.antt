@@ -1,0 +1,16 @@
+-- What reads and writes say of the bytes of a file.
+use Rattle.std.specs.Prelude.{◌≡◌, ◌+◌, ◌≤◌, ℕ, List, length, take, drop, Option}
+use Rattle.std.specs.Io.KnownBytes.{append_known}
+
+-- these bytes stand in others from this place on
+pub record StandsAt (part : List ℕ) (place : ℕ) (bytes : List ℕ) : Type 0 where
+  pub within : place + length part ≤ length bytes
+  pub is : part ≡ take (length part) (drop place bytes)
+
+-- known bytes grow by these; unknown ones stay unknown
+abbrev pub GrowsBy : Option (List ℕ) → Option (List ℕ) → List ℕ → Type 0
+GrowsBy old new bytes = new ≡ append_known old bytes
+
+-- known bytes grow by some beginning of these
+abbrev pub GrowsByFront : Option (List ℕ) → Option (List ℕ) → List ℕ → Type 0
+GrowsByFront old new bytes = (k : ℕ) × GrowsBy old new (take k bytes)

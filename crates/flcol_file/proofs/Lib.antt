@@ -1,0 +1,4 @@
+pub mod ChunkLaws
+pub mod ChunkSteps
+pub mod FileLaws
+pub mod PassingLaws

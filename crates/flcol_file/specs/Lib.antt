@@ -1,0 +1,5 @@
+pub mod Outcomes
+pub mod Chunks
+pub mod Chunked
+pub mod Files
+pub mod FileCounts

@@ -1,0 +1,36 @@
+//! Arrays as chunks of a file.
+
+ghost use Rattle.std.specs.Prelude.{◌≡◌};
+ghost use Rattle.fl_array.specs.Trees.{column};
+ghost use Rattle.fl_column.specs.Columns.{Column};
+ghost use Rattle.flcol_file.specs.Chunks.{GivesChunk, GivesColumn, IsChunkOf};
+
+use crate::error::ColumnFileError;
+use bytes::Bytes;
+use fl_array::ArrayRef;
+use fl_serde::{deserialize, serialize};
+use flcol_container::{read_container, write_container};
+use std::alloc::Global;
+
+/// The bytes of a chunk: the container of an array.
+///
+/// # Errors
+/// `BadContainer` where the array has none, since more than sixteen arrays stand in one another; else only `OutOfMemory`.
+pub fn write_chunk(alloc: Global, array: &ArrayRef) -> Result<Vec<u8>, ColumnFileError>
+    ensures { GivesChunk (λ v. v.items) array.now result }
+{
+    let node = serialize(alloc, array)?;
+    Ok(write_container(alloc, &node)?)
+}
+
+/// The array of a chunk. Its buffers are parts of the chunk's bytes.
+///
+/// # Errors
+/// `BadContainer` where the bytes are no container, else those of the container's array. Of the bytes that `write_chunk` gave
+/// only `OutOfMemory`.
+pub fn read_chunk(alloc: Global, bytes: &Bytes) -> Result<ArrayRef, ColumnFileError>
+    ensures { (c : Column) → IsChunkOf c bytes.now → GivesColumn column c result }
+{
+    let node = read_container(alloc, bytes)?;
+    Ok(deserialize(alloc, &node)?)
+}

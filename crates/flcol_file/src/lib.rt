@@ -1,0 +1,19 @@
+//! Columns in files of chunks: arrays as chunks, their statistics, and what is asked of a column that is kept so.
+#![tactic(auto)]
+
+pub mod chunks;
+pub mod column_chunks;
+pub mod error;
+pub mod files;
+pub mod passing;
+pub mod scans;
+
+pub use crate::chunks::{read_chunk, write_chunk};
+pub use crate::column_chunks::ColumnChunks;
+pub use crate::error::ColumnFileError;
+pub use crate::files::append;
+pub use crate::passing::count_passing;
+pub use crate::scans::{count, len, min_max, null_count, sum};
+
+#[cfg(test)]
+mod tests;
