@@ -1,11 +1,11 @@
 //! Questions of an array that are answered beside a plain column.
 
 use crate::questions::back;
-use array_reader::queries::{constant, options};
 use fl_array::{ArrayRef, IntoArray};
 use fl_column::{BoolArray, PrimitiveArray};
 use fl_ops::ArrayOps;
 use fl_types::{BetweenOptions, DType, FastLanesError};
+use row_reader::arrays::queries::{constant, options};
 use row_reader::asked::Asked;
 use row_reader::columns::dtype_of;
 use row_reader::text::Text;

@@ -1,13 +1,13 @@
 //! Encoded arrays of parts that stand in a row, by the constructors.
 
 use crate::answer_built;
-use array_reader::{Built, building, making};
 use bytes::Bytes;
-use column_rows::patches;
 use fl_column::PrimitiveArray;
 use fl_patches::Patches;
 use fl_types::{FastLanesError, PType, Scalar};
+use row_reader::arrays::{Built, building, making};
 use row_reader::asked::Asked;
+use row_reader::column_rows::patches;
 use row_reader::columns::{count, width_of};
 use row_reader::names::named;
 use row_reader::text::Text;

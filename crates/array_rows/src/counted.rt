@@ -1,12 +1,12 @@
 //! Calls that count what they read of packed bytes.
 
 use crate::questions::column_read;
-use array_reader::queries::{constant, operator, options};
 use fastlanes::Work;
 use fl_array::{ArrayRef, IntoArray};
 use fl_column::BoolArray;
 use fl_ops::ArrayOps;
 use fl_types::FastLanesError;
+use row_reader::arrays::queries::{constant, operator, options};
 use row_reader::asked::Asked;
 use row_reader::shown;
 use row_reader::text::Text;

@@ -20,9 +20,9 @@ mod runs;
 mod scan;
 mod schemes;
 
-use array_reader::{Built, building, operations};
 use fl_array::ArrayRef;
 use fl_ops::{Op, apply_all};
+use row_reader::arrays::{Built, building, operations};
 use row_reader::asked::Asked;
 use row_reader::names::split;
 use row_reader::text::Text;

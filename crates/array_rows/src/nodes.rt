@@ -1,10 +1,10 @@
 //! Serialized arrays: what a node is read as, what an array is written as, and which fault of a node comes first.
 
 use crate::{answer_built, faults};
-use array_reader::nodes::{Written, read, written};
 use fl_array::ArrayRef;
 use fl_serde::deserialize;
 use fl_serialized::SerializedArray;
+use row_reader::arrays::nodes::{Written, read, written};
 use row_reader::asked::Asked;
 use row_reader::names::split;
 use row_reader::nodes as text;

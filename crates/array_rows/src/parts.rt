@@ -1,12 +1,12 @@
 //! What arrays of each kind are made of. Every call that looks into an encoded one stands here.
 
-use array_reader::kinds::inside;
-use column_rows::patches;
 use fl_array::ArrayRef;
 use fl_array::bitpacking::{BitPackedArray, BitPackedArrayExt, BitWidthsView};
 use fl_array::delta::{DeltaArray, DeltaArrayExt};
 use fl_array::for_::{FoRArray, FoRArrayExt, FoRReferences};
 use fl_array::rle::{RLEArray, RLEArrayExt};
+use row_reader::arrays::kinds::inside;
+use row_reader::column_rows::patches;
 use row_reader::shown;
 use row_reader::text::Text;
 use std::alloc::Global;

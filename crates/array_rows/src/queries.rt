@@ -5,10 +5,10 @@ ghost use Rattle.fl_array.specs.Trees.{column};
 ghost use Rattle.fl_ops.specs.Queries.{may_ask};
 
 use crate::{beside, counted};
-use array_reader::queries::{answered, constant, operator, options};
 use fl_array::ArrayRef;
 use fl_ops::{ArrayOps, Query, ask};
 use fl_types::FastLanesError;
+use row_reader::arrays::queries::{answered, constant, operator, options};
 use row_reader::asked::Asked;
 use row_reader::names::named;
 use row_reader::shown::{Show, made};

@@ -1,12 +1,12 @@
 //! Questions to arrays.
 
 use crate::{data, nodes, parts, queries, scan};
-use array_reader::{Built, kinds};
 use fl_array::ArrayRef;
 use fl_array::laws::{item_of_decoded, slice_of_slice};
 use fl_column::PrimitiveArray;
 use fl_serde::laws::round_trip;
 use fl_types::FastLanesError;
+use row_reader::arrays::{Built, kinds};
 use row_reader::asked::Asked;
 use row_reader::columns::count;
 use row_reader::names::named;

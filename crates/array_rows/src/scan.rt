@@ -6,14 +6,14 @@ ghost use Rattle.fl_types.specs.Values.{ptype_of_value, scalar_parts};
 ghost use Rattle.fl_array.specs.Trees.{column};
 ghost use Rattle.fl_scan.specs.Constants.{is_comparable};
 
-use array_reader::queries::{constant, operator, options};
-use column_rows::types;
 use fl_array::ArrayRef;
 use fl_column::{BetweenOptions, CompareOperator, Mask};
 use fl_ops::ArrayOps;
 use fl_scan::Sum;
 use fl_types::{FastLanesError, PValue, Scalar};
+use row_reader::arrays::queries::{constant, operator, options};
 use row_reader::asked::Asked;
+use row_reader::column_rows::types;
 use row_reader::names::named;
 use row_reader::shown::{integer, made};
 use row_reader::text::Text;

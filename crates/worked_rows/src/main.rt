@@ -6,17 +6,16 @@
 
 use fl_column::PrimitiveArray;
 use row_reader::asked::Asked;
-use row_reader::columns;
 use row_reader::rows::{self, Questions};
 use row_reader::text::Text;
+use row_reader::{column_rows, columns};
 use std::alloc::Global;
 use std::io;
 
 /// Answers a question.
 fn ask(asked: Asked, answer: &mut Text) {
     let is_known = array_rows::ask(asked, answer)
-        || program_rows::ask(asked, answer)
-        || memory_rows::ask(asked, answer)
+        || call_rows::ask(asked, answer)
         || column_rows::ask(asked, answer);
     if !is_known {
         answer.word("no such question");
