@@ -1,10 +1,11 @@
 -- Answers for the items of a block.
-use Rattle.std.proofs.Common.{◌≡◌, ◌≢◌, ℕ, ℤ, pos, ◌+◌, ◌*◌, ◌/◌, ◌%◌, ◌<◌, ◌^◌, Bool, true, List, length, get_or, set, Option, Some, None, option_map, unwrap_or, refl, ap, sym, ◌∙◌, inl, inr, arith}
+use Rattle.std.proofs.Common.{◌≡◌, ◌≢◌, ℕ, ℤ, pos, ◌+◌, ◌*◌, ◌/◌, ◌%◌, ◌<◌, ◌^◌, Bool, true, List, length, get_or, set, Option, Some, None, option_map, unwrap_or, IsTrue, refl, ap, sym, ◌∙◌, inl, inr, arith}
+use Rattle.std.proofs.Math.Path.{subst}
 use Rattle.std.proofs.lemmas.Bool.{cases_eq, lt-ltb}
 use Rattle.fastlanes.specs.Compared.{has_bit, is_bit_set}
 use Rattle.fl_types.specs.declared.dtype.PType.{PType}
 use Rattle.fl_types.specs.Bits.{bit_of_word}
-use Rattle.fl_types.specs.Integers.{bits_of_type, pattern_of, read_as}
+use Rattle.fl_types.specs.Integers.{bits_of_type, fits, pattern_of, read_as}
 use Rattle.fl_codec.proofs.Congruence.{pattern_small}
 use Rattle.fl_bitpacking.specs.RangeTests.{answer_of, in_range}
 use Rattle.fl_types.specs.Validities.{is_valid_at}
@@ -29,6 +30,12 @@ bit_answered test zs bits word k i inside at each =
     let low : i % 64 < 64 = omega arith in
     let place : 64 * k + i % 64 ≡ i = omega arith in
     bit_in_word bits k word i inside at ∙ (same_bit word (i % 64) ∙ (each (i % 64) low ∙ ap (λ n. test (get_or zs n (pos 0))) place))
+
+-- an integer of a word's items is one of the type
+pub in_word : (ptype : PType) (zs : List ℤ) (k i : ℕ) → i / 64 ≡ k → ((j : ℕ) → j < 64 → IsTrue (fits ptype (get_or zs (64 * k + j) (pos 0)))) → IsTrue (fits ptype (get_or zs i (pos 0)))
+in_word ptype zs k i at each =
+    let place : 64 * k + i % 64 ≡ i = omega arith in
+    subst (λ (n : ℕ). IsTrue (fits ptype (get_or zs n (pos 0)))) place (each (i % 64) (omega arith))
 
 -- a test of the pattern of an integer of the type is the test of the integer
 pub pattern_tested : (test : ℤ → Bool) (ptype : PType) (T low span : ℕ) (negated : Bool) (z : ℤ) (bit : Bool) → T ≡ bits_of_type ptype → ((p : ℕ) → p < 2 ^ bits_of_type ptype → answer_of negated (in_range (bits_of_type ptype) low span p) ≡ test (read_as ptype p)) → read_as ptype (pattern_of ptype z) ≡ z

@@ -1,9 +1,11 @@
 -- Items that a mask keeps, word by word and block by block.
 use Rattle.std.proofs.Common.{◌≡◌, ℕ, ℤ, Bor, pos, suc, ◌+◌, ◌-◌, ◌<◌, ◌≤◌, ◌++◌, ◌/◌, ◌%◌, ◌==◌, Bool, true, false, cond, nat_lt, bit_and, set, inl, inr, List, [], ◌∷◌, length, map, get_or, take, drop, Option, Some, None, IsTrue, map-id, refl, ap, sym, ◌∙◌, arith, append_assoc, append-nil, length-take, length-drop, ◌^◌, count_ones}
-use Rattle.std.specs.Prelude.{IfSome}
+use Rattle.std.specs.Prelude.{IfSome, OnOk, Result, Ok, Err, is_ok, if◌then◌else◌}
 use Rattle.std.specs.Int.{bit_at}
 use Rattle.std.proofs.lemmas.Bool.{cases_eq, cases_lt, le-ltb, lt-ltb}
 use Rattle.std.proofs.lemmas.List.{drop-drop, get_or-drop, get_or-map, get_or-take, length-map, map-append}
+use Rattle.std.proofs.lemmas.List.FromFn.{get_or-map-range_with_len}
+use Rattle.std.proofs.lemmas.Nat.Bits.{bit_at_ones}
 use Rattle.fl_types.specs.declared.dtype.PType.{PType}
 use Rattle.fl_types.proofs.WordBits.{none_above, ones_of_bits}
 use Rattle.fl_types.specs.Bits.{between, bit_of_word, tabulate, true_count}
@@ -14,8 +16,8 @@ use Rattle.fl_types.specs.Validities.{covers, items_of, nullability_of}
 use Rattle.fl_column.specs.Columns.{PrimitiveParts, column_of_primitive}
 use Rattle.fl_column.specs.Operations.{filter_of, kept}
 use Rattle.fl_column.specs.Selections.{kept_validity}
-use Rattle.fl_types.proofs.KeptLaws.{kept_split, others_left}
-use Rattle.fl_column.proofs.FilterLaws.{kept_agree, kept_few, kept_map, filtered_column, kept_covers}
+use Rattle.fl_types.proofs.KeptLaws.{bit_true, kept_split, others_left}
+use Rattle.fl_column.proofs.FilterLaws.{kept_agree, kept_all, kept_few, kept_map, filtered_column, kept_covers}
 use Rattle.fl_patches.specs.PatchMaps.{PatchesParts}
 use Rattle.fl_bitpacking.specs.Blocks.{Blocks, block_item, blocks_of, bytes_of_block, item_of_blocks, value_at}
 use Rattle.fl_bitpacking.specs.Columns.{column_of_packed, packed_item}
@@ -223,6 +225,16 @@ slots_covered value c widths bits items v fit slots valid =
     let covered : IsTrue (covers c.validity.now (length (slots_in c widths))) = rw (length-slots_in c widths) fit.covers in
     let long : length items ≡ length (kept bits (slots_in c widths)) = sym (length-map items value) ∙ ap length slots in
     rw (valid, long) (kept_covers c.validity.now bits (slots_in c widths) covered)
+
+-- what was appended if there was room
+pub extended : {R E A : Type 0} (r : Result R E) (new old xs ys : List A) → ys ≡ xs → new ≡ (if is_ok r then old ++ xs else old) → OnOk r (new ≡ old ++ ys)
+extended (Ok x) new old xs ys same is = is ∙ ap (λ l. old ++ l) (sym same)
+extended (Err e) new old xs ys same is = tt
+
+-- a full word keeps each item
+pub all_kept : {A : Type 0} (word : ℕ) (xs : List A) → word ≡ 18446744073709551615 → length xs ≤ 64 → kept (tabulate (bit_of_word word) 64) xs ≡ xs
+all_kept word xs is few =
+    kept_all (tabulate (bit_of_word word) 64) xs (λ i h. get_or-map-range_with_len (bit_of_word word) 0 64 i i false (omega arith) (omega arith) ∙ (ap (λ (w : ℕ). bit_of_word w i) is ∙ bit_true 18446744073709551615 i (bit_at_ones 64 i (omega arith))))
 
 -- there is room for the items of a word where there is for its set bits
 pub room_for : {A : Type 0} (word len most : ℕ) (xs : List A) → word < 2 ^ 64 → len + count_ones word ≤ most → len + length (kept (tabulate (bit_of_word word) 64) xs) ≤ most

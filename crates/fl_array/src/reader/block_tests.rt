@@ -107,7 +107,7 @@ impl DirectReader<'_> {
 
 impl Reader<'_> {
     /// Writes the items of block `j` at their positions in it.
-    fn read_block<T: BitPacked + PhysicalPType + WrappingAdd>(
+    fn read_positions<T: BitPacked + PhysicalPType + WrappingAdd>(
         &self,
         j: usize,
         block: &mut [T],
@@ -122,6 +122,20 @@ impl Reader<'_> {
         let low = self.offset().saturating_sub(FL_CHUNK_SIZE * j);
         let items = &mut block[low..low + (to - from)];
         self.read_items(from, items, work);
+    }
+
+    /// Writes the items of block `j` at their positions in it: at the position of a null, and where the block has no item of the
+    /// array, any integer. Nothing is allocated.
+    pub fn read_block<T: BitPacked + PhysicalPType + WrappingAdd>(
+        &self,
+        j: usize,
+        block: &mut [T; FL_CHUNK_SIZE],
+    )
+        requires typed { IsTrue (has_ptype T.PTYPE self.now.column.dtype) }
+        requires block { j < chunk_count (self.now.offset + length self.now.column.items) }
+        ensures { (i : ℕ) → (z : ℤ) → i < length self.now.column.items → (self.now.offset + i) / 1024 ≡ j → slice_index_or self.now.column.items i None ≡ Some z → value_at T.value block.new ((self.now.offset + i) % 1024) ≡ z }
+    {
+        self.read_positions(j, block, &mut Work::new());
     }
 
     /// The answers of a test for the items of block `j`, each item read into a scratch block.
@@ -139,7 +153,7 @@ impl Reader<'_> {
         ensures answers { AreBlockAnswers (passes range) bits.new j self.now.offset self.now.column }
         ensures whole { length bits.new ≡ 16 }
     {
-        self.read_block(j, scratch, work);
+        self.read_positions(j, scratch, work);
         test_items(range, scratch, bits);
     }
 

@@ -36,6 +36,20 @@ fn push_set<T: NativePType>(taken: &mut Vec<T>, items: &[T], word: u64)
     }
 }
 
+/// Appends the items at the set bits of a word: all of them at once where each bit is set.
+fn push_word<T: NativePType>(taken: &mut Vec<T>, items: &[T], word: u64) -> Result<(), AllocError>
+    requires items { (j : ℕ) → bit_of_word word j ≡ true → j < length items.now }
+    requires count { length items.now ≤ 64 }
+    ensures { OnOk result (taken.new.items ≡ taken.old.items ++ kept (tabulate (bit_of_word word) 64) items.now) }
+{
+    if word == u64::MAX {
+        return taken.extend_from_slice(items);
+    }
+    taken.reserve(word.count_ones() as usize)?;
+    push_set(taken, items, word);
+    Ok(())
+}
+
 /// Appends the items whose booleans are true, of which the first is that at `from`.
 pub fn push_kept<T: NativePType>(
     taken: &mut Vec<T>,
@@ -52,8 +66,7 @@ pub fn push_kept<T: NativePType>(
         let at = 64 * k;
         let count = (items.len() - at).min(64);
         let word = bits.word_from(from + at, count);
-        taken.reserve(word.count_ones() as usize)?;
-        push_set(taken, &items[at..at + count], word);
+        push_word(taken, &items[at..at + count], word)?;
     }
     Ok(())
 }

@@ -1,21 +1,18 @@
-use Rattle.std.proofs.Common.{◌*◌, ◌∙◌, map, inl, inr, arith, length-set, rules}
-use Rattle.std.proofs.lemmas.Bool.{cases_lt}
-use Rattle.fl_bitpacking.specs.RangeTests.{passes}
-use Rattle.fl_bitpacking.proofs.BlockAnswers.{bit_answered}
-use Rattle.fl_bitpacking.proofs.ComparedLaws.{bit_out_of_word}
+use Rattle.std.proofs.Common.{pos, get_or, map}
+use Rattle.fl_types.proofs.Patterns.{read_pattern}
+use Rattle.fl_bitpacking.specs.RangeTests.{TestsPatterns, passes}
+use Rattle.fl_bitpacking.proofs.BlockAnswers.{pattern_tested}
 use Rattle.fl_bitpacking.proofs.compute.compare.blocks.test_items.Goals as goal
 
-pub loop-k-preserved : goal.loop-k-preserved
-loop-k-preserved g c =
-    let whole = c.loop-k.invariant.whole in
-    let bits = c.loop-k.bits in
-    let k = c.loop-k.k in
-    let value = g.T.Number.value in
-    let zs = map value c.args.items.now in
-    record {
-      done = λ i h. elim (cases_lt i (64 * k)) [
-        | inl before ↦ bit_out_of_word bits k c.word_of.result i (omega arith) ∙ c.loop-k.invariant.done i before
-        | inr here ↦ bit_answered (passes c.args.range) zs bits c.word_of.result k i (omega arith) (omega arith) (λ j below. let e = c.word_of.ensures j below in search rules)
-      ];
-      whole = rw length-set whole;
-    }
+pub test_patterns-requires : goal.test_patterns-requires
+test_patterns-requires g c =
+    let tests : TestsPatterns g.T.NativePType.PTYPE c.args.range c.on_patterns-test.result = rw c.PTYPE.ensures at c.on_patterns-test.ensures in
+    record { low = rw g.met.T.PhysicalPType.width_law tests.low; span = rw g.met.T.PhysicalPType.width_law tests.span; block = c.requires.block }
+
+pub returns-clause-bits : goal.returns-clause-bits
+returns-clause-bits g c i h =
+    let ptype = g.T.NativePType.PTYPE in
+    let z = get_or (map g.T.Number.value c.args.items.now) i (pos 0) in
+    let tests : TestsPatterns ptype c.args.range c.on_patterns-test.result = rw c.PTYPE.ensures at c.on_patterns-test.ensures in
+    pattern_tested (passes c.args.range) ptype g.T.Physical.FastLanes.T c.on_patterns-test.result.low c.on_patterns-test.result.span c.on_patterns-test.result.negated z _
+    g.met.T.PhysicalPType.width_law tests.same (read_pattern ptype z (c.test_patterns.ensures.fit i h)) (c.test_patterns.ensures.bits i h)

@@ -1,10 +1,10 @@
-use Rattle.std.proofs.Common.{◌≡◌, ◌+◌, ◌-◌, ◌*◌, ◌++◌, ◌∙◌, length, drop, take, min, vec_capacity, vec_len, ap, arith, length-take, length-drop}
+use Rattle.std.proofs.Common.{◌≡◌, ◌+◌, ◌-◌, ◌*◌, ◌++◌, length, drop, min, arith, length-take, length-drop}
 use Rattle.fl_column.specs.Operations.{kept}
-use Rattle.fl_bitpacking.proofs.FilteredLaws.{bit_below, nothing_after, room_for, word_pushed}
+use Rattle.fl_bitpacking.proofs.FilteredLaws.{bit_below, nothing_after, word_pushed}
 use Rattle.fl_bitpacking.proofs.compute.filter.kept_items.push_kept.Goals as goal
 
-pub push_set-requires-clause-items : goal.push_set-requires-clause-items
-push_set-requires-clause-items g c j set =
+pub push_word-requires-clause-items : goal.push_word-requires-clause-items
+push_word-requires-clause-items g c j set =
     let xs = c.args.items.now in
     let at = 64 * c.loop-k.k in
     let inside = bit_below c.word_from-word.result c.min-count.result j c.word_from-word.ensures.clear set in
@@ -12,10 +12,6 @@ push_set-requires-clause-items g c j set =
     let part = length-take c.min-count.result (drop at xs) in
     let rest = length-drop at xs in
     omega arith
-
-pub push_set-requires-clause-room : goal.push_set-requires-clause-room
-push_set-requires-clause-room g c =
-    room_for c.word_from-word.result (vec_len c.reserve.new.self) (vec_capacity c.reserve.new.self) (take (64 * c.loop-k.k + c.min-count.result - 64 * c.loop-k.k) (drop (64 * c.loop-k.k) c.args.items.now)) (omega arith) (omega (arith, c.in_ok-reserve.ensures.ok, c.in_ok-reserve.ensures.len))
 
 pub loop-k-preserved : goal.loop-k-preserved
 loop-k-preserved g c =
@@ -30,8 +26,8 @@ loop-k-preserved g c =
     let now : min (64 * c.loop-k.k) (length xs) ≡ at = omega arith in
     let next : min (64 * (c.loop-k.k + 1)) (length xs) ≡ at + count = omega arith in
     let size : at + count - at ≡ count = omega arith in
-    rw next (word_pushed bits xs c.loop-k.taken.items c.reserve.new.self.items c.push_set.new.taken.items (c.args.taken.now.items ++ kept (drop from bits) xs) from at count c.word_from-word.result (omega arith) (omega arith) c.requires c.word_from-word.ensures.bits
-    (rw size at c.push_set.ensures) (ap (λ l. l ++ kept (drop (from + at) bits) (drop at xs)) c.in_ok-reserve.ensures.items ∙ (rw now at c.loop-k.invariant)))
+    rw next (word_pushed bits xs c.loop-k.taken.items c.loop-k.taken.items c.push_word.new.taken.items (c.args.taken.now.items ++ kept (drop from bits) xs) from at count c.word_from-word.result (omega arith) (omega arith) c.requires c.word_from-word.ensures.bits
+    (rw size at c.in_ok-push_word.ensures) (rw now at c.loop-k.invariant))
 
 pub returns : goal.returns
 returns g c =

@@ -1,6 +1,6 @@
 use Rattle.std.proofs.Common.{◌+◌, ◌-◌, ◌%◌, drop, length-drop, length-take, arith}
 use Rattle.fl_array.proofs.BlockTests.{placed}
-use Rattle.fl_array.proofs.reader.Reader.read_block.Goals as goal
+use Rattle.fl_array.proofs.reader.Reader.read_positions.Goals as goal
 
 pub returns : goal.returns
 returns g c i z inside at e =
