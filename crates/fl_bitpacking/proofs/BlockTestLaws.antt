@@ -1,6 +1,5 @@
 -- The tests of blocks, each with the reference of its block.
-use Rattle.std.proofs.Common.{◌≡◌, ℕ, ℤ, pos, ◌+◌, ◌+ℤ◌, ◌*◌, ◌/◌, ◌<◌, ◌≤◌, Bool, List, cond, eqb, get_or, Option, Some, None, option_map, unwrap_or, ap, sym, ◌∙◌, arith}
-use Rattle.std.specs.Option.{option_copied}
+use Rattle.std.proofs.Common.{◌≡◌, ℕ, ℤ, pos, ◌+◌, ◌+ℤ◌, ◌*◌, ◌/◌, ◌<◌, ◌≤◌, Bool, Bor, List, cond, eqb, get_or, Option, Some, None, option_map, unwrap_or, ap, sym, ◌∙◌, arith}
 use Rattle.fl_types.specs.declared.dtype.PType.{PType}
 use Rattle.fl_types.specs.Integers.{wrap}
 use Rattle.fl_column.specs.Columns.{PrimitiveParts}
@@ -13,29 +12,38 @@ use Rattle.fl_bitpacking.specs.Compared.{AreBlockTests, answer_at, passes_in}
 use Rattle.fl_bitpacking.specs.Decided.{is_decided, undecided_below, undecided_by_block}
 use Rattle.fl_bitpacking.specs.RangeTests.{passes}
 use Rattle.fl_bitpacking.specs.Readings.{Reading, more_blocks}
-use Rattle.fl_bitpacking.specs.References.{AreBlockReferences, of_sum_if_some}
+use Rattle.fl_bitpacking.specs.References.{AreReferencesOf, of_sums}
+use Rattle.fl_bitpacking.specs.declared.references.References.{References}
+use Rattle.fl_bitpacking.specs.declared.references.References.TheVariants as added
+use Rattle.fl_types.specs.declared.scalar.PValue.{PValue}
+use Rattle.fl_types.specs.Values.{integer_of}
 use Rattle.fl_bitpacking.proofs.ComparedLaws.{answer_or}
 use Rattle.fl_bitpacking.proofs.UndecidedLaws.{decided_alike}
 
-references_of_fewer : (ptype : PType) (n k : ℕ) (references : Option PrimitiveParts) → k ≤ n → AreBlockReferences ptype n references → AreBlockReferences ptype k references
-references_of_fewer ptype n k None le are = are
-references_of_fewer ptype n k (Some references) le are = (are.0, let enough = are.1 in omega arith)
+references_of_fewer : (ptype : PType) (n k : ℕ) (references : References) → k ≤ n → AreReferencesOf ptype n references → AreReferencesOf ptype k references
+references_of_fewer ptype n k added.None le are = are
+references_of_fewer ptype n k (added.Global reference) le are = are
+references_of_fewer ptype n k (added.PerBlock references) le are = (are.0, let enough = are.1 in omega arith)
 
 -- the tests of these blocks are those of fewer
 pub tests_of_fewer : (n k : ℕ) (t : BlockTests) → k ≤ n → AreBlockTests n t → AreBlockTests k t
 tests_of_fewer n k t le are = record {
   test = are.test;
-  references = references_of_fewer t.test.ptype n k (option_copied t.references) le are.references;
+  references = references_of_fewer t.test.ptype n k t.references le are.references;
 }
 
 -- the test of block j
-pub passes_plain : (t : BlockTests) (j : ℕ) (z : ℤ) → option_copied t.references ≡ None → passes t.test.range z ≡ passes_in t j z
+pub passes_plain : (t : BlockTests) (j : ℕ) (z : ℤ) → t.references ≡ added.None → passes t.test.range z ≡ passes_in t j z
 unfolding passes_in
-passes_plain t j z none = ap (λ o. of_sum_if_some t.test.ptype o (passes t.test.range) j z) (sym none)
+passes_plain t j z none = ap (λ (o : References). of_sums t.test.ptype o (passes t.test.range) j z) (sym none)
 
-pub passes_sum : (t : BlockTests) (references : PrimitiveParts) (j : ℕ) (z r : ℤ) → option_copied t.references ≡ Some references → r ≡ get_or references.slots j (pos 0) → passes t.test.range (wrap t.test.ptype (z +ℤ r)) ≡ passes_in t j z
+pub passes_the_one : (t : BlockTests) (reference : PValue) (j : ℕ) (z : ℤ) → t.references ≡ added.Global reference → passes t.test.range (wrap t.test.ptype (z +ℤ integer_of reference)) ≡ passes_in t j z
 unfolding passes_in
-passes_sum t references j z r some is = ap (λ n. passes t.test.range (wrap t.test.ptype (z +ℤ n))) is ∙ ap (λ o. of_sum_if_some t.test.ptype o (passes t.test.range) j z) (sym some)
+passes_the_one t reference j z one = ap (λ (o : References). of_sums t.test.ptype o (passes t.test.range) j z) (sym one)
+
+pub passes_sum : (t : BlockTests) (references : Bor PrimitiveParts) (j : ℕ) (z r : ℤ) → t.references ≡ added.PerBlock references → r ≡ get_or references.now.slots j (pos 0) → passes t.test.range (wrap t.test.ptype (z +ℤ r)) ≡ passes_in t j z
+unfolding passes_in
+passes_sum t references j z r each is = ap (λ n. passes t.test.range (wrap t.test.ptype (z +ℤ n))) is ∙ ap (λ (o : References). of_sums t.test.ptype o (passes t.test.range) j z) (sym each)
 
 -- the answer for an integer at a position of block j
 pub answered_in : (t : BlockTests) (blocks : Blocks) (bytes : List ℕ) (j q p : ℕ) (bit : Bool) → p ≡ 1024 * j + q → q < 1024 → bit ≡ passes_in t j (item_of_blocks t.test.ptype blocks bytes p) → bit ≡ answer_at t blocks bytes p
@@ -43,11 +51,11 @@ unfolding answer_at
 answered_in t blocks bytes j q p bit is small read = let block : j ≡ p / 1024 = omega arith in read ∙ ap (λ (n : ℕ). passes_in t n (item_of_blocks t.test.ptype blocks bytes p)) block
 
 -- the tests of a column's blocks
-pub tests_are : (t : BlockTests) (ptype : PType) (references : Option PrimitiveParts) (range : RangeTest) → t.test.ptype ≡ ptype → t.test.range ≡ range → option_copied t.references ≡ references → passes_in t ≡ of_sum_if_some ptype references (passes range)
+pub tests_are : (t : BlockTests) (ptype : PType) (references : References) (range : RangeTest) → t.test.ptype ≡ ptype → t.test.range ≡ range → t.references ≡ references → passes_in t ≡ of_sums ptype references (passes range)
 unfolding passes_in
 tests_are t ptype references range typed same are =
-    let at : (j : ℕ) (z : ℤ) → passes_in t j z ≡ of_sum_if_some ptype references (passes range) j z =
-    λ j z. ap (λ p. of_sum_if_some p (option_copied t.references) (passes t.test.range) j z) typed ∙ (ap (λ o. of_sum_if_some ptype o (passes t.test.range) j z) are ∙ ap (λ r. of_sum_if_some ptype references (passes r) j z) same) in
+    let at : (j : ℕ) (z : ℤ) → passes_in t j z ≡ of_sums ptype references (passes range) j z =
+    λ j z. ap (λ p. of_sums p t.references (passes t.test.range) j z) typed ∙ (ap (λ (o : References). of_sums ptype o (passes t.test.range) j z) are ∙ ap (λ r. of_sums ptype references (passes r) j z) same) in
     λ i j z. at j z i
 
 -- the answer for an item of a column, which may be patched

@@ -21,7 +21,7 @@ use Rattle.fl_types.specs.Integers.{bits_of_type, lanes_of_type, read_as, wrap}
 use Rattle.fl_types.specs.Refusals.{Answers}
 use Rattle.fl_types.specs.Types.{nullability_in}
 use Rattle.fl_types.specs.Validities.{covers, is_valid_at, items_of}
-use Rattle.fl_types.specs.Values.{bool_number}
+use Rattle.fl_types.specs.Values.{bool_number, integer_of}
 use Rattle.fl_types.proofs.BitLists.{same_tables}
 use Rattle.fl_codec.specs.FoRColumns.{plus_reference}
 use Rattle.fl_column.specs.Columns.{BoolParts, Column, PrimitiveParts, column_of_bools, new_bools}
@@ -34,7 +34,9 @@ use Rattle.fl_bitpacking.specs.Columns.{BitPackedParts, column_of_packed, packed
 use Rattle.fl_bitpacking.specs.Decided.{is_decided, undecided_below}
 use Rattle.fl_bitpacking.specs.Parts.{Fit}
 use Rattle.fl_bitpacking.specs.RangeTests.{answer_of, in_range}
-use Rattle.fl_bitpacking.specs.References.{of_sum_if_some, plus_block_references}
+use Rattle.fl_bitpacking.specs.References.{of_sums, plus_references}
+use Rattle.fl_bitpacking.specs.declared.references.References.{References}
+use Rattle.fl_bitpacking.specs.declared.references.References.TheVariants as added
 use Rattle.fl_bitpacking.proofs.BlockSums.{map-table}
 use Rattle.fl_bitpacking.proofs.DecidedLaws.{decided_answer}
 use Rattle.fl_bitpacking.proofs.FoundBelow.{found_below, skipped}
@@ -200,34 +202,42 @@ sum_tested : (test : ℤ → Bool) (ptype : PType) (r : ℤ) (item : Option ℤ)
 sum_tested test ptype r None = refl
 sum_tested test ptype r (Some z) = refl
 
--- the test of a column, each item plus the reference of its block
-sums_tested : (test : ℤ → Bool) (references : Option PrimitiveParts) (parts : BitPackedParts) (blocks : Blocks)
-    → (tested test (plus_block_references references parts.offset (column_of_packed parts blocks))).items ≡ tabulate (λ i. option_map (λ z. bool_number (of_sum_if_some parts.ptype references test ((parts.offset + i) / 1024) z)) (packed_item parts blocks i)) parts.len
-sums_tested test None parts blocks = map-table (option_map (λ z. bool_number (test z))) (packed_item parts blocks) parts.len None
-sums_tested test (Some references) parts blocks =
+-- the test of a column, each item plus its reference
+sums_tested : (test : ℤ → Bool) (references : References) (parts : BitPackedParts) (blocks : Blocks)
+    → (tested test (plus_references references parts.offset (column_of_packed parts blocks))).items ≡ tabulate (λ i. option_map (λ z. bool_number (of_sums parts.ptype references test ((parts.offset + i) / 1024) z)) (packed_item parts blocks i)) parts.len
+sums_tested test added.None parts blocks = map-table (option_map (λ z. bool_number (test z))) (packed_item parts blocks) parts.len None
+sums_tested test (added.Global reference) parts blocks =
     let items = packed_item parts blocks in
     let answer : Option ℤ → Option ℤ = option_map (λ z. bool_number (test z)) in
-    let reference : ℕ → ℤ = λ i. get_or references.slots ((parts.offset + i) / 1024) (pos 0) in
+    let r = integer_of reference in
+    let sum : ℕ → Option ℤ = λ i. plus_reference parts.ptype r (items i) in
+    ap (map answer) (map-table (plus_reference parts.ptype r) items parts.len None) ∙ (map-table answer sum parts.len None
+    ∙ same_tables (λ i. answer (sum i)) (λ i. option_map (λ z. bool_number (test (wrap parts.ptype (z +ℤ r)))) (items i)) parts.len (λ i h. sum_tested test parts.ptype r (items i)))
+sums_tested test (added.PerBlock references) parts blocks =
+    let items = packed_item parts blocks in
+    let answer : Option ℤ → Option ℤ = option_map (λ z. bool_number (test z)) in
+    let reference : ℕ → ℤ = λ i. get_or references.now.slots ((parts.offset + i) / 1024) (pos 0) in
     let sum : ℕ → Option ℤ = λ i. plus_reference parts.ptype (reference i) (get_or (tabulate items parts.len) i None) in
     map-table answer sum (length (tabulate items parts.len)) None ∙ (ap (tabulate (λ i. answer (sum i))) (length-table items parts.len)
     ∙ same_tables (λ i. answer (sum i)) (λ i. option_map (λ z. bool_number (test (wrap parts.ptype (z +ℤ reference i)))) (items i)) parts.len
     (λ i h. ap (λ x. answer (plus_reference parts.ptype (reference i) x)) (get_or-table items parts.len i None h) ∙ sum_tested test parts.ptype (reference i) (items i)))
 
 -- sums have the column's type
-type_of_sums : (references : Option PrimitiveParts) (offset : ℕ) (c : Column) → (plus_block_references references offset c).dtype ≡ c.dtype
-type_of_sums None offset c = refl
-type_of_sums (Some references) offset c = refl
+type_of_sums : (references : References) (offset : ℕ) (c : Column) → (plus_references references offset c).dtype ≡ c.dtype
+type_of_sums added.None offset c = refl
+type_of_sums (added.Global reference) offset c = refl
+type_of_sums (added.PerBlock references) offset c = refl
 
-pub column_tested : (test : ℤ → Bool) (references : Option PrimitiveParts) (parts : BitPackedParts) (blocks : Blocks) (bits : List Bool) (r : Result BoolParts FastLanesError) → Fit parts → length bits ≡ parts.len
-    → ((i : ℕ) → i < parts.len → get_or bits i false ≡ of_sum_if_some parts.ptype references test ((parts.offset + i) / 1024) (unwrap_or (patched_in parts.patches i) (stored parts blocks i)))
-    → r ≡ new_bools bits parts.validity → Answers column_of_bools r (Ok (tested test (plus_block_references references parts.offset (column_of_packed parts blocks))))
+pub column_tested : (test : ℤ → Bool) (references : References) (parts : BitPackedParts) (blocks : Blocks) (bits : List Bool) (r : Result BoolParts FastLanesError) → Fit parts → length bits ≡ parts.len
+    → ((i : ℕ) → i < parts.len → get_or bits i false ≡ of_sums parts.ptype references test ((parts.offset + i) / 1024) (unwrap_or (patched_in parts.patches i) (stored parts blocks i)))
+    → r ≡ new_bools bits parts.validity → Answers column_of_bools r (Ok (tested test (plus_references references parts.offset (column_of_packed parts blocks))))
 column_tested test references parts blocks bits r fit long each is =
     let covered : covers parts.validity (length bits) ≡ true = rw long fit.covers in
     let made : r ≡ Ok (record { bits = bits; validity = parts.validity }) = is ∙ (rw covered refl) in
-    let answers = items_answered (λ i. of_sum_if_some parts.ptype references test ((parts.offset + i) / 1024)) parts blocks bits covered long each ∙ sym (sums_tested test references parts blocks) in
+    let answers = items_answered (λ i. of_sums parts.ptype references test ((parts.offset + i) / 1024)) parts blocks bits covered long each ∙ sym (sums_tested test references parts blocks) in
     let c = column_of_packed parts blocks in
     let with : DType → List (Option ℤ) → Column = λ d items. record { dtype = dtypes.Bool (nullability_in d); items = items } in
-    let same : column_of_bools (record { bits = bits; validity = parts.validity }) ≡ tested test (plus_block_references references parts.offset c) =
-    ap (with c.dtype) answers ∙ ap (λ d. with d (tested test (plus_block_references references parts.offset c)).items) (sym (type_of_sums references parts.offset c)) in
+    let same : column_of_bools (record { bits = bits; validity = parts.validity }) ≡ tested test (plus_references references parts.offset c) =
+    ap (with c.dtype) answers ∙ ap (λ d. with d (tested test (plus_references references parts.offset c)).items) (sym (type_of_sums references parts.offset c)) in
     let answer : Column → Result Column FastLanesError = λ x. Ok x in
     rw made (ap answer (sym same))

@@ -1,6 +1,7 @@
 -- Patches of consecutive items: those whose indices are between two numbers.
-use Rattle.std.proofs.Common.{◌≡◌, ℕ, ℤ, ◌+◌, ◌-◌, ◌<◌, ◌≤◌, ◌≢◌, option_map, unwrap_or, List, length, map, get_or, unsigned_abs, refl, ap, sym, ◌∙◌, arith, true, None, inl, inr}
+use Rattle.std.proofs.Common.{◌≡◌, ℕ, ℤ, ◌+◌, ◌-◌, ◌<◌, ◌≤◌, ◌≢◌, option_map, unwrap_or, List, [], length, map, get_or, unsigned_abs, refl, ap, sym, ◌∙◌, arith, true, Option, None, Some, inl, inr}
 use Rattle.std.proofs.lemmas.Bool.{cases_lt}
+use Rattle.std.proofs.lemmas.List.{length-map}
 use Rattle.fl_types.specs.Bits.{between}
 use Rattle.fl_column.proofs.ItemLaws.{length-between}
 use Rattle.fl_column.specs.Numbers.{numbers, numbers_by}
@@ -9,6 +10,7 @@ use Rattle.fl_patches.proofs.Parts.{AreSound, none_before, sound}
 use Rattle.fl_patches.proofs.Rising.{count_ge, count_lt, count_within, length-numbers_by}
 use Rattle.fl_patches.proofs.SearchRanges.{numbers_by-between}
 use Rattle.fl_patches.proofs.Slices.{before_in_order, before_within, none_cut, beside_part, get_or-between, map-between, rising_part}
+use Rattle.fl_bitpacking.specs.Filtered.{count_before}
 use Rattle.fl_bitpacking.specs.Placed.{ArePlaced, value_beside}
 
 -- the patches of a part of the items are placed in it
@@ -70,6 +72,11 @@ counted_all f indices k limit past below =
     let most = count_within (numbers_by f indices) limit in
     omega arith
 
+-- no value is placed where no patch is in a part
+pub none_placed : {I X : Type 0} (f : I → ℤ) (value : X → ℤ) (p : PatchesParts) (from n before after i : ℕ) → refusal_of p ≡ None → before ≡ patches_before from p → after ≡ patches_before (from + n) p → before ≡ after → i < n
+    → value_beside (numbers_by f []) (map value []) i ≡ patched p (from + i)
+none_placed f value p from n before after i e first last same h = sym (none_cut p from (from + n) i (sound p e) (sym first ∙ same ∙ last) (omega arith))
+
 -- where there is no patch in a part
 pub none_in_part : {A : Type 0} (item : ℤ → A) (p : PatchesParts) (from n before after i : ℕ) (z : A) → refusal_of p ≡ None → before ≡ patches_before from p → after ≡ patches_before (from + n) p → before ≡ after → i < n → z ≡ unwrap_or (option_map item (patched p (from + i))) z
 none_in_part item p from n before after i z e first last same h =
@@ -77,13 +84,12 @@ none_in_part item p from n before after i z e first last same h =
     rw none refl
 
 -- the index of a part's first item
-pub first_index : {I : Type 0} (f : I → ℤ) (indices : List I) (p : PatchesParts) (from n before after index : ℕ) → refusal_of p ≡ None → map f indices ≡ p.indices.slots → before ≡ patches_before from p → after ≡ patches_before (from + n) p → before ≢ after
+pub first_index : {I : Type 0} (f : I → ℤ) (indices : List I) (p : PatchesParts) (from before index : ℕ) → refusal_of p ≡ None → map f indices ≡ p.indices.slots → before ≡ patches_before from p → before < length p.indices.slots
     → index ≡ get_or (numbers_by f indices) before 0 → p.offset + from ≤ index
-first_index f indices p from n before after index e read first last some is =
+first_index f indices p from before index e read first some is =
     let xs = numbers p.indices in
     let s = sound p e in
-    let order : before ≤ after = (let up = before_in_order p from (from + n) s (omega arith) in omega arith) in
-    let room : after ≤ length xs = (let within = count_within xs (p.offset + (from + n)) in omega arith) in
+    let room : before < length xs = (let long = length-map p.indices.slots unsigned_abs in omega arith) in
     let low = count_ge xs (p.offset + from) before s.rising (omega arith) (omega arith) in
     let same : get_or (numbers_by f indices) before 0 ≡ get_or xs before 0 = ap (λ (l : List ℤ). get_or (map unsigned_abs l) before 0) read in
     omega arith
@@ -98,3 +104,11 @@ before_end p from n before after e first last =
 -- no patch is before the first item
 pub none_first : (p : PatchesParts) → refusal_of p ≡ None → patches_before 0 p ≡ 0
 none_first p e = let first : p.offset + 0 ≡ p.offset = omega arith in rw first (none_before p (sound p e))
+
+-- the patches before a part are no more than those before its end
+pub part_order : (o : Option PatchesParts) (p : PatchesParts) (from n before after : ℕ) → o ≡ Some p → refusal_of p ≡ None → before ≡ count_before from o → after ≡ count_before (from + n) o → before ≤ after
+part_order o p from n before after is e first last =
+    let up = before_in_order p from (from + n) (sound p e) (omega arith) in
+    let low = rw is at first in
+    let high = rw is at last in
+    omega arith

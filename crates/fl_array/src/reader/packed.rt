@@ -7,7 +7,7 @@ ghost use Rattle.fl_column.specs.Chunks.{chunk_count};
 ghost use Rattle.fl_column.specs.Columns.{Column, ptype_of_column};
 ghost use Rattle.fl_bitpacking.specs.Blocks.{value_at};
 ghost use Rattle.fl_bitpacking.specs.RangeTests.{IsTestOf, passes};
-ghost use Rattle.fl_bitpacking.specs.References.{AreReferencesIfSome, plus_references_if_some};
+ghost use Rattle.fl_bitpacking.specs.References.{AreReferencesOf, plus_references};
 ghost use Rattle.fl_array.specs.BlockAnswers.{AreBlockAnswers};
 ghost use Rattle.fl_array.specs.PackedSums.{AreHeldReferences, ArePackedSums, column_of_sums, plus_held};
 ghost use Rattle.fl_array.specs.Readers.{AreItemsFrom};
@@ -36,14 +36,14 @@ pub(crate) enum HeldReferences<'a> {
 
 impl HeldReferences<'_> {
     /// The references as they are added to the items of blocks.
-    fn view(&self) -> Option<References<'_>>
-        ensures sums { (offset : ℕ) (c : Column) → plus_references_if_some result offset c ≡ plus_held self.now offset c }
-        ensures sound { (ptype : PType) (count : ℕ) → AreHeldReferences ptype count self.now → AreReferencesIfSome ptype count result }
+    fn view(&self) -> References<'_>
+        ensures sums { (offset : ℕ) (c : Column) → plus_references result offset c ≡ plus_held self.now offset c }
+        ensures sound { (ptype : PType) (count : ℕ) → AreHeldReferences ptype count self.now → AreReferencesOf ptype count result }
     {
         match self {
-            HeldReferences::None => None,
-            HeldReferences::Global(reference) => Some(References::Global(*reference)),
-            HeldReferences::PerBlock(references) => Some(References::PerBlock(references.array())),
+            HeldReferences::None => References::None,
+            HeldReferences::Global(reference) => References::Global(*reference),
+            HeldReferences::PerBlock(references) => References::PerBlock(references.array()),
         }
     }
 

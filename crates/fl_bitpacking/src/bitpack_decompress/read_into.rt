@@ -10,7 +10,7 @@ ghost use Rattle.fl_bitpacking.specs.Columns.{block_count, column_of_packed};
 ghost use Rattle.fl_bitpacking.specs.ItemsFrom.{AreItemsFrom};
 ghost use Rattle.fl_bitpacking.specs.Parts.{AreReadable, Fit, blocks_to_read, parts_of};
 ghost use Rattle.fl_bitpacking.specs.ReadWidths.{AreWidthsOf};
-ghost use Rattle.fl_bitpacking.specs.References.{AreReferencesIfSome, AreReferencesOf, plus_references, plus_references_if_some};
+ghost use Rattle.fl_bitpacking.specs.References.{AreReferencesOf, plus_references};
 ghost use Rattle.fl_bitpacking.specs.Taken.{HasStarts};
 
 use crate::bit_packed::BitPacked;
@@ -56,8 +56,9 @@ fn read_items<'a, T: BitPacked + WrappingAdd>(
     write_patches_from(column.patches, start, references, first, items);
 }
 
-/// Writes items plus the references: one for all items, or one for those of each block.
-fn read_sums<'a, T: BitPacked + WrappingAdd>(
+/// Writes items plus the references: one for all items, or one for those of each block, or none.
+#[tactic(auto, using(crate::proofs::ReadWidths::readable, crate::proofs::ReadWidths::starts))]
+fn read_column<'a, T: BitPacked + WrappingAdd>(
     column: &PackedColumn<'a>,
     widths: Widths<'a>,
     references: References,
@@ -68,14 +69,14 @@ fn read_sums<'a, T: BitPacked + WrappingAdd>(
     requires typed { column.now.ptype ≡ T.PTYPE }
     requires references { AreReferencesOf column.now.ptype (block_count (parts_of column.now)) references }
     requires fit { Fit (parts_of column.now) }
-    requires readable { AreReadable (bits_of_type column.now.ptype) column.now.packed.now (blocks_to_read column.now widths) }
-    requires starts { HasStarts widths }
+    requires widths { AreWidthsOf (parts_of column.now) widths }
     requires range { start + length items.old ≤ column.now.len }
     ensures items { AreItemsFrom start (length items.old) (value_at T.value items.new) (plus_references references.entry column.now.offset (column_of_packed (parts_of column.now) (blocks_of widths.entry))) }
     ensures blocks { work.new.blocks ≡ min (work.old.blocks + (chunk_count (column.now.offset + start + length items.old) - (column.now.offset + start) / 1024)) u64.MAX }
     ensures words { work.new.words ≡ work.old.words }
 {
     match references {
+        References::None => read_items(column, widths, &[], start, items, work),
         References::Global(reference) => {
             let reference = T::from_pvalue(reference).unwrap();
             read_items(column, widths, &[reference], start, items, work)
@@ -87,31 +88,6 @@ fn read_sums<'a, T: BitPacked + WrappingAdd>(
     }
 }
 
-/// Writes items plus the references, if there are any.
-#[tactic(auto, using(crate::proofs::ReadWidths::readable, crate::proofs::ReadWidths::starts))]
-fn read_column<'a, T: BitPacked + WrappingAdd>(
-    column: &PackedColumn<'a>,
-    widths: Widths<'a>,
-    references: Option<References>,
-    start: usize,
-    items: &mut [T],
-    work: &mut Work,
-)
-    requires typed { column.now.ptype ≡ T.PTYPE }
-    requires references { AreReferencesIfSome column.now.ptype (block_count (parts_of column.now)) references }
-    requires fit { Fit (parts_of column.now) }
-    requires widths { AreWidthsOf (parts_of column.now) widths }
-    requires range { start + length items.old ≤ column.now.len }
-    ensures items { AreItemsFrom start (length items.old) (value_at T.value items.new) (plus_references_if_some references.entry column.now.offset (column_of_packed (parts_of column.now) (blocks_of widths.entry))) }
-    ensures blocks { work.new.blocks ≡ min (work.old.blocks + (chunk_count (column.now.offset + start + length items.old) - (column.now.offset + start) / 1024)) u64.MAX }
-    ensures words { work.new.words ≡ work.old.words }
-{
-    match references {
-        Some(references) => read_sums(column, widths, references, start, items, work),
-        None => read_items(column, widths, &[], start, items, work),
-    }
-}
-
 impl PackedData {
     /// Writes the items from index `start` on, as many as the slice has, plus the references, if there are any: for
     /// each item that is not null its value, for a null any value. Each block that has one of these items is unpacked
@@ -119,16 +95,16 @@ impl PackedData {
     pub fn read_into<'a, T: BitPacked + WrappingAdd>(
         &'a self,
         widths: Widths<'a>,
-        references: Option<References>,
+        references: References,
         start: usize,
         items: &mut [T],
         work: &mut Work,
     )
         requires typed { self.now.ptype ≡ T.PTYPE }
-        requires references { AreReferencesIfSome self.now.ptype (block_count self.now) references }
+        requires references { AreReferencesOf self.now.ptype (block_count self.now) references }
         requires widths { AreWidthsOf self.now widths }
         requires range { start + length items.old ≤ self.now.len }
-        ensures items { AreItemsFrom start (length items.old) (value_at T.value items.new) (plus_references_if_some references.entry self.now.offset (column_of_packed self.now (blocks_of widths.entry))) }
+        ensures items { AreItemsFrom start (length items.old) (value_at T.value items.new) (plus_references references.entry self.now.offset (column_of_packed self.now (blocks_of widths.entry))) }
         ensures blocks { work.new.blocks ≡ min (work.old.blocks + (chunk_count (self.now.offset + start + length items.old) - (self.now.offset + start) / 1024)) u64.MAX }
         ensures words { work.new.words ≡ work.old.words }
     {

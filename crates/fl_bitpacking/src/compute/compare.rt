@@ -16,7 +16,6 @@ ghost use Rattle.fl_types.specs.Integers.{bits_of_type};
 ghost use Rattle.fl_types.specs.Refusals.{Answers};
 ghost use Rattle.fl_column.specs.Chunks.{chunk_count};
 ghost use Rattle.fl_column.specs.Columns.{column_of_bools};
-ghost use Rattle.fl_column.specs.Numbers.{numbers, numbers_by};
 ghost use Rattle.fl_column.specs.Queries.{tested};
 ghost use Rattle.fl_patches.specs.PatchMaps.{patched, patched_in};
 ghost use Rattle.fl_bitpacking.specs.Blocks.{block_item, blocks_of, item_of_blocks};
@@ -26,9 +25,9 @@ ghost use Rattle.fl_bitpacking.specs.Decided.{is_decided, undecided_below, undec
 ghost use Rattle.fl_bitpacking.specs.Parts.{AreReadable, Fit, blocks_in, parts_of};
 ghost use Rattle.fl_bitpacking.specs.ReadWidths.{AreWidthsOf};
 ghost use Rattle.fl_bitpacking.specs.Readings.{AreFewBlocks, bytes_at, more_blocks};
-ghost use Rattle.fl_bitpacking.specs.Placed.{ArePlaced, value_beside};
+ghost use Rattle.fl_bitpacking.specs.Placed.{ArePlacedIn, value_placed};
 ghost use Rattle.fl_bitpacking.specs.RangeTests.{IsTestOf, answer_of, in_range, passes};
-ghost use Rattle.fl_bitpacking.specs.References.{AreBlockReferences, of_sum_if_some, plus_block_references};
+ghost use Rattle.fl_bitpacking.specs.References.{AreReferencesOf, of_sums, plus_references};
 
 use crate::bitpack_decompress::PackedColumn;
 use crate::blocks::PackedBlocks;
@@ -36,9 +35,10 @@ use crate::compute::compare::block_tests::BlockTests;
 use crate::compute::range_test::{PatternTest, RangeTest};
 use crate::packed_data::BlockExtent;
 use crate::packed_reader::PackedReader;
-use crate::patching::place_of;
+use crate::patching::{PlacedValues, all_patches, place_of};
+use crate::references::References;
 use fastlanes::{FL_CHUNK_SIZE, FastLanes, Work, transpose_bits};
-use fl_column::{BoolArray, PhysicalPType, PrimitiveArray};
+use fl_column::{BoolArray, PhysicalPType};
 use fl_patches::{Patches, Widths};
 use fl_types::laws::integer_is_in_range;
 use fl_types::{BitList, FastLanesError, NativePType, PType, match_each_integer_ptype};
@@ -335,70 +335,45 @@ fn passes_at<T: PhysicalPType>(test: PackedTest, values: &[T], k: usize) -> bool
     test.is_passed_by(value)
 }
 
-/// Writes the answers for values at their indices. Item 0 is at position `first` of the blocks.
+/// Writes the answers for values in their places. Item 0 is at position `first` of the blocks.
 fn write_answers<T: PhysicalPType, I: NativePType>(
     tests: BlockTests,
-    indices: &[I],
-    values: &[T],
-    offset: usize,
+    placed: PlacedValues<T, I>,
     first: usize,
     bits: &mut BitList,
 )
     requires tests { AreBlockTests (chunk_count (first + length bits.old)) tests }
     requires typed { tests.test.ptype ≡ T.PTYPE }
     requires few { first + length bits.old < 2 ^ 64 }
-    requires placed { ArePlaced (numbers_by I.value indices.now) (length values.now) offset (length bits.old) }
+    requires placed { ArePlacedIn I.value (length bits.old) placed }
     ensures long { length bits.new ≡ length bits.old }
-    ensures bits { (i : ℕ) → i < length bits.old → slice_index_or bits.new i false ≡ unwrap_or (option_map (passes_in tests.entry ((first + i) / 1024)) (value_beside (numbers_by I.value indices.now) (map T.value values.now) (offset + i))) (slice_index_or bits.old i false) }
+    ensures bits { (i : ℕ) → i < length bits.old → slice_index_or bits.new i false ≡ unwrap_or (option_map (passes_in tests.entry ((first + i) / 1024)) (value_placed I.value T.value placed.entry i)) (slice_index_or bits.old i false) }
 {
-    for k in 0..indices.len() {
-        let place = place_of(indices, k, offset);
+    for k in 0..placed.indices.len() {
+        let place = place_of(placed.indices, k, placed.offset);
         let test = tests.of_block((first + place) / FL_CHUNK_SIZE);
-        let answer = passes_at(test, values, k);
+        let answer = passes_at(test, placed.values, k);
         bits.set(place, answer);
     }
 }
 
 fn write_typed<T: PhysicalPType, I: NativePType>(
     tests: BlockTests,
-    indices: &PrimitiveArray,
-    values: &[T],
-    offset: usize,
+    patches: &Patches,
     first: usize,
     bits: &mut BitList,
 )
     requires tests { AreBlockTests (chunk_count (first + length bits.old)) tests }
     requires typed { tests.test.ptype ≡ T.PTYPE }
     requires few { first + length bits.old < 2 ^ 64 }
-    requires indices { indices.now.ptype ≡ I.PTYPE }
-    requires placed { ArePlaced (numbers indices.now) (length values.now) offset (length bits.old) }
+    requires indices { patches.now.indices.ptype ≡ I.PTYPE }
+    requires values { patches.now.values.ptype ≡ T.PTYPE }
+    requires long { length bits.old ≡ patches.now.array_len }
     ensures long { length bits.new ≡ length bits.old }
-    ensures bits { (i : ℕ) → i < length bits.old → slice_index_or bits.new i false ≡ unwrap_or (option_map (passes_in tests.entry ((first + i) / 1024)) (value_beside (numbers indices.now) (map T.value values.now) (offset + i))) (slice_index_or bits.old i false) }
+    ensures bits { (i : ℕ) → i < length bits.old → slice_index_or bits.new i false ≡ unwrap_or (option_map (passes_in tests.entry ((first + i) / 1024)) (patched patches.now i)) (slice_index_or bits.old i false) }
 {
-    let indices = indices.as_slice::<I>();
-    write_answers(tests, indices, values, offset, first, bits);
-}
-
-/// Writes the answers for values at their indices. Item 0 is at position `first` of the blocks.
-fn write_in<T: PhysicalPType>(
-    tests: BlockTests,
-    indices: &PrimitiveArray,
-    values: &[T],
-    offset: usize,
-    first: usize,
-    bits: &mut BitList,
-)
-    requires tests { AreBlockTests (chunk_count (first + length bits.old)) tests }
-    requires typed { tests.test.ptype ≡ T.PTYPE }
-    requires few { first + length bits.old < 2 ^ 64 }
-    requires placed { ArePlaced (numbers indices.now) (length values.now) offset (length bits.old) }
-    ensures long { length bits.new ≡ length bits.old }
-    ensures bits { (i : ℕ) → i < length bits.old → slice_index_or bits.new i false ≡ unwrap_or (option_map (passes_in tests.entry ((first + i) / 1024)) (value_beside (numbers indices.now) (map T.value values.now) (offset + i))) (slice_index_or bits.old i false) }
-{
-    match_each_integer_ptype!(
-        indices.ptype(),
-        write_typed::<T>(tests, indices, values, offset, first, bits)
-    )
+    let placed = all_patches::<T, I>(patches);
+    write_answers(tests, placed, first, bits);
 }
 
 fn test_patches_typed<T: PhysicalPType>(
@@ -415,11 +390,10 @@ fn test_patches_typed<T: PhysicalPType>(
     ensures long { length bits.new ≡ length bits.old }
     ensures bits { (i : ℕ) → i < length bits.old → slice_index_or bits.new i false ≡ unwrap_or (option_map (passes_in tests.entry ((first + i) / 1024)) (patched patches.now i)) (slice_index_or bits.old i false) }
 {
-    let offset = patches.offset();
-    let indices = patches.indices();
-    let values = patches.values();
-    let values = values.as_slice::<T>();
-    write_in(tests, indices, values, offset, first, bits);
+    match_each_integer_ptype!(
+        patches.indices().ptype(),
+        write_typed::<T>(tests, patches, first, bits)
+    )
 }
 
 /// Writes the answers for the patches' values at their indices. Item 0 is at position `first` of the blocks.
@@ -457,22 +431,22 @@ fn with_patches(
 }
 
 /// The answers of a test for the items of these parts, whose blocks have these widths, or for the sums of the items and the
-/// references of their blocks; nulls stay null.
+/// references, if there are any; nulls stay null.
 fn test_column(
     alloc: Global,
     column: &PackedColumn,
     widths: Widths,
-    references: Option<&PrimitiveArray>,
+    references: References,
     range: RangeTest,
     work: &mut Work,
 ) -> Result<BoolArray, FastLanesError>
     requires test { IsTestOf column.now.ptype range }
-    requires references { AreBlockReferences column.now.ptype (block_count (parts_of column.now)) (option_copied references) }
+    requires references { AreReferencesOf column.now.ptype (block_count (parts_of column.now)) references }
     requires fit { Fit (parts_of column.now) }
     requires widths { AreWidthsOf (parts_of column.now) widths }
-    ensures column { Answers column_of_bools result (Ok (tested (passes range) (plus_block_references (option_copied references.entry) column.now.offset (column_of_packed (parts_of column.now) (blocks_of widths.entry))))) }
-    ensures blocks { OnOk result (work.new.blocks ≡ min (work.old.blocks + undecided_by_block (parts_of column.now) (blocks_of widths.entry) (of_sum_if_some column.now.ptype (option_copied references.entry) (passes range))) u64.MAX) }
-    ensures most { work.new.blocks ≤ work.old.blocks + undecided_by_block (parts_of column.now) (blocks_of widths.entry) (of_sum_if_some column.now.ptype (option_copied references.entry) (passes range)) }
+    ensures column { Answers column_of_bools result (Ok (tested (passes range) (plus_references references.entry column.now.offset (column_of_packed (parts_of column.now) (blocks_of widths.entry))))) }
+    ensures blocks { OnOk result (work.new.blocks ≡ min (work.old.blocks + undecided_by_block (parts_of column.now) (blocks_of widths.entry) (of_sums column.now.ptype references.entry (passes range))) u64.MAX) }
+    ensures most { work.new.blocks ≤ work.old.blocks + undecided_by_block (parts_of column.now) (blocks_of widths.entry) (of_sums column.now.ptype references.entry (passes range)) }
     ensures words { work.new.words ≡ work.old.words }
 {
     let blocks = PackedBlocks {

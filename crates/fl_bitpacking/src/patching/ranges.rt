@@ -7,8 +7,9 @@ ghost use Rattle.fl_column.specs.Numbers.{numbers_by};
 ghost use Rattle.fl_patches.specs.PatchMaps.{count_below, is_rising, patched, patched_in, patches_before};
 ghost use Rattle.fl_bitpacking.specs.Blocks.{value_at};
 ghost use Rattle.fl_bitpacking.specs.BlockSums.{plus_block_reference};
+ghost use Rattle.fl_bitpacking.specs.Placed.{ArePlacedIn, value_placed};
 
-use crate::patching::write_values;
+use crate::patching::{PlacedValues, write_values};
 use fl_column::number_at;
 use fl_patches::Patches;
 use fl_types::{NativePType, match_each_integer_ptype};
@@ -60,7 +61,9 @@ pub(crate) fn count_typed<I: NativePType>(
     requires typed { patches.now.indices.ptype ≡ I.PTYPE }
     requires order { from ≤ to }
     requires before { before ≡ patches_before from patches.now }
-    ensures { result ≡ patches_before to patches.now }
+    ensures count { result ≡ patches_before to patches.now }
+    ensures order { before ≤ result }
+    ensures within { result ≤ length patches.now.indices.slots }
 {
     let indices = patches.indices().as_slice::<I>();
     let limit = patches.offset() as u128 + to as u128;
@@ -68,7 +71,7 @@ pub(crate) fn count_typed<I: NativePType>(
 }
 
 /// The elements from `start` to below `end`.
-pub(crate) fn part_of<T: NativePType>(items: &[T], start: usize, end: usize) -> &[T]
+fn part_of<T: NativePType>(items: &[T], start: usize, end: usize) -> &[T]
     requires order { start ≤ end }
     requires within { end ≤ length items.now }
     ensures { result.now ≡ between start end items.now }
@@ -76,36 +79,40 @@ pub(crate) fn part_of<T: NativePType>(items: &[T], start: usize, end: usize) -> 
     &items[start..end]
 }
 
-/// Writes the patches' values, plus the references of their blocks, over items. The first item is the one at `from`,
-/// at position `first` of the blocks; there are `before` patches before it, and `after` before the end of the items.
-pub(crate) fn write_between<T: NativePType + WrappingAdd, I: NativePType>(
+/// The values of the patches from `before` to below `after`, by the items from `from` on, before which there are `before`.
+pub(crate) fn patches_between<T: NativePType, I: NativePType>(
     patches: &Patches,
     from: usize,
     before: usize,
     after: usize,
-    references: &[T],
-    first: usize,
-    items: &mut [T],
-)
+) -> PlacedValues<'_, T, I>
     requires typed { patches.now.indices.ptype ≡ I.PTYPE }
     requires values { patches.now.values.ptype ≡ T.PTYPE }
-    requires within { from + length items.old ≤ patches.now.array_len }
-    requires few { first + length items.old < 2 ^ 64 }
     requires before { before ≡ patches_before from patches.now }
-    requires after { after ≡ patches_before (from + length items.old) patches.now }
-    ensures { (i : ℕ) → i < length items.old → value_at T.value items.new i ≡ unwrap_or (option_map (plus_block_reference T.PTYPE (map T.value references.now) ((first + i) / 1024)) (patched patches.now (from + i))) (value_at T.value items.old i) }
+    requires order { before ≤ after }
+    requires within { after ≤ length patches.now.indices.slots }
+    ensures placed { (n : ℕ) → after ≡ patches_before (from + n) patches.now → ArePlacedIn I.value n result }
+    ensures values { (n i : ℕ) → after ≡ patches_before (from + n) patches.now → i < n → value_placed I.value T.value result i ≡ patched patches.now (from + i) }
 {
     let indices = patches.indices().as_slice::<I>();
     let values = patches.values().as_slice::<T>();
     if before == after {
-        return;
+        return PlacedValues {
+            indices: &[],
+            values: &[],
+            offset: 0,
+        };
     }
     // For the proof: an index is below 2 ^ 64, and so is the sum.
     let _index = number_at(indices, before);
     let offset = patches.offset() + from;
     let indices = part_of(indices, before, after);
     let values = part_of(values, before, after);
-    write_values(indices, values, offset, references, first, items);
+    PlacedValues {
+        indices,
+        values,
+        offset,
+    }
 }
 
 fn write_typed<T: NativePType + WrappingAdd, I: NativePType>(
@@ -125,7 +132,8 @@ fn write_typed<T: NativePType + WrappingAdd, I: NativePType>(
     let _len = patches.array_len();
     let before = count_before::<I>(patches, from);
     let after = count_typed::<I>(patches, from, before, from + items.len());
-    write_between::<T, I>(patches, from, before, after, references, first, items);
+    let placed = patches_between::<T, I>(patches, from, before, after);
+    write_values(placed, references, first, items);
 }
 
 /// Writes the patches' values, plus the references of their blocks, over items, if there are patches. The first item

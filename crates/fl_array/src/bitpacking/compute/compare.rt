@@ -1,7 +1,6 @@
 //! Comparisons of bit-packed arrays on their packed blocks, with a count of the blocks that they unpack.
 
 ghost use Rattle.std.specs.Prelude.{◌≡◌, ◌+◌, ◌≤◌, IfOk, Ok, OnOk, length, min};
-ghost use Rattle.std.specs.Option.{option_copied};
 ghost use Rattle.fl_types.specs.Refusals.{Answers};
 ghost use Rattle.fl_types.specs.Values.{integer_of};
 ghost use Rattle.fl_column.specs.Columns.{column_of_bools};
@@ -10,7 +9,7 @@ ghost use Rattle.fl_codec.specs.FoRColumns.{chunked_for};
 ghost use Rattle.fl_bitpacking.specs.Columns.{block_count};
 ghost use Rattle.fl_bitpacking.specs.Decided.{undecided_by_block};
 ghost use Rattle.fl_bitpacking.specs.RangeTests.{IsTestOf, passes};
-ghost use Rattle.fl_bitpacking.specs.References.{AreBlockReferences, of_sum_if_some, plus_block_references};
+ghost use Rattle.fl_bitpacking.specs.References.{AreReferencesOf, of_sums, plus_references};
 ghost use Rattle.fl_array.specs.BitPackedArrays.{blocks_of_widths, tree_of_bitpacked};
 ghost use Rattle.fl_array.specs.Trees.{column};
 ghost use Rattle.fl_array.specs.UnpackedBlocks.{IsComparisonOf, IsComparisonOfSums};
@@ -19,25 +18,26 @@ use crate::bitpacking::BitPackedArray;
 use fastlanes::Work;
 use fl_bitpacking::RangeTest;
 use fl_bitpacking::laws::parts_are_consistent;
+use fl_bitpacking::references::References;
 use fl_column::{
     BetweenOptions, BoolArray, CompareOperator, FastLanesError, PValue, PrimitiveArray,
 };
 use std::alloc::Global;
 
 impl BitPackedArray {
-    /// The answers of a test for the items or, if there are references, for the sums of the items and the references of their
-    /// blocks; nulls stay null.
+    /// The answers of a test for the items or, if there are references, for the sums of the items and the references; nulls
+    /// stay null.
     fn test(
         &self,
         alloc: Global,
-        references: Option<&PrimitiveArray>,
+        references: References,
         range: RangeTest,
         work: &mut Work,
     ) -> Result<BoolArray, FastLanesError>
         requires test { IsTestOf self.now.parts.ptype range }
-        requires references { AreBlockReferences self.now.parts.ptype (block_count self.now.parts) (option_copied references) }
-        ensures column { Answers column_of_bools result (Ok (tested (passes range) (plus_block_references (option_copied references.entry) self.now.parts.offset (column (tree_of_bitpacked self.now))))) }
-        ensures blocks { OnOk result (work.new.blocks ≡ min (work.old.blocks + undecided_by_block self.now.parts (blocks_of_widths self.now.widths) (of_sum_if_some self.now.parts.ptype (option_copied references.entry) (passes range))) u64.MAX) }
+        requires references { AreReferencesOf self.now.parts.ptype (block_count self.now.parts) references }
+        ensures column { Answers column_of_bools result (Ok (tested (passes range) (plus_references references.entry self.now.parts.offset (column (tree_of_bitpacked self.now))))) }
+        ensures blocks { OnOk result (work.new.blocks ≡ min (work.old.blocks + undecided_by_block self.now.parts (blocks_of_widths self.now.widths) (of_sums self.now.parts.ptype references.entry (passes range))) u64.MAX) }
         ensures words { work.new.words ≡ work.old.words }
     {
         let widths = self.widths(alloc)?;
@@ -62,7 +62,7 @@ impl BitPackedArray {
     {
         parts_are_consistent(self.packed_data());
         let mut work = Work::new();
-        let answers = self.test(alloc, None, range, &mut work)?;
+        let answers = self.test(alloc, References::None, range, &mut work)?;
         Ok((answers, work))
     }
 
@@ -86,7 +86,7 @@ impl BitPackedArray {
     {
         parts_are_consistent(self.packed_data());
         let mut work = Work::new();
-        let answers = self.test(alloc, Some(references), range, &mut work)?;
+        let answers = self.test(alloc, References::PerBlock(references), range, &mut work)?;
         Ok((answers, work))
     }
 

@@ -9,5 +9,5 @@ use Rattle.fl_bitpacking.proofs.patching.write_values.Given as goal
 abbrev pub invariant-loop-k : goal.invariant-loop-k
 invariant-loop-k g l = record {
   whole : length l.items ≡ length l.initial.items;
-  put : (i : ℕ) → i < length l.items → value_at g.T.Number.value l.items i ≡ unwrap_or (option_map (plus_block_reference g.T.NativePType.PTYPE (map g.T.Number.value l.references) ((l.first + i) / 1024)) (found_below (map g.T.Number.value l.values) l.k (rank_of (l.offset + i) (map unsigned_abs (map g.I.Number.value l.indices))))) (value_at g.T.Number.value l.initial.items i);
+  put : (i : ℕ) → i < length l.items → value_at g.T.Number.value l.items i ≡ unwrap_or (option_map (plus_block_reference g.T.NativePType.PTYPE (map g.T.Number.value l.references) ((l.first + i) / 1024)) (found_below (map g.T.Number.value l.placed.values.now) l.k (rank_of (l.placed.offset + i) (map unsigned_abs (map g.I.Number.value l.placed.indices.now))))) (value_at g.T.Number.value l.initial.items i);
 }

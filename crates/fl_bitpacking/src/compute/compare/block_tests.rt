@@ -8,16 +8,17 @@ ghost use Rattle.fl_bitpacking.specs.RangeTests.{passes};
 
 use crate::compute::compare::PackedTest;
 use crate::compute::range_test::pattern;
+use crate::references::References;
 use fl_column::PrimitiveArray;
 use fl_types::{NativePType, PValue, match_each_integer_ptype};
 
 /// The tests of the items of packed blocks.
 #[derive(Clone, Copy)]
 pub(super) struct BlockTests<'a> {
-    /// The test of each item, or of its sum with the reference of its block.
+    /// The test of each item, or of its sum with its reference.
     pub(super) test: PackedTest,
-    /// The reference of each block, or `None` if the items themselves are tested.
-    pub(super) references: Option<&'a PrimitiveArray>,
+    /// What is added to the items before they are tested.
+    pub(super) references: References<'a>,
 }
 
 fn reference_typed<T: NativePType>(references: &PrimitiveArray, j: usize) -> PValue
@@ -67,11 +68,9 @@ impl BlockTests<'_> {
         ensures sums { (z : ℤ) → passes result.range z ≡ passes_in self.entry j z }
     {
         match self.references {
-            Some(references) => {
-                let reference = reference_at(references, j);
-                self.test.of_sums(reference)
-            }
-            None => self.test,
+            References::None => self.test,
+            References::Global(reference) => self.test.of_sums(reference),
+            References::PerBlock(references) => self.test.of_sums(reference_at(references, j)),
         }
     }
 }

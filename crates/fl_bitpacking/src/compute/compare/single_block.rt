@@ -3,7 +3,6 @@
 ghost use Rattle.std.specs.Prelude.{◌≡◌, ◌+◌, ◌*◌, ◌/◌, ◌%◌, ◌<◌, ◌≤◌, ◌≢◌, ℕ, length, map, min, option_map, unwrap_or, if◌then◌else◌};
 ghost use Rattle.fastlanes.specs.Compared.{has_bit, is_bit_set};
 ghost use Rattle.fl_types.specs.Integers.{bits_of_type};
-ghost use Rattle.fl_column.specs.Numbers.{numbers_by};
 ghost use Rattle.fl_patches.specs.PatchMaps.{patched, patched_in};
 ghost use Rattle.fl_bitpacking.specs.BlockAnswers.{AreBlockAnswers};
 ghost use Rattle.fl_bitpacking.specs.Blocks.{blocks_of, item_of_blocks};
@@ -11,7 +10,7 @@ ghost use Rattle.fl_bitpacking.specs.Columns.{block_count, column_of_packed};
 ghost use Rattle.fl_bitpacking.specs.Compared.{IsPackedTest};
 ghost use Rattle.fl_bitpacking.specs.Decided.{is_decided};
 ghost use Rattle.fl_bitpacking.specs.Parts.{AreReadable, Fit, blocks_to_read, parts_of};
-ghost use Rattle.fl_bitpacking.specs.Placed.{ArePlaced, value_beside};
+ghost use Rattle.fl_bitpacking.specs.Placed.{ArePlacedIn, value_placed};
 ghost use Rattle.fl_bitpacking.specs.RangeTests.{IsTestOf, passes};
 ghost use Rattle.fl_bitpacking.specs.ReadWidths.{AreWidthsOf};
 ghost use Rattle.fl_bitpacking.specs.Taken.{HasStarts};
@@ -22,11 +21,11 @@ use crate::compute::range_test::RangeTest;
 use crate::compute::take::runs::block_start;
 use crate::packed_data::{BlockExtent, PackedData};
 use crate::packed_reader::PackedReader;
-use crate::patching::place_of;
-use crate::patching::ranges::{count_before, count_typed, part_of};
+use crate::patching::ranges::{count_before, count_typed, patches_between};
+use crate::patching::{PlacedValues, place_of};
 use crate::places::places_from;
 use fastlanes::{FL_CHUNK_SIZE, FastLanes, Work};
-use fl_column::{PhysicalPType, number_at};
+use fl_column::PhysicalPType;
 use fl_patches::{Patches, Widths};
 use fl_types::{NativePType, match_each_integer_ptype};
 
@@ -62,25 +61,23 @@ fn put_bit(bits: &mut [u64; 16], i: usize, on: bool)
     bits[k] = with_bit(bits[k], i % 64, on);
 }
 
-/// Writes the answers for values at the places of their indices, of which `offset` is the first item's.
+/// Writes the answers for values in their places among the items of a part.
 fn put_answers<T: PhysicalPType, I: NativePType>(
     test: PackedTest,
-    indices: &[I],
-    values: &[T],
-    offset: usize,
+    placed: PlacedValues<T, I>,
     part: BlockPart,
     bits: &mut [u64; 16],
 )
     requires test { IsPackedTest test }
     requires typed { test.ptype ≡ T.PTYPE }
     requires block { part.low + part.len ≤ 1024 }
-    requires placed { ArePlaced (numbers_by I.value indices.now) (length values.now) offset part.len }
-    ensures bits { (i : ℕ) → i < part.len → has_bit bits.new (part.low + i) ≡ unwrap_or (option_map (passes test.range) (value_beside (numbers_by I.value indices.now) (map T.value values.now) (offset + i))) (has_bit bits.old (part.low + i)) }
+    requires placed { ArePlacedIn I.value part.len placed }
+    ensures bits { (i : ℕ) → i < part.len → has_bit bits.new (part.low + i) ≡ unwrap_or (option_map (passes test.range) (value_placed I.value T.value placed.entry i)) (has_bit bits.old (part.low + i)) }
     ensures whole { length bits.new ≡ 16 }
 {
-    for k in 0..indices.len() {
-        let place = place_of(indices, k, offset);
-        let answer = passes_at(test, values, k);
+    for k in 0..placed.indices.len() {
+        let place = place_of(placed.indices, k, placed.offset);
+        let answer = passes_at(test, placed.values, k);
         put_bit(bits, part.low + place, answer);
     }
 }
@@ -104,17 +101,8 @@ fn put_typed<T: PhysicalPType, I: NativePType>(
     let _len = patches.array_len();
     let before = count_before::<I>(patches, part.from);
     let after = count_typed::<I>(patches, part.from, before, part.from + part.len);
-    let indices = patches.indices().as_slice::<I>();
-    let values = patches.values().as_slice::<T>();
-    if before == after {
-        return;
-    }
-    // For the proof: an index is below 2 ^ 64, and so is the sum.
-    let _index = number_at(indices, before);
-    let offset = patches.offset() + part.from;
-    let indices = part_of(indices, before, after);
-    let values = part_of(values, before, after);
-    put_answers(test, indices, values, offset, part, bits);
+    let placed = patches_between::<T, I>(patches, part.from, before, after);
+    put_answers(test, placed, part, bits);
 }
 
 /// Writes the answers for the patches of a part.

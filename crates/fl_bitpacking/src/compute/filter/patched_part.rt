@@ -6,7 +6,8 @@ ghost use Rattle.fl_patches.specs.PatchMaps.{patched, patched_in, patches_before
 ghost use Rattle.fl_bitpacking.specs.Blocks.{value_at};
 ghost use Rattle.fl_bitpacking.specs.Filtered.{count_before};
 
-use crate::patching::ranges::{count_typed, write_between};
+use crate::patching::ranges::{count_typed, patches_between};
+use crate::patching::write_values;
 use fl_patches::Patches;
 use fl_types::{NativePType, match_each_integer_ptype};
 use num_traits::WrappingAdd;
@@ -53,9 +54,11 @@ fn patch_typed<T: NativePType + WrappingAdd, I: NativePType>(
     requires few { length items.old ≤ 1024 }
     requires before { before ≡ patches_before from patches.now }
     requires after { after ≡ patches_before (from + length items.old) patches.now }
+    requires order { before ≤ after }
     ensures { (i : ℕ) → i < length items.old → value_at T.value items.new i ≡ unwrap_or (patched patches.now (from + i)) (value_at T.value items.old i) }
 {
-    write_between::<T, I>(patches, from, before, after, &[], 0, items);
+    let placed = patches_between::<T, I>(patches, from, before, after);
+    write_values(placed, &[], 0, items);
 }
 
 /// Writes the patches' values over what is stored. The first item is the one at `from`; there are `before`

@@ -2,7 +2,7 @@ use Rattle.std.proofs.Common.{◌≡◌, ◌∙◌, ap, length, subst, arith}
 use Rattle.fl_column.specs.Columns.{Column}
 use Rattle.fl_bitpacking.specs.Blocks.{blocks_of, value_at}
 use Rattle.fl_bitpacking.specs.Columns.{BitPackedParts, column_of_packed}
-use Rattle.fl_bitpacking.specs.References.{plus_references_if_some}
+use Rattle.fl_bitpacking.specs.References.{plus_references}
 use Rattle.fl_array.specs.PackedSums.{column_of_sums}
 use Rattle.fl_array.specs.Readers.{AreItemsFrom}
 use Rattle.fl_array.proofs.BitPackedLaws.{bitpacked_len}
@@ -29,6 +29,6 @@ returns g c =
     let of = c.requires.sound.widths c.view-widths.result c.view-widths.ensures in
     let n = length c.args.items.now in
     let integer = value_at g.T.Number.value c.read_into.new.items in
-    let read = subst (λ (parts : BitPackedParts). AreItemsFrom c.args.start n integer (plus_references_if_some c.view-added.result parts.offset (column_of_packed parts (blocks_of c.view-widths.result)))) c.packed_data-data.ensures c.read_into.ensures.items in
-    let same = ap (λ (x : Column). plus_references_if_some c.view-added.result a.parts.offset x) (read_column a c.view-widths.result of) ∙ c.view-added.ensures.sums a.parts.offset _ in
+    let read = subst (λ (parts : BitPackedParts). AreItemsFrom c.args.start n integer (plus_references c.view-added.result parts.offset (column_of_packed parts (blocks_of c.view-widths.result)))) c.packed_data-data.ensures c.read_into.ensures.items in
+    let same = ap (λ (x : Column). plus_references c.view-added.result a.parts.offset x) (read_column a c.view-widths.result of) ∙ c.view-added.ensures.sums a.parts.offset _ in
     subst (λ (x : Column). AreItemsFrom c.args.start n integer x) same read

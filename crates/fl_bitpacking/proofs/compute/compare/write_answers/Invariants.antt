@@ -8,5 +8,5 @@ use Rattle.fl_bitpacking.proofs.compute.compare.write_answers.Given as goal
 abbrev pub invariant-loop-k : goal.invariant-loop-k
 invariant-loop-k g l = record {
   whole : length l.bits ≡ length l.initial.bits;
-  put : (i : ℕ) → i < length l.bits → get_or l.bits i false ≡ unwrap_or (option_map (passes_in l.tests ((l.first + i) / 1024)) (found_below (map g.T.Number.value l.values) l.k (rank_of (l.offset + i) (map unsigned_abs (map g.I.Number.value l.indices))))) (get_or l.initial.bits i false);
+  put : (i : ℕ) → i < length l.bits → get_or l.bits i false ≡ unwrap_or (option_map (passes_in l.tests ((l.first + i) / 1024)) (found_below (map g.T.Number.value l.placed.values.now) l.k (rank_of (l.placed.offset + i) (map unsigned_abs (map g.I.Number.value l.placed.indices.now))))) (get_or l.initial.bits i false);
 }

@@ -9,5 +9,5 @@ use Rattle.fl_bitpacking.proofs.compute.compare.single_block.put_answers.Given a
 abbrev pub invariant-loop-k : goal.invariant-loop-k
 invariant-loop-k g l = record {
   whole : length l.bits ≡ 16;
-  put : (i : ℕ) → i < l.part.len → has_bit l.bits (l.part.low + i) ≡ unwrap_or (option_map (passes l.test.range) (found_below (map g.T.Number.value l.values) l.k (rank_of (l.offset + i) (map unsigned_abs (map g.I.Number.value l.indices))))) (has_bit l.initial.bits (l.part.low + i));
+  put : (i : ℕ) → i < l.part.len → has_bit l.bits (l.part.low + i) ≡ unwrap_or (option_map (passes l.test.range) (found_below (map g.T.Number.value l.placed.values.now) l.k (rank_of (l.placed.offset + i) (map unsigned_abs (map g.I.Number.value l.placed.indices.now))))) (has_bit l.initial.bits (l.part.low + i));
 }
