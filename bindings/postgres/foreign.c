@@ -19,7 +19,6 @@
 #if PG_VERSION_NUM >= 180000
 #include <commands/explain_format.h>
 #endif
-#include <commands/vacuum.h>
 #include <fcntl.h>
 #include <foreign/fdwapi.h>
 #include <foreign/foreign.h>

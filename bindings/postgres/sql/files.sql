@@ -34,7 +34,6 @@ EXPLAIN (COSTS OFF) SELECT * FROM prices WHERE value > 2.5 OR idx = 0;
 EXPLAIN (COSTS OFF) SELECT * FROM prices WHERE value < NULL::bigint;
 EXPLAIN (COSTS OFF) SELECT * FROM prices WHERE value < 1.5::bigint;
 EXPLAIN (COSTS OFF) SELECT * FROM prices WHERE value < length(current_setting('transaction_isolation'));
-EXPLAIN (COSTS OFF, FORMAT JSON) SELECT value FROM lone WHERE value = 500;
 SET plan_cache_mode = force_generic_plan;
 PREPARE below(integer) AS SELECT * FROM prices WHERE value < $1;
 EXPLAIN (COSTS OFF) EXECUTE below(3);
