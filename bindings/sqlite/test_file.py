@@ -50,10 +50,11 @@ class Rows(Files):
             yield from (f"value {op} {it}" for it in constants)
             yield from (f"idx {op} {it}" for it in places)
             yield f"{one} {op} value"
+        yield " AND ".join(f"value >= {one - it} AND value < {one + 20 - it}" for it in range(20))
         yield from (f"value BETWEEN {one} AND {two}", f"value > {one} AND value < {two}", f"value = {one} OR value = {two}",
                     f"value IN ({one}, {two}, 7)", f"idx IN (3, 0, {len(items) - 1})", f"idx < 4 AND value >= {one}",
                     "value IS NULL", "value IS NOT NULL", "value IS NULL AND idx > 2", "idx IS NULL", "value = NULL",
-                    "idx < NULL", f"value < {one}.5", f"value >= '{one}'", "value < 'a'", "value > x'00'", "idx > 2.5", "idx <= '3'",
+                    "idx < NULL", "idx NOTNULL", f"value < {one}.5", f"value >= '{one}'", "value < 'a'", "value > x'00'", "idx > 2.5", "idx <= '3'",
                     f"NOT value < {one}", f"value + 0 < {one}", "value = idx", "value BETWEEN 3 AND 2", "rowid = 2", "rowid > 1")  # fmt: skip
 
     def test_rows_are_those_of_a_table(self):
