@@ -9,20 +9,13 @@
 #include <miscadmin.h>
 #include <utils/memutils.h>
 
-/* Memory of a context; what there is none for is PostgreSQL's own error. */
-static void *resize(void *owner, void *memory, size_t size) {
-    if (size > 0) return memory == NULL ? MemoryContextAllocHuge(owner, size) : repalloc_huge(memory, size);
-    if (memory != NULL) pfree(memory);
-    return NULL;
-}
-
 static struct builder *new_state(FunctionCallInfo fcinfo, uint8_t type) {
     MemoryContext context;
     if (!AggCheckCallContext(fcinfo, &context)) elog(ERROR, "flcol_agg is called outside of an aggregate");
     struct builder *state = MemoryContextAllocZero(context, sizeof *state);
     state->type = type;
     state->most = COLUMN_ITEMS;
-    state->resize = resize;
+    state->resize = resize_in;
     state->owner = context;
     return state;
 }

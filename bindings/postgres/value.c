@@ -44,8 +44,7 @@ static int error_code(int32_t status) {
     }
 }
 
-/* The SQLSTATE of what bytes are refused for. */
-static int container_error_code(int32_t status) {
+int container_error_code(int32_t status) {
     if (status == FLCOL_OUT_OF_MEMORY || status == FLCOL_LENGTH_OVERFLOW) return error_code(status);
     return ERRCODE_INVALID_BINARY_REPRESENTATION;
 }
@@ -67,8 +66,13 @@ void check(int32_t status) {
 
 /* ---- The library's memory ---- */
 
-/* Has something given back with the current memory context. */
-static void hold(void (*give_back)(void *), void *what) {
+void *resize_in(void *context, void *memory, size_t size) {
+    if (size > 0) return memory == NULL ? MemoryContextAllocHuge(context, size) : repalloc_huge(memory, size);
+    if (memory != NULL) pfree(memory);
+    return NULL;
+}
+
+void hold(void (*give_back)(void *), void *what) {
     MemoryContextCallback *callback = palloc0(sizeof *callback);
     callback->func = give_back;
     callback->arg = what;

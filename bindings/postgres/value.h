@@ -17,6 +17,15 @@ extern void refuse(int32_t status) pg_attribute_noreturn();
 /* Raises the error of a status, unless it is 0. */
 extern void check(int32_t status);
 
+/* The SQLSTATE of what bytes are refused for. */
+extern int container_error_code(int32_t status);
+
+/* Has something given back with the current memory context. */
+extern void hold(void (*give_back)(void *), void *what);
+
+/* Memory of a context; what there is none for is PostgreSQL's own error. */
+extern void *resize_in(void *context, void *memory, size_t size);
+
 /* The column of a value, or of bytes. The library's memory is given back with the current memory context, also where an
    error jumps; `column_close` gives it back before. */
 extern struct column *open_value(Datum value);

@@ -109,8 +109,7 @@ static const struct integer_type types[] = {
 
 /* ---- Columns that are kept ---- */
 
-/* Looks at the array that was read, and takes it for a column of integers. */
-static int32_t take_parts(struct column *column) {
+int32_t column_take(struct column *column) {
     uint8_t dtype = 0;
     int32_t status = flcol_len(&column->array, &column->len);
     if (status == FLCOL_OK) status = flcol_dtype(&column->array, &dtype);
@@ -124,7 +123,7 @@ static int32_t take_parts(struct column *column) {
 int32_t column_open(struct column *column, const void *bytes, size_t len) {
     column->array = FLCOL_EMPTY;
     int32_t status = flcol_deserialize(bytes, len, &column->array);
-    if (status == FLCOL_OK) status = take_parts(column);
+    if (status == FLCOL_OK) status = column_take(column);
     if (status != FLCOL_OK) column_close(column);
     return status;
 }
@@ -283,18 +282,35 @@ static uint8_t *room_at(uint8_t *bitmap, const struct part *part) {
     return bitmap == NULL ? NULL : bitmap + part->from / 8;
 }
 
+/* Where each integer of a type compares in the same way with a constant, turns the test into one of the type that has the same
+   answers. */
+static void decide(const struct integer_type *type, uint8_t *op, int64_t *constant) {
+    bool answer;
+    if (!is_decided(type, *op, *constant, &answer)) return;
+    *op = answer ? FLCOL_GTE : FLCOL_LT;
+    *constant = type->least;
+}
+
 int32_t gather_compared(struct column *column, struct part *part, void *gathered) {
     const struct compared *compared = gathered;
     const struct integer_type *type = &types[column->type];
     uint8_t op = compared->op;
     int64_t constant = compared->constant;
-    bool answer;
-    if (is_decided(type, op, constant, &answer)) {
-        op = answer ? FLCOL_GTE : FLCOL_LT;
-        constant = type->least;
-    }
+    decide(type, &op, &constant);
     return type->compare(part, op, constant, room_at(compared->answers->bits, part),
                          room_at(compared->answers->validity, part));
+}
+
+int32_t column_keep(struct column *column, size_t from, uint8_t op, int64_t constant, uint8_t mask[COLUMN_WINDOW / 8]) {
+    const struct integer_type *type = &types[column->type];
+    struct part part = {FLCOL_EMPTY, from, 0, mask};
+    uint8_t bits[COLUMN_WINDOW / 8];
+    decide(type, &op, &constant);
+    int32_t status = part_of(column, from, &part.array, &part.len);
+    if (status == FLCOL_OK) status = type->compare(&part, op, constant, bits, NULL);
+    if (status == FLCOL_OK) memcpy(mask, bits, bitmap_bytes(part.len));
+    flcol_free(&part.array);
+    return status;
 }
 
 int32_t gather_listed(struct column *column, struct part *part, void *gathered) {

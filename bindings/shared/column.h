@@ -45,6 +45,9 @@ struct column {
    FLCOL_LENGTH_OVERFLOW: more than COLUMN_ITEMS items. */
 int32_t column_open(struct column *column, const void *bytes, size_t len);
 
+/* Looks at the array that was put into a column, and sets what else there is of it. FLCOL_NOT_INTEGER. FLCOL_LENGTH_OVERFLOW. */
+int32_t column_take(struct column *column);
+
 /* Gives the array back, if one is held. */
 void column_close(struct column *column);
 
@@ -186,6 +189,10 @@ struct listed {
 
 /* Each writes answers to the struct of its name. No mask goes with a list. */
 gather_fn gather_compared, gather_listed;
+
+/* Of the COLUMN_WINDOW items from `from` on, or of as many as there are, clears the bits in a mask of those that don't compare so
+   with a constant; a null compares with none. */
+int32_t column_keep(struct column *column, size_t from, uint8_t op, int64_t constant, uint8_t mask[COLUMN_WINDOW / 8]);
 
 /* Writes the integers of a list that the column's type has over the list, as integers of that type; `len` becomes how many
    they are. */

@@ -5,8 +5,8 @@
 
 enum { ROW_ID = -1, INDEX, VALUE, CONTAINER }; /* the table's columns; the last is the argument */
 
-/* What is known of the indices that are asked for, behind the container. */
-enum { EQUAL = 1, LEAST = 2, GREATEST = 4 };
+/* What is known of the indices that are asked for, behind the container; or that there is no container. */
+enum { EQUAL = 1, LEAST = 2, GREATEST = 4, UNKNOWN = 8 };
 
 struct cursor {
     sqlite3_vtab_cursor base;
@@ -72,8 +72,10 @@ static void narrow(sqlite3_index_info *info) {
     info->orderByConsumed = info->nOrderBy == 1 && info->aOrderBy[0].iColumn <= INDEX && !info->aOrderBy[0].desc;
 }
 
-/* The container has to be given. Rows come by their indices. */
+/* The container has to be given. A plan without one, as SQLite looks for where conditions are joined by OR, is dearer than all
+   others; it fails where it is the only one. Rows come by their indices. */
 static int best_index(sqlite3_vtab *table, sqlite3_index_info *info) {
+    (void)table;
     bool is_named = false;
     for (int i = 0; i < info->nConstraint; i++) {
         if (info->aConstraint[i].iColumn != CONTAINER || info->aConstraint[i].op != SQLITE_INDEX_CONSTRAINT_EQ) continue;
@@ -84,7 +86,9 @@ static int best_index(sqlite3_vtab *table, sqlite3_index_info *info) {
         narrow(info);
         return SQLITE_OK;
     }
-    return is_named ? SQLITE_CONSTRAINT : fail(table, FLCOL_NO_ARRAY);
+    info->idxNum = UNKNOWN;
+    info->estimatedCost = 1e99;
+    return is_named ? SQLITE_CONSTRAINT : SQLITE_OK;
 }
 
 static int open_cursor(sqlite3_vtab *table, sqlite3_vtab_cursor **out) {
@@ -134,6 +138,7 @@ static int filter(sqlite3_vtab_cursor *base, int bounds, const char *text, int c
     (void)text, (void)count;
     struct cursor *cursor = (struct cursor *)base;
     leave(cursor);
+    if (bounds == UNKNOWN) return fail(base->pVtab, FLCOL_NO_ARRAY);
     if (sqlite3_value_type(values[0]) == SQLITE_NULL) return SQLITE_OK;
     cursor->container = sqlite3_value_dup(values[0]);
     if (cursor->container == NULL) return SQLITE_NOMEM;

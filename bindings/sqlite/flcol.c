@@ -14,5 +14,6 @@ __attribute__((visibility("default"))) int sqlite3_flcol_init(sqlite3 *db, char 
     if (code == SQLITE_OK) code = add_aggregates(db);
     if (code == SQLITE_OK) code = add_each(db);
     if (code == SQLITE_OK) code = add_bits(db);
+    if (code == SQLITE_OK) code = add_file(db);
     return code;
 }

@@ -130,19 +130,18 @@ static int32_t answer_slice(sqlite3_context *context, struct column *column, int
     return status;
 }
 
-/* Whether the statement is to end early, which SQLite says from 3.41 on. */
-static bool is_interrupted(sqlite3_context *context) {
+bool is_interrupted(sqlite3 *db) {
 #if SQLITE_VERSION_NUMBER >= 3041000
-    return sqlite3_libversion_number() >= 3041000 && sqlite3_is_interrupted(sqlite3_context_db_handle(context));
+    return sqlite3_libversion_number() >= 3041000 && sqlite3_is_interrupted(db);
 #else
-    (void)context;
+    (void)db;
     return false;
 #endif
 }
 
 int32_t gather_all(sqlite3_context *context, struct column *column, const uint8_t *mask, gather_fn *gather, void *gathered) {
     for (size_t from = 0; from < column->len; from += COLUMN_WINDOW) {
-        if (is_interrupted(context)) return INTERRUPTED;
+        if (is_interrupted(sqlite3_context_db_handle(context))) return INTERRUPTED;
         const int32_t status = column_gather(column, from, mask, gather, gathered);
         if (status != FLCOL_OK) return status;
     }

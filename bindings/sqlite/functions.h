@@ -8,12 +8,13 @@
 
 extern const sqlite3_api_routines *sqlite3_api;
 
-/* Adds the functions, the aggregates, the table of values and the functions of bits to a connection; each answers a code of
-   SQLite. */
+/* Adds the functions, the aggregates, the table of values, the functions of bits and the table of a file to a connection; each
+   answers a code of SQLite. */
 int add_functions(sqlite3 *db);
 int add_aggregates(sqlite3 *db);
 int add_each(sqlite3 *db);
 int add_bits(sqlite3 *db);
+int add_file(sqlite3 *db);
 
 /* Opens the column of a value. FLCOL_BAD_CONTAINER: it is no blob. */
 int32_t open_value(struct column *column, sqlite3_value *value);
@@ -35,6 +36,9 @@ void with_column(sqlite3_context *context, int count, sqlite3_value **values, co
 
 /* Whether a value is null. */
 bool has_null(int count, sqlite3_value **values);
+
+/* Whether the statement is to end early, which SQLite says from 3.41 on. */
+bool is_interrupted(sqlite3 *db);
 
 /* Gathers from all items, or from those of a mask where it is not NULL, unless the statement is to end early, which is a status
    too. */

@@ -312,10 +312,11 @@ class Columns(Case):
         self.fill(items)
         for condition in ('"index" = 66000', '"index" > 69990', '"index" >= -5 AND "index" < 3', '"index" BETWEEN 100 AND 102',
                           '"index" = -1', '"index" = 70000', "\"index\" = '7'", '"index" > 69998.5', 'rowid = 3', '"index" = 2.5',
-                          '"index" IS NULL', '"index" < -9223372036854775807', '"index" > 5 AND "index" = 3', '"index" IN (4, 2)'):  # fmt: skip
+                          '"index" IS NULL', '"index" < -9223372036854775807', '"index" > 5 AND "index" = 3', '"index" IN (4, 2)',
+                          '"index" = 4 OR "index" = 69999', 'value = 7 OR rowid = 3'):  # fmt: skip
             with self.subTest(condition):
                 rows = self.base.execute(f'SELECT "index", value FROM flcol_each(?) WHERE {condition} ORDER BY 1', (blob,)).fetchall()
-                kept = condition.replace('"index"', "i").replace("rowid", "i")
+                kept = condition.replace('"index"', "i").replace("rowid", "i").replace("value", "x")
                 self.assertEqual(rows, self.base.execute(f"SELECT i, x FROM plain WHERE {kept} ORDER BY 1").fetchall())
 
 

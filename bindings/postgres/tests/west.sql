@@ -30,6 +30,14 @@ CREATE INDEX ON ranged_0 (least, greatest);
 CREATE FOREIGN TABLE ranged_1 PARTITION OF ranged FOR VALUES IN (1) SERVER east_1;
 INSERT INTO ranged
     SELECT id / 20000, id / 1000, flcol_agg(id ORDER BY id) FROM generate_series(0::bigint, 39999) id GROUP BY id / 20000, id / 1000;
+
+-- A column of two files, of which the second one is on the other server.
+\set filename :data '/west'
+CREATE SERVER files FOREIGN DATA WRAPPER flcol_file;
+CREATE TABLE spread (idx bigint, value bigint) PARTITION BY RANGE (idx);
+CREATE FOREIGN TABLE spread_0 PARTITION OF spread FOR VALUES FROM (0) TO (20000) SERVER files OPTIONS (filename :'filename');
+CREATE FOREIGN TABLE spread_1 PARTITION OF spread FOR VALUES FROM (20000) TO (40000) SERVER east_1;
+
 ANALYZE ranged;
 ANALYZE chunks;
 ANALYZE plain;
