@@ -34,7 +34,8 @@ class File:
 
     The length, the counts, the sum, the least and the greatest item stand in the foot of the file, and a test reads the chunks
     alone of which the foot does not say that no item passes, or that each does. All that is believed where the file was not
-    verified: checksums find what was changed by accident, and only ``verify`` finds what somebody wrote there on purpose.
+    verified: checksums find what was changed by accident, and only ``verify`` finds what somebody wrote there on purpose. One
+    chunk is in memory at a time, and the one that an item was read of last.
 
     Threads may share a file, and read different chunks at the same time. Arrays that come from it stay when it is closed. It is
     mapped into memory: chunks may be added to it meanwhile, of which this object knows nothing. A file that another program
@@ -42,11 +43,12 @@ class File:
     the signal SIGBUS, and nothing here can prevent it. What replaces a file by another one, as ``flcol.Writer`` does, is safe.
     """
 
-    __slots__ = ("_content", "_number", "_records", "_ends", "_size", "__weakref__")
+    __slots__ = ("_content", "_number", "_records", "_ends", "_size", "_last", "__weakref__")
     __array_ufunc__ = None
 
     def __init__(self, content: Any) -> None:
         self._content: Any = content
+        self._last: Optional[tuple[int, Array]] = None  # the chunk of the item that was read last
         dtype, count = c_uint8(), c_size_t()
         self._call("look", byref(dtype), byref(count))
         self._number: int = dtype.value
@@ -62,7 +64,7 @@ class File:
 
     def close(self) -> None:
         """Lets go of the file. Arrays that were read from it stay."""
-        content, self._content = self._content, None
+        content, self._content, self._last = self._content, None, None
         if isinstance(content, mmap.mmap):
             try:
                 content.close()
@@ -267,8 +269,10 @@ class File:
         at = index + self._size if index < 0 else index
         if not 0 <= at < self._size:
             raise IndexError(f"index {index} is out of bounds for {self._size} items")
-        k = bisect_right(self._ends, at)
-        item: Optional[int] = self.chunk(k)[at - self._start(k)]
+        k, last = bisect_right(self._ends, at), self._last
+        if last is None or last[0] != k or self.closed:
+            self._last = last = k, self.chunk(k)
+        item: Optional[int] = last[1][at - self._start(k)]
         return item
 
     def _start(self, k: int) -> int:
@@ -346,7 +350,7 @@ class OfContainer(File):
         found = frombytes(content)
         if not isinstance(found, Array):
             raise TypeError("a file of chunks has integers, and this container has booleans: flcol.frombytes reads it")
-        self._content, self._array = content, found
+        self._content, self._last, self._array = content, None, found
         self._number, self._size, self._ends = found._number, found.size, [found.size]
 
     @property

@@ -602,7 +602,7 @@ class FromStrangers(InFolder):
     ITEMS = [3, None, 5, 7, 200, 201, None]
 
     def small(self):
-        for dtype, scheme in (("uint8?", "bitpacked"), ("int16?", "for(bitpacked)"), ("uint32?", "primitive"), ("int64?", "delta")):
+        for dtype, scheme in (("uint8?", "for(bitpacked)"), ("int16?", "primitive")):
             with flcol.Writer(self.path, dtype) as writer:
                 writer.append(flcol.array(self.ITEMS[:4], dtype=dtype).encode(scheme))
                 writer.append(flcol.array(self.ITEMS[4:], dtype=dtype).encode("rle"))
@@ -636,7 +636,7 @@ class FromStrangers(InFolder):
         for name, content in self.small():
             files, first = 0, flcol.File(content).chunks[0].offset
             for at, byte in enumerate(content):
-                for other in {byte ^ 1, byte ^ 128, byte ^ 255, 0, 16, 255} - {byte}:
+                for other in (byte ^ 1, byte ^ 128, byte ^ 255):
                     with self.subTest(f"{name}, byte {at} is {other}"):
                         files += self.asked(content[:at] + bytes([other]) + content[at + 1 :])
             self.assertGreater(files, first)
