@@ -20,7 +20,12 @@ import numpy as np
 import flcol
 
 BLOCK = 1 << 20  # items that are made at a time
-MEASURED = "import resource, subprocess, sys; subprocess.run(sys.argv[1:], check=True); print(resource.getrusage(resource.RUSAGE_CHILDREN).ru_maxrss)"
+MEASURED = """
+import resource, subprocess, sys
+subprocess.run(sys.argv[1:], check=True)
+print(resource.getrusage(resource.RUSAGE_CHILDREN).ru_maxrss)
+"""
+SIDES = ("flcol", "npy", "sqlite")
 
 
 def blocks(name, items):
@@ -40,7 +45,8 @@ class Column:
     """A column as a file of chunks, as a file of NumPy and as a table."""
 
     def __init__(self, name, items, folder):
-        self.name, self.items, self.paths = name, items, {side: os.path.join(folder, f"{name}.{side}") for side in ("flcol", "npy", "sqlite")}
+        self.name, self.items = name, items
+        self.paths = {side: os.path.join(folder, f"{name}.{side}") for side in SIDES}
         self.seconds = dict.fromkeys(self.paths, 0.0)
         self.sink = np.lib.format.open_memmap(self.paths["npy"], "w+", np.int64, (items,))
         self.table = sqlite3.connect(self.paths["sqlite"])
@@ -86,18 +92,38 @@ class Column:
             lambda: int(np.count_nonzero(array < half)),
             lambda: ask("count(*) FROM t WHERE item < ?", half)[0],
         )
-        yield "sum", lambda: file.sum(), lambda: sum(map(int, np.add.reduceat(array, range(0, self.items, BLOCK)))), lambda: ask("sum(item) FROM t")[0]
-        yield "least, greatest", file.min_max, lambda: (int(array.min()), int(array.max())), lambda: self.table.execute("SELECT min(item), max(item) FROM t").fetchone()
-        yield "select 1 %", lambda: file.where_between(low, high), lambda: array[(array >= low) & (array <= high)], lambda: ask("item FROM t WHERE item BETWEEN ? AND ?", low, high)
+        yield "sum", file.sum, lambda: sum_of(array), lambda: ask("sum(item) FROM t")[0]
+        yield (
+            "least, greatest",
+            file.min_max,
+            lambda: (int(array.min()), int(array.max())),
+            lambda: self.table.execute("SELECT min(item), max(item) FROM t").fetchone(),
+        )
+        yield (
+            "the items of a selective test",
+            lambda: file.where_between(low, high),
+            lambda: array[(array >= low) & (array <= high)],
+            lambda: ask("item FROM t WHERE item BETWEEN ? AND ?", low, high),
+        )
         part = slice(at + 5, at + 100_005)
-        yield "100,000 items", lambda: file[part], lambda: array[part].copy(), lambda: ask("item FROM t WHERE rowid BETWEEN ? AND ?", at + 6, at + 100_005)
-        places = {side: itertools.cycle(range(self.items // 20, self.items, self.items // 9)) for side in self.paths}  # of other chunks
+        yield (
+            "100,000 items",
+            lambda: file[part],
+            lambda: array[part].copy(),
+            lambda: ask("item FROM t WHERE rowid BETWEEN ? AND ?", at + 6, at + 100_005),
+        )
+        places = {side: itertools.cycle(range(self.items // 20, self.items, self.items // 9)) for side in SIDES}  # of other chunks
         yield (
             "one item",
             lambda: file[next(places["flcol"])],
             lambda: int(array[next(places["npy"])]),
             lambda: ask("item FROM t WHERE rowid = ?", next(places["sqlite"]) + 1)[0],
         )
+
+
+def sum_of(array):
+    """The exact sum, of blocks whose sums NumPy's words have."""
+    return sum(map(int, np.add.reduceat(array, range(0, len(array), BLOCK))))
 
 
 def listed(answer):
@@ -129,11 +155,12 @@ def memory(path, *question):
 
 def race(column, rounds):
     """Prints the tables of a column."""
-    print(f"\n{column.name}: {column.items} items of i64, {len(column.file.chunks)} chunks, the first {column.file.chunk(0).scheme}\n")
+    chunks = f"{len(column.file.chunks)} chunks, the first {column.file.chunk(0).scheme}"
+    print(f"\n{column.name}: {column.items} items of i64, {chunks}\n")
     print("| | flcol | NumPy on a map | SQLite |\n|---|---|---|---|")
-    sizes = [os.path.getsize(column.paths[side]) for side in ("flcol", "npy", "sqlite")]
+    sizes = [os.path.getsize(column.paths[side]) for side in SIDES]
     print(f"| MB | {' | '.join(f'{size / 1e6:.1f}' for size in sizes)} |")
-    print(f"| written | {' | '.join(shown(column.seconds[side]) for side in ('flcol', 'npy', 'sqlite'))} |")
+    print(f"| written | {' | '.join(shown(column.seconds[side]) for side in SIDES)} |")
     for name, *sides in column.questions():
         asked = [side for side in sides if side]
         answers = [listed(side()) for side in asked]
@@ -142,7 +169,7 @@ def race(column, rounds):
         print(f"| {name} | {' | '.join(times)} |", flush=True)
     half = int(column.array[column.items // 2])
     foot, read = memory(column.paths["flcol"], "sum"), memory(column.paths["flcol"], "count", "!=", str(half))
-    print(f"\nGreatest memory of `python3 -m flcol ask`: {foot:.1f} MB for the sum, which the foot has, {read:.1f} MB for `count != {half}`")
+    print(f"\nGreatest memory of `python3 -m flcol ask`: {foot:.1f} MB for the sum, {read:.1f} MB for `count != {half}`")
 
 
 def main():

@@ -13,7 +13,9 @@ A file is a container, a file of chunks, a .npy file of one dimension, or text w
 needs a type. Of a file of chunks, one chunk is in memory at a time, and what its foot says is believed unless --verify is given.
 `convert` writes a file of chunks, of any of these or of a column of comma-separated values or of a stream of Arrow: the one that
 there is, or that --column names, or says the number of from 1. Values are 64 bits wide and may be null if no type is given. A
-first line whose value is no integer has the names, and with --names it has them in any case. What is decoded is text, or a .npy file where its name ends so. `ask` answers a number, or `null` where no item is one, and
+first line whose value is no integer has the names, and with --names it has them in any case.
+
+What is decoded is text, or a .npy file where its name ends so. `ask` answers a number, or `null` where no item is one, and
 `where` the items in lines; nulls are left out. Operators are ==, !=, <, <=, > and >=, and `between 1 5` stands in the place of
 one with its integer, or by itself for `where between 1 5`. `copy` writes a line for each chunk of a column, as COPY of
 PostgreSQL reads it: its number, a tab, and its container in hexadecimal digits. With --closed a last line follows when the

@@ -39,8 +39,9 @@ class File:
 
     Threads may share a file, and read different chunks at the same time. Arrays that come from it stay when it is closed. It is
     mapped into memory: chunks may be added to it meanwhile, of which this object knows nothing. A file that another program
-    made shorter raises an error; but where that happens while a chunk is being read, the operating system ends the process, by
-    the signal SIGBUS, and nothing here can prevent it. What replaces a file by another one, as ``flcol.Writer`` does, is safe.
+    made shorter raises an error; but where that happens while a chunk is being read, or where a disk fails then, the operating
+    system ends the process by the signal SIGBUS, and nothing here can prevent it. What replaces a file by another one, as
+    ``flcol.Writer`` does, is safe.
     """
 
     __slots__ = ("_content", "_number", "_records", "_ends", "_size", "_last", "__weakref__")

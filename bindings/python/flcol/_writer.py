@@ -105,7 +105,7 @@ class Writer:
         if not isinstance(array, Array):
             raise TypeError(f"append takes an Array of {self.dtype}, and extend other items")
         if array._number % NULLABLE != self._number % NULLABLE or array.nullable and self._number < NULLABLE:
-            raise TypeError(f"the file has items of {self.dtype}, and the array of {array.dtype}: astype answers it in another type")
+            raise TypeError(f"the file has items of {self.dtype}, and the array of {array.dtype}: astype makes one of another type")
         if array._number != self._number:
             array = array.astype(self.dtype)
         self._write_gathered(len(self._values))

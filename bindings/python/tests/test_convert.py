@@ -38,10 +38,12 @@ class Converting(unittest.TestCase):
         for column in ("price, in cents", "2"):
             self.assertEqual(self.converted("--column", column, source=CSV), prices)
         self.assertEqual(self.converted("--column", "2", source=CSV.replace(b"\n", b"\r\n")), prices)
-        self.assertEqual(self.converted("--column", "day", "--dtype", "u8", "--chunk", 3, source=CSV), ("uint8", [1, 2, 3, 4], [3, 1]))
+        days = self.converted("--column", "day", "--dtype", "u8", "--chunk", 3, source=CSV)
+        self.assertEqual(days, ("uint8", [1, 2, 3, 4], [3, 1]))
         (self.folder / "table.csv").write_bytes(b"\xef\xbb\xbf" + CSV)
         self.assertEqual(self.converted("--column", "sold", path=self.folder / "table.csv"), ("int64?", [5, 6, None, 8], [4]))
-        for lines, items in ((b"1\n-2\n3", [1, -2, 3]), (b"1\nnull\n", [1, None]), (b"x\n1\n", [1]), (b"", []), (b"x\n", []), (b"1, 2\n", [2])):
+        lines_of = {b"1\n-2\n3": [1, -2, 3], b"1\nnull\n": [1, None], b"x\n1\n": [1], b"": [], b"x\n": [], b"1, 2\n": [2]}
+        for lines, items in lines_of.items():
             words = ["--column", "2"] if b"," in lines else []
             self.assertEqual(self.converted(*words, source=lines), ("int64?", items, [len(items)] * bool(items)))
         self.assertEqual(self.converted("--names", "--column", "2020", source=b"2019,2020\n1,2\n")[1], [2])
@@ -54,7 +56,9 @@ class Converting(unittest.TestCase):
         container = bytes(flcol.array(items, dtype="int16").compress())
         with flcol.Writer(self.folder / "chunks", "int16", chunk=70) as writer:
             writer.extend(items)
-        sources = {"container": container, "chunks": (self.folder / "chunks").read_bytes(), "npy": npy("{'descr': '<i2', 'shape': (4000,)}", bytes(flcol.array(items, dtype="int16").to_buffers()[0]))}
+        values = bytes(flcol.array(items, dtype="int16").to_buffers()[0])
+        sources = {"container": container, "chunks": (self.folder / "chunks").read_bytes()}
+        sources["npy"] = npy("{'descr': '<i2', 'shape': (4000,)}", values)
         for name, content in sources.items():
             (self.folder / name).write_bytes(content)
             for how in (dict(source=content), dict(path=self.folder / name)):
@@ -77,7 +81,8 @@ class Converting(unittest.TestCase):
                 return flcol.array(self.items, dtype="int32?")
 
         class Reader:
-            schema = types.SimpleNamespace(names=["a", "b"], field=lambda place: types.SimpleNamespace(type="int32", nullable=True))
+            field = types.SimpleNamespace(type="int32", nullable=True)
+            schema = types.SimpleNamespace(names=["a", "b"], field=lambda place: Reader.field)
             num_record_batches, get_batch = len(batches), staticmethod(lambda at: Batch(batches[at]))
 
             def __iter__(self):
@@ -86,7 +91,8 @@ class Converting(unittest.TestCase):
         ipc = types.SimpleNamespace(open_stream=lambda file: Reader(), open_file=lambda file: Reader())
         for head in (b"\xff\xff\xff\xff", b"ARROW1"):
             (self.folder / "in").write_bytes(head + bytes(20))
-            with (self.folder / "in").open("rb") as file, mock.patch.dict(sys.modules, {"pyarrow": types.SimpleNamespace(ipc=ipc)}):
+            there = mock.patch.dict(sys.modules, {"pyarrow": types.SimpleNamespace(ipc=ipc)})
+            with (self.folder / "in").open("rb") as file, there:
                 source = _convert.source_of(file, "b", False, lambda done, whole: None)
                 with flcol.Writer(self.out, source.dtype) as writer:
                     for piece in source.pieces:
@@ -99,14 +105,29 @@ class Converting(unittest.TestCase):
 
     def test_what_is_refused(self):
         bad = [
-            ([], CSV, "'day', 'price, in cents', 'sold'"), (["--column", "x"], CSV, "--column says"), (["--column", "4"], CSV, "--column says"),
-            (["--column", "0"], CSV, "--column says"), (["--column", "a"], b"a,a\n1,2\n", "--column says"), ([], b"1\n\n2\n", "line 2 is blank"),
-            ([], b"1\n1.5\n", "'1.5' is no integer"), ([], b"1\n 0x5\n", "'0x5' is no integer"), ([], b"1\n1_0\n", "'1_0' is no integer"),
-            ([], b'1\n"1\n2"\n', "is no integer"), (["--column", "2"], b"1,2\n3\n", "a row has 1 fields"), (["--type", "u8"], b"1\n300\n", "300 is no item of uint8"),
-            (["--type", "u8"], b"1\nnull\n", "CastNull"), ([], b"1\n" + b"9" * 19 + b"\n" + b"9" * 19 + b"9\n", "is no item of int64"), ([], b"1\n\xff\n", "line"),
-            ([], b'1\n"2', "line"), ([], BOOLEANS, "no type of integers"), (["--column", "1"], bytes(flcol.array([1])), "one column"),
-            ([], b"FLC2" + bytes(60), "BadMark"), ([], b"FLC1", "BadContainer"), (["--type", "f8"], b"1\n", "no type 'f8'"), ([], b"1\n" + b"5" * 200 + b"\n", "is no integer"),
-        ]  # fmt: skip
+            ([], CSV, "'day', 'price, in cents', 'sold'"),
+            (["--column", "x"], CSV, "--column says"),
+            (["--column", "4"], CSV, "--column says"),
+            (["--column", "0"], CSV, "--column says"),
+            (["--column", "a"], b"a,a\n1,2\n", "--column says"),
+            (["--column", "2"], b"1,2\n3\n", "a row has 1 fields"),
+            (["--column", "1"], bytes(flcol.array([1])), "one column"),
+            (["--type", "u8"], b"1\n300\n", "300 is no item of uint8"),
+            (["--type", "u8"], b"1\nnull\n", "CastNull"),
+            (["--type", "f8"], b"1\n", "no type 'f8'"),
+            ([], b"1\n\n2\n", "line 2 is blank"),
+            ([], b"1\n1.5\n", "'1.5' is no integer"),
+            ([], b"1\n 0x5\n", "'0x5' is no integer"),
+            ([], b"1\n1_0\n", "'1_0' is no integer"),
+            ([], b'1\n"1\n2"\n', "is no integer"),
+            ([], b"1\n" + b"5" * 200 + b"\n", "is no integer"),
+            ([], b"1\n99999999999999999999\n", "is no item of int64"),
+            ([], b"1\n\xff\n", "line"),
+            ([], b'1\n"2', "line"),
+            ([], BOOLEANS, "no type of integers"),
+            ([], b"FLC2" + bytes(60), "BadMark"),
+            ([], b"FLC1", "BadContainer"),
+        ]
         for words, source, said in bad:
             with self.subTest(words=words, source=source[:20]):
                 status, written, error = run("convert", *words, "-", self.out, source=source)
@@ -114,7 +135,8 @@ class Converting(unittest.TestCase):
                 self.assertIn(said, error)
                 self.assertRegex(error, r"\Aflcol: [^\n]+\n\Z")
                 self.assertEqual(list(self.folder.iterdir()), [])
-        for target, said in (("-", "has a path"), ("/dev/full", "no file of a disk"), (self.folder / "none" / "x", "No such file"), (self.folder, "no file of a disk")):
+        targets = {"-": "has a path", "/dev/full": "no file of a disk", self.folder / "none" / "x": "No such", self.folder: "no file of"}
+        for target, said in targets.items():
             status, written, error = run("convert", "-", target, source=b"1\n")
             self.assertEqual((status, written), (1, b""))
             self.assertIn(said, error)
@@ -125,17 +147,21 @@ class Converting(unittest.TestCase):
             writer.extend(items)
         known = [item for item in items if item is not None]
         asked = {
-            "sum": sum(known), "min": min(known), "max": max(known), "mean": sum(known) / len(known), "count": len(known), "nulls": 1000 - len(known),
-            "count < 6": sum(item < 6 for item in known), "count between -7 9": sum(-7 <= item <= 9 for item in known), "count > 9999999999999999999": 0,
+            "sum": sum(known), "min": min(known), "max": max(known), "mean": sum(known) / len(known), "count": len(known),
+            "nulls": 1000 - len(known), "count < 6": sum(item < 6 for item in known), "count > 9999999999999999999": 0,
+            "count between -7 9": sum(-7 <= item <= 9 for item in known),
         }  # fmt: skip
+        chosen = {"where > 800": [it for it in known if it > 800], "between 195 205": [it for it in known if 195 <= it <= 205]}
         for question, answer in asked.items():
             self.assertEqual(run("ask", self.out, *question.split()), (0, f"{answer!r}\n".encode(), ""))
         for how, content in ((self.out, b""), ("-", self.out.read_bytes())):
-            for question, passing in (("where > 800", [it for it in known if it > 800]), ("between 195 205", [it for it in known if 195 <= it <= 205])):
-                self.assertEqual(run("ask", how, *question.split(), source=content), (0, "".join(f"{it}\n" for it in passing).encode(), ""))
+            for question, passing in chosen.items():
+                lines = "".join(f"{it}\n" for it in passing).encode()
+                self.assertEqual(run("ask", how, *question.split(), source=content), (0, lines, ""))
             lines = "".join(f"{'null' if it is None else it}\n" for it in items).encode()
             self.assertEqual(run("decode", how, "-", source=content), (0, lines, ""))
-        self.assertRegex(run("inspect", "--verify", self.out)[1].decode(), r"out: 1000 items of int32\?, 143 null, \d+ bytes, [\d.]+ bits an item, 4 chunks\n")
+        told = run("inspect", "--verify", self.out)[1].decode()
+        self.assertRegex(told, r"out: 1000 items of int32\?, 143 null, \d+ bytes, [\d.]+ bits an item, 4 chunks\n")
         self.assertEqual(run("ask", "--verify", self.out, "count"), (0, b"857\n", ""))
         self.assertEqual(run("ask", "--limit", "5", self.out, "where", ">", "0")[0], 1)
         self.assertEqual(run("compress", "--scheme", "for(bitpacked)", self.out, self.folder / "container"), (0, b"", ""))
@@ -144,8 +170,9 @@ class Converting(unittest.TestCase):
         self.assertEqual([it for line in lines for it in flcol.frombytes(bytes.fromhex(line.split("x", 1)[1])).to_list()], items)
         changed = bytearray(self.out.read_bytes())
         changed[flcol.open(self.out).chunks[2].offset] ^= 1
-        for words, status in ((["ask", "-", "sum"], 0), (["ask", "--verify", "-", "sum"], 1), (["ask", "-", "count", ">", "-99"], 0), (["decode", "-", "-"], 1), (["inspect", "--verify", "-"], 1)):
-            ended = run(*words, source=bytes(changed))
+        statuses = {"ask - sum": 0, "ask --verify - sum": 1, "ask - count > -99": 0, "decode - -": 1, "inspect --verify -": 1}
+        for words, status in statuses.items():
+            ended = run(*words.split(), source=bytes(changed))
             self.assertEqual((ended[0], "BadChunk" in ended[2]), (status, status == 1))
 
     @unittest.skipIf(np is None, "NumPy is not there")
@@ -160,7 +187,8 @@ class Converting(unittest.TestCase):
             one = flcol.array([(k * 2654435761) % 2**40 for k in range(1 << 16)], dtype="uint64").encode("bitpacked")
             for _ in range(200):
                 writer.append(one)
-        measured = "import resource, subprocess, sys; subprocess.run(sys.argv[1:], check=True, stdout=subprocess.DEVNULL); print(resource.getrusage(resource.RUSAGE_CHILDREN).ru_maxrss)"
+        run_it = "import resource, subprocess, sys; subprocess.run(sys.argv[1:], check=True, stdout=subprocess.DEVNULL); "
+        measured = f"{run_it}print(resource.getrusage(resource.RUSAGE_CHILDREN).ru_maxrss)"
 
         def most(*words):
             command = [sys.executable, "-c", measured, sys.executable, "-m", "flcol", "ask", str(self.out), *words]
