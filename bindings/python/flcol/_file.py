@@ -25,6 +25,9 @@ from ._reducing import check_whole
 #: The first bytes of a container and of a file of chunks.
 CONTAINER_MARK, FILE_MARK = b"FLC1", b"FLC2"
 
+#: So many bytes before and behind one that is read come into memory with it.
+_AROUND = 1 << 16
+
 _SKIP, _READ, _ALL = range(3)  # what the statistics of a chunk say of a test
 _Path = Union[str, bytes, "os.PathLike[Any]"]
 
@@ -335,11 +338,11 @@ class File:
         return number
 
     def _forget(self, offset: int, size: int) -> None:
-        """Takes the pages of bytes that were read out of the memory of this process, so that it has those of a chunk at most."""
+        """Takes the pages of bytes that were read, and those that came with them, out of the memory of this process."""
         content = self._content
-        start = offset - offset % mmap.PAGESIZE
-        if isinstance(content, mmap.mmap) and offset + size > start:
-            content.madvise(mmap.MADV_DONTNEED, start, offset + size - start)
+        if isinstance(content, mmap.mmap):
+            start = max(0, offset - _AROUND) // mmap.PAGESIZE * mmap.PAGESIZE
+            content.madvise(mmap.MADV_DONTNEED, start, min(len(content), offset + size + _AROUND) - start)
 
 
 class OfContainer(File):
