@@ -105,7 +105,7 @@ class FromStrangers(InFolder):
 
         for name, content in self.small():
             flcol.File(with_foot(content, lambda records: None)).verify()
-            for said in (("len", 5), ("len", 2**40), ("null_count", 0), ("is_sorted", 1), ("least", 0), ("greatest", 100), ("sum", 17)):
+            for said in (("len", 5), ("len", 2**60), ("null_count", 0), ("is_sorted", 1), ("least", 0), ("greatest", 100), ("sum", 17)):
                 lie = dict([said])
                 with self.subTest(name, lie=lie):
                     self.path.write_bytes(with_foot(content, lies(**lie)))
@@ -128,22 +128,25 @@ class FromStrangers(InFolder):
                     self.assertRaisesRegex(flcol.Error, "BadStatistics", lambda: file[0])
 
     def test_a_chunk_of_many_items(self):
-        many, few = bytes(flcol.constant(5, 2**40, "uint8")), bytes(flcol.array([6, 7], dtype="uint8"))
-        file = flcol.File(hand_made(0, (many, 2**40, 5, 5, 5 * 2**40), (few, 2, 6, 7, 13)))
-        self.assertEqual((len(file), file.sum(), file[2**40 - 1], file[-1]), (2**40 + 2, 5 * 2**40 + 13, 5, 7))
-        self.assertEqual(file[2**39 : 2**39 + 3].to_list(), [5, 5, 5])
-        self.assertEqual((file.count_where(">", 5), file.count_where("<", 6), file.where(">", 5).to_list()), (2, 2**40, [6, 7]))
+        many, few = bytes(flcol.constant(5, 2**60, "uint8")), bytes(flcol.array([6, 7], dtype="uint8"))
+        file = flcol.File(hand_made(0, (many, 2**60, 5, 5, 5 * 2**60), (few, 2, 6, 7, 13)))
+        self.assertEqual((len(file), file.sum(), file[2**60 - 1], file[-1]), (2**60 + 2, 5 * 2**60 + 13, 5, 7))
+        self.assertEqual(file[2**59 : 2**59 + 3].to_list(), [5, 5, 5])
+        self.assertEqual((file.count_where(">", 5), file.count_where("<", 6), file.where(">", 5).to_list()), (2, 2**60, [6, 7]))
         for wanted in (lambda: file[:], lambda: file.where("<", 6), file.verify):
             self.assertRaises(MemoryError, wanted)
-        self.assertRaisesRegex(flcol.Error, "BadStatistics", flcol.File(hand_made(0, (many, 2, 5, 5, 10))).verify)
         most = bytes(flcol.constant(0, 2**63 - 1, "uint8"))
         self.assertEqual(len(flcol.File(hand_made(0, (most, 2**63 - 1, 0, 0, 0)))), 2**63 - 1)
         with self.assertRaisesRegex(flcol.Error, "LengthOverflow"):
             flcol.File(hand_made(0, *[(most, 2**63 - 1, 0, 0, 0)] * 3))
-        self.path.write_bytes(bytes(flcol.constant(5, 2**40, "uint8")))
+        self.path.write_bytes(bytes(flcol.constant(5, 2**60, "uint8")))
         file = flcol.open(self.path)
-        self.assertEqual((len(file), file.sum(), file[2**39], file.min_max()), (2**40, 5 * 2**40, 5, (5, 5)))
-        self.assertEqual((file.count_where(">", 5), file.count_where("<", 6)), (0, 2**40))
+        self.assertEqual((len(file), file.sum(), file[2**59], file.min_max()), (2**60, 5 * 2**60, 5, (5, 5)))
+        self.assertEqual((file.count_where(">", 5), file.count_where("<", 6)), (0, 2**60))
+
+    def test_a_length_is_compared_before_items_are_decoded(self):
+        many = bytes(flcol.constant(5, 2**60, "uint8"))
+        self.assertRaisesRegex(flcol.Error, "BadStatistics", flcol.File(hand_made(0, (many, 2, 5, 5, 10))).verify)
 
     def test_a_file_that_becomes_shorter(self):
         file = flcol.open(self.written(range(100_000), "uint32", chunk=5000))

@@ -248,10 +248,10 @@ fn a_byte_that_is_changed_gives_an_error_or_the_true_answer() {
 
 #[test]
 fn a_container_of_many_items() {
-    let bytes = Array::constant(Some(5_u8), 1 << 40).unwrap().to_bytes().unwrap();
+    let bytes = Array::constant(Some(5_u8), 1 << 60).unwrap().to_bytes().unwrap();
     let file = File::new(&bytes).unwrap();
-    assert_eq!((file.len(), file.sum().unwrap(), file.min_max().unwrap()), (1 << 40, 5 << 40, Some((5, 5))));
-    assert_eq!((file.get::<u8>(1 << 39).unwrap(), file.count_where(Op::Gt, 5).unwrap()), (Some(5), 0));
+    assert_eq!((file.len(), file.sum().unwrap(), file.min_max().unwrap()), (1 << 60, 5 << 60, Some((5, 5))));
+    assert_eq!((file.get::<u8>(1 << 59).unwrap(), file.count_where(Op::Gt, 5).unwrap()), (Some(5), 0));
     assert_eq!(file.filter_by(Op::Lt, 6).err(), Some(Error::OutOfMemory));
     let bytes = Array::constant(Some(u64::MAX), usize::MAX).unwrap().to_bytes().unwrap();
     assert_eq!(File::new(&bytes).unwrap().sum(), Err(Error::LengthOverflow));
