@@ -70,7 +70,8 @@ fn run(words: &[String]) -> Outcome<Vec<u8>> {
             Ok(array.encode(scheme)?.to_bytes()?)
         }
         ["write", word, chunk] => {
-            let (dtype, lines, chunk) = (word.parse::<DType>()?, String::from_utf8(input)?, chunk.parse::<NonZeroUsize>()?.get());
+            let (dtype, lines, chunk) =
+                (word.parse::<DType>()?, String::from_utf8(input)?, chunk.parse::<NonZeroUsize>()?.get());
             let array = at_type!(dtype.ptype, parse(&lines, dtype.nullable))?;
             let mut writer = Writer::new(Vec::new(), dtype)?;
             for start in (0..array.len()).step_by(chunk) {
