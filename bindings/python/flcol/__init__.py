@@ -14,8 +14,11 @@ null.
 """
 from ._array import Array, frombytes
 from ._bools import BoolArray
+from ._chunks import Chunk
+from ._file import File, open
 from ._interface import VERSION as __version__
 from ._library import Error
 from ._making import array, constant
+from ._writer import Writer
 
-__all__ = ["Array", "BoolArray", "Error", "__version__", "array", "constant", "frombytes"]
+__all__ = ["Array", "BoolArray", "Chunk", "Error", "File", "Writer", "__version__", "array", "constant", "frombytes", "open"]

@@ -91,11 +91,7 @@ class Array(Column):
 
     def __contains__(self, item: Any) -> bool:
         """Whether an item equals this integer, or is null for None."""
-        if item is None:
-            return self.null_count > 0
-        if isinstance(item, float) and item.is_integer():
-            item = int(item)
-        return integer_of(item) is not None and self.count_where("==", item) > 0
+        return has(self, item)
 
     # All items at once, or those that a mask is True for
 
@@ -132,7 +128,7 @@ class Array(Column):
 
     def count_where(self, op: str, constant: int, where: Any = True) -> int:
         """How many items compare so with an integer, by ``==``, ``!=``, ``<``, ``<=``, ``>`` or ``>=``; no null does."""
-        return self._count(self._mask_of(where), *self._comparison(_operator(op), constant))
+        return self._count(self._mask_of(where), *self._comparison(operator_number(op), constant))
 
     def count_between(self, lower: int, upper: int, inclusive: str = "both", where: Any = True) -> int:
         """How many items lie between two bounds; ``inclusive`` is that of ``between``."""
@@ -146,7 +142,7 @@ class Array(Column):
         """The items that compare so with an integer, in their order, as a plain array; operators as of ``count_where``."""
         if where is not True:
             return self.filter(self.mask_where(op, constant, where))
-        return self._made(f"filter_by_{self._kind.short}", *self._comparison(_operator(op), constant))
+        return self._made(f"filter_by_{self._kind.short}", *self._comparison(operator_number(op), constant))
 
     def where_between(self, lower: int, upper: int, inclusive: str = "both", where: Any = True) -> Array:
         """The items that lie between two bounds, in their order, as a plain array; ``inclusive`` is that of ``between``."""
@@ -159,7 +155,7 @@ class Array(Column):
 
         The answer is a mask in its turn, for this array and those beside it; operators as of ``count_where``.
         """
-        return self._passing(where, "compare", *self._comparison(_operator(op), constant))
+        return self._passing(where, "compare", *self._comparison(operator_number(op), constant))
 
     def mask_between(self, lower: int, upper: int, inclusive: str = "both", where: Any = True) -> BoolArray:
         """Which items lie between two bounds, as a mask, as of ``mask_where``; ``inclusive`` is that of ``between``."""
@@ -170,7 +166,7 @@ class Array(Column):
 
         A null is below every integer. The first time all items are looked at: ``ValueError`` where they are not sorted.
         """
-        return self._first_from(_constant(value))
+        return self._first_from(constant_of(value))
 
     def searchsorted(self, v: int, side: str = "left", sorter: Any = None) -> int:
         """The index at which an integer would stand in the sorted array: before the items equal to it, or behind them.
@@ -181,7 +177,7 @@ class Array(Column):
             raise ValueError(f"side is left or right, and not {side!r}")
         if sorter is not None:
             raise TypeError("the array itself is sorted, and has no sorter")
-        return self._first_from(_constant(v) + (side == "right"))
+        return self._first_from(constant_of(v) + (side == "right"))
 
     def _first_from(self, value: int) -> int:
         """The first index whose item is not below an integer of any size."""
@@ -274,7 +270,7 @@ class Array(Column):
     def is_in(self, values: Iterable[int]) -> BoolArray:
         """Whether each item is one of these integers, as NumPy's ``isin``; null at a null."""
         least, greatest = self._kind.least, self._kind.greatest
-        wanted = {_constant(value) for value in values}
+        wanted = {constant_of(value) for value in values}
         words = list_of_numbers(self._kind.code, sorted(value for value in wanted if least <= value <= greatest))
         with address(words) as at:
             return self._answers("is_in_", at, len(words))
@@ -285,7 +281,7 @@ class Array(Column):
     def _comparison(self, op: int, other: Any) -> tuple[int, int]:
         """A comparison with an integer of any size by one with an item of the type."""
         least, greatest = self._kind.least, self._kind.greatest
-        constant = _constant(other)
+        constant = constant_of(other)
         if constant > greatest:
             return (_LTE if op in (_LT, _LTE, _NOT_EQ) else _GT), greatest
         if constant < least:
@@ -294,11 +290,8 @@ class Array(Column):
 
     def _bounds(self, lower: Any, upper: Any, inclusive: str) -> tuple[int, int, int, int]:
         """Bounds of any size by two items of the type that belong to it, the lower above the upper where none lies between."""
-        if inclusive not in ("both", "left", "right", "neither"):
-            raise ValueError("inclusive is both, left, right or neither")
         least, greatest = self._kind.least, self._kind.greatest
-        low = _constant(lower) + (inclusive in ("right", "neither"))
-        high = _constant(upper) - (inclusive in ("left", "neither"))
+        low, high = bounds_of(lower, upper, inclusive)
         if low > greatest or high < least:
             return 1, 0, 0, 0
         return max(low, least), min(high, greatest), 0, 0
@@ -326,14 +319,30 @@ def frombytes(container: Any) -> Union[Array, BoolArray]:
     return of_handle(handle)
 
 
-def _operator(op: Any) -> int:
+def has(column: Any, item: Any) -> bool:
+    """Whether an item of a column equals an integer, or is null for None."""
+    if item is None:
+        return bool(column.null_count > 0)
+    if isinstance(item, float) and item.is_integer():
+        item = int(item)
+    return integer_of(item) is not None and bool(column.count_where("==", item) > 0)
+
+
+def operator_number(op: Any) -> int:
     """The number of an operator."""
     if not isinstance(op, str) or op not in _OPERATORS:
         raise ValueError(f"an operator is one of {', '.join(_OPERATORS)}, and not {op!r}")
     return _OPERATORS[op]
 
 
-def _constant(other: Any) -> int:
+def bounds_of(lower: Any, upper: Any, inclusive: str) -> tuple[int, int]:
+    """The least and the greatest integer between two bounds, of any size."""
+    if inclusive not in ("both", "left", "right", "neither"):
+        raise ValueError("inclusive is both, left, right or neither")
+    return constant_of(lower) + (inclusive in ("right", "neither")), constant_of(upper) - (inclusive in ("left", "neither"))
+
+
+def constant_of(other: Any) -> int:
     """The integer that items are compared with."""
     constant = integer_of(other)
     if constant is not None:

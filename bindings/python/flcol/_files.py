@@ -1,4 +1,4 @@
-"""Files of columns: text, NumPy's .npy, and containers."""
+"""Files of columns: text, NumPy's .npy, containers, and files of chunks."""
 from __future__ import annotations
 
 import ast
@@ -7,17 +7,20 @@ import os
 import re
 import struct
 from array import array as list_of_numbers
-from typing import Any, BinaryIO, Callable, Iterator, Optional
+from typing import Any, BinaryIO, Callable, Iterator, Optional, Union
 
 from ._array import frombytes
 from ._column import Column
 from ._dtypes import BOOL, INTEGERS, integers, name_of
+from ._file import CONTAINER_MARK, FILE_MARK, File, of_content
 from ._making import array
 
 #: Tells how much of a whole is done.
 Tell = Callable[[int, int], None]
 
-_CONTAINER, _NPY = b"FLC1", b"\x93NUMPY"
+#: The first bytes of a .npy file.
+NPY_MARK = b"\x93NUMPY"
+
 _LINES = re.compile(rb"(?:(?:-?[0-9]{1,40}|null)\n)*")  # no integer of a type has as many digits
 _WORDS = {None: "null", False: "false", True: "true"}
 _AT_ONCE = 1 << 16  # bytes or items
@@ -30,9 +33,12 @@ class BadFile(ValueError):
     """A file that is none of a column."""
 
 
-def read(file: BinaryIO, dtype: Optional[str], tell: Tell) -> Column:
-    """The array of a file: a container, a ``.npy`` file of one dimension, or lines of a type."""
-    return next(pieces(file, dtype, _WHOLE, tell))
+def read(file: BinaryIO, dtype: Optional[str], tell: Tell) -> Union[Column, File]:
+    """The array of a container, a ``.npy`` file of one dimension, or lines of a type; a file of chunks is opened."""
+    head = file.read(len(NPY_MARK))
+    if head.startswith(FILE_MARK):
+        return of_content(_content(file, head))
+    return next(_pieces(file, head, dtype, _WHOLE, tell))
 
 
 def pieces(file: BinaryIO, dtype: Optional[str], size: int, tell: Tell) -> Iterator[Column]:
@@ -40,16 +46,28 @@ def pieces(file: BinaryIO, dtype: Optional[str], size: int, tell: Tell) -> Itera
 
     Lines are read as they are needed, and other files are mapped, so that a column may be longer than memory.
     """
-    head = file.read(len(_NPY))
-    if head.startswith(_CONTAINER):
-        whole = frombytes(_content(file, head))
+    return _pieces(file, file.read(len(NPY_MARK)), dtype, size, tell)
+
+
+def _pieces(file: BinaryIO, head: bytes, dtype: Optional[str], size: int, tell: Tell) -> Iterator[Column]:
+    """The same of a file whose head was read."""
+    if head.startswith((CONTAINER_MARK, FILE_MARK)):
+        content = _content(file, head)
+        whole = of_content(content) if head.startswith(FILE_MARK) else frombytes(content)
         return (whole[start : start + size] for start in range(0, whole.size or 1, size))
-    if head == _NPY:
+    if head == NPY_MARK:
         items = _of_npy(memoryview(_content(file, head)))
         return (array(items[start : start + size], dtype=dtype) for start in range(0, len(items) or 1, size))
     if dtype is None:
         raise BadFile("lines need a type, as --type u32")
     return _of_lines(file, head, dtype, size, tell)
+
+
+def parts_of(column: Union[Column, File]) -> Iterator[Column]:
+    """A column in arrays that may be decoded: of a file of chunks one chunk is in memory at a time."""
+    for whole in column if isinstance(column, File) else (column,):
+        for start in range(0, whole.size, _AT_ONCE):
+            yield whole[start : start + _AT_ONCE]
 
 
 def _content(file: BinaryIO, head: bytes) -> Any:
@@ -125,30 +143,31 @@ def _items(lines: bytes, dtype: str, nullable: bool) -> list[Optional[int]]:
     return items
 
 
-def write_lines(column: Column, file: BinaryIO, tell: Tell) -> None:
+def write_lines(column: Union[Column, File], file: BinaryIO, tell: Tell) -> None:
     """Writes a line for each item."""
-    is_bool = column.dtype.startswith("bool")
-    for start in range(0, column.size, _AT_ONCE):
-        items = column[start : start + _AT_ONCE].to_list()
+    is_bool, done = column.dtype.startswith("bool"), 0
+    for part in parts_of(column):
+        items = part.to_list()
         file.write("".join(f"{_WORDS[item] if is_bool or item is None else item}\n" for item in items).encode())
-        tell(start + len(items), column.size)
+        done += len(items)
+        tell(done, column.size)
 
 
-def write_npy(column: Column, file: BinaryIO, tell: Tell) -> None:
+def write_npy(column: Union[Column, File], file: BinaryIO, tell: Tell) -> None:
     """Writes a ``.npy`` file of a column without nulls."""
-    kind = column._kind
+    kind, done = column._kind, 0
     header = f"{{'descr': '{_NPY_NAMES[kind]}', 'fortran_order': False, 'shape': ({column.size},), }}"
     header += " " * (-(len(header) + 11) % 64) + "\n"
-    file.write(_NPY + b"\x01\x00" + struct.pack("<H", len(header)) + header.encode())
-    for start in range(0, column.size, _AT_ONCE):
-        part = column[start : start + _AT_ONCE]
+    file.write(NPY_MARK + b"\x01\x00" + struct.pack("<H", len(header)) + header.encode())
+    for part in parts_of(column):
         values = bytearray(kind.size * part.size)
         part.read_into(memoryview(values).cast(kind.code))
         file.write(values)
-        tell(start + part.size, column.size)
+        done += part.size
+        tell(done, column.size)
 
 
-def writer(column: Column, name: str) -> Callable[[Column, BinaryIO, Tell], None]:
+def writer(column: Union[Column, File], name: str) -> Callable[[Any, BinaryIO, Tell], None]:
     """How a column is written to a file of a name."""
     if not name.endswith(".npy"):
         return write_lines

@@ -14,7 +14,7 @@ from ._interface import ABI_VERSION, CALLS, LIBRARY, STATUSES, UNKNOWN
 _NEWER = frozenset(("avx2", "bmi1", "bmi2", "fma", "f16c", "movbe", "abm"))
 
 OUT_OF_MEMORY, INDEX_OUT_OF_BOUNDS, RANGE_OUT_OF_BOUNDS, CAST_NULL, CAST_OUT_OF_RANGE = 1, 30, 31, 33, 34
-BAD_CONTAINER, NO_ARRAY = 42, 100
+BAD_CONTAINER, NO_ARRAY, FILE_TOO_SHORT, BAD_STATISTICS = 42, 100, 107, 115
 
 
 class Handle(_interface.Handle):

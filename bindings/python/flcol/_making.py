@@ -4,7 +4,7 @@ from __future__ import annotations
 import operator
 from array import array as list_of_numbers
 from ctypes import byref
-from typing import Any, Iterable, NamedTuple, Optional, Union
+from typing import Any, Iterable, NamedTuple, Optional, Sequence, Union
 
 from ._array import Array, of_handle
 from ._arrow import handles_of
@@ -70,8 +70,7 @@ def _array_of(values: Any) -> Optional[Union[Array, BoolArray]]:
     handles = handles_of(values)
     if handles is None:
         return None
-    chunks = [of_handle(handle) for handle in handles]
-    return chunks[0] if len(chunks) == 1 else _made(_joined_chunks(chunks))
+    return concatenated([of_handle(handle) for handle in handles])
 
 
 def _made(items: _Items) -> Union[Array, BoolArray]:
@@ -90,18 +89,21 @@ def _in_memory(column: Union[Array, BoolArray]) -> _Items:
     return _Items(column._kind, values, column.size, validity)
 
 
-def _joined_chunks(chunks: list[Union[Array, BoolArray]]) -> _Items:
-    """The items of chunks of one type, one chunk behind the other."""
-    length, kind = sum(chunk.size for chunk in chunks), chunks[0]._kind
+def concatenated(chunks: Sequence[Union[Array, BoolArray]]) -> Any:
+    """The items of chunks of one type, one chunk behind the other, as a plain array; a chunk alone stays as it is encoded."""
+    if len(chunks) == 1:
+        return chunks[0]
+    length, kind, nullable = sum(chunk.size for chunk in chunks), chunks[0]._kind, any(chunk.nullable for chunk in chunks)
     flags = bytearray()
     values, done = new_values(kind, length), 0
     view = memoryview(values)
     for chunk in chunks:
         validity = chunk.read_into(view[done : done + chunk.size])
-        flags += bytes([1]) * chunk.size if validity is None else unpack_bits(validity, chunk.size)
+        if nullable:
+            flags += bytes([1]) * chunk.size if validity is None else unpack_bits(validity, chunk.size)
         done += chunk.size
-    validity = pack_bits(flags) if any(chunk.nullable for chunk in chunks) else None
-    return _Items(kind, pack_bits(values) if kind is BOOL else values, length, validity)
+    validity = pack_bits(flags) if nullable else None
+    return _made(_Items(kind, pack_bits(values) if kind is BOOL else values, length, validity))
 
 
 def _as_integers(answers: BoolArray) -> Array:

@@ -2,11 +2,16 @@
 //!
 //!     column encode i32? 'for(bitpacked)' < lines > container
 //!     column decode < container > lines
+//!
+//! and to files of chunks of so many items, which are decoded in the same way:
+//!
+//!     column write i32? 1000 < lines > file
 
-use flcol::{Array, DType, Item, PType};
+use flcol::{Array, DType, File, Item, PType, Writer};
 use std::error::Error;
 use std::fmt::{Display, Write as _};
 use std::io::{self, Read, Write};
+use std::num::NonZeroUsize;
 use std::str::FromStr;
 
 type Outcome<T> = Result<T, Box<dyn Error>>;
@@ -64,11 +69,22 @@ fn run(words: &[String]) -> Outcome<Vec<u8>> {
             let array = at_type!(dtype.ptype, parse(&lines, dtype.nullable))?;
             Ok(array.encode(scheme)?.to_bytes()?)
         }
-        ["decode"] => {
-            let array = Array::from_bytes(&input)?;
-            Ok(at_type!(array.dtype().ptype, print(&array))?.into_bytes())
+        ["write", word, chunk] => {
+            let (dtype, lines, chunk) =
+                (word.parse::<DType>()?, String::from_utf8(input)?, chunk.parse::<NonZeroUsize>()?.get());
+            let array = at_type!(dtype.ptype, parse(&lines, dtype.nullable))?;
+            let mut writer = Writer::new(Vec::new(), dtype)?;
+            for start in (0..array.len()).step_by(chunk) {
+                writer.append(&array.slice(start..array.len().min(start + chunk))?.compress()?)?;
+            }
+            Ok(writer.finish()?)
         }
-        _ => Err("usage: column encode TYPE SCHEME | column decode".into()),
+        ["decode"] => {
+            let file = File::new(&input)?;
+            let parts = file.arrays().map(|array| at_type!(file.dtype().ptype, print(&array?)));
+            Ok(parts.collect::<Outcome<String>>()?.into_bytes())
+        }
+        _ => Err("usage: column encode TYPE SCHEME | column write TYPE CHUNK | column decode".into()),
     }
 }
 

@@ -22,6 +22,9 @@
 //! An [`Array`] owns its items and does not change. Each call that makes one takes new memory, but for what is packed,
 //! which slices and copies share. After an [`Error`] nothing has changed.
 //!
+//! A [`File`] of chunks has a column that may be longer than memory, and is read as far as an answer needs it; a [`Writer`]
+//! writes one.
+//!
 //! # Containers from strangers
 //! Any bytes make an array or an error. A few bytes may claim any number of items: no call panics or aborts for that, and
 //! what needs more memory than there is answers [`Error::OutOfMemory`]. [`Array::len`] says the number before.
@@ -44,6 +47,7 @@ pub mod blocks;
 mod chunks;
 mod error;
 mod ffi;
+mod file;
 mod indexed;
 mod item;
 mod iter;
@@ -56,6 +60,7 @@ pub use array::{Array, Element, Sorted};
 pub use bitmap::Bitmap;
 pub use chunks::{Chunk, Chunks};
 pub use error::Error;
+pub use file::{File, FileChunk, WriteError, Writer};
 pub use indexed::Indexed;
 pub use item::{Integer, Item};
 pub use iter::Iter;

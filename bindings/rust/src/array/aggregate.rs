@@ -3,6 +3,7 @@
 use super::compare::{bounds, comparison, ends};
 use super::{at_item_type, Array};
 use crate::error::{checked, Error};
+use crate::ffi;
 use crate::item::{Integer, Item};
 use crate::types::{Op, PType};
 use std::ops::RangeBounds;
@@ -120,6 +121,28 @@ impl Array {
     pub fn filter_between<C: Integer>(&self, range: impl RangeBounds<C>) -> Result<Array, Error> {
         let (least, greatest) = ends(range);
         at_item_type!(self.filter_items_between(least, greatest))
+    }
+
+    /// The sum of the items that aren't null, of integers of any type.
+    pub(crate) fn exact_sum(&self) -> Result<i128, Error> {
+        let low = &mut 0;
+        let high = match self.dtype().ptype {
+            PType::U8 | PType::U16 | PType::U32 | PType::U64 => {
+                let high = self.ask(|array, high: *mut u64| unsafe { ffi::flcol_sum_unsigned(array, high, low) })?;
+                i64::try_from(high).map_err(|_| Error::LengthOverflow)?
+            }
+            _ => self.ask(|array, high| unsafe { ffi::flcol_sum_signed(array, high, low) })?,
+        };
+        Ok(i128::from(high) << 64 | i128::from(*low))
+    }
+
+    /// The least and the greatest item that isn't null, of integers of any type, `None` if there is none.
+    pub(crate) fn extremes(&self) -> Result<Option<(i128, i128)>, Error> {
+        at_item_type!(self.item_extremes())
+    }
+
+    fn item_extremes<T: Item>(&self) -> Result<Option<(i128, i128)>, Error> {
+        Ok(self.min_max::<T>()?.map(|(least, greatest)| (least.to_i128(), greatest.to_i128())))
     }
 
     fn count_items<T: Item>(&self, op: Op, constant: i128) -> Result<usize, Error> {

@@ -114,7 +114,7 @@ pub(super) fn comparison<T: Item>(op: Op, constant: i128) -> (Op, T) {
 }
 
 /// The least and the greatest integer of a range; in none the least one is above.
-pub(super) fn ends<C: Integer>(range: impl RangeBounds<C>) -> (i128, i128) {
+pub(crate) fn ends<C: Integer>(range: impl RangeBounds<C>) -> (i128, i128) {
     let least = match range.start_bound() {
         Bound::Included(bound) => bound.to_i128(),
         Bound::Excluded(bound) => bound.to_i128().saturating_add(1),

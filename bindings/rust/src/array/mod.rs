@@ -8,6 +8,7 @@ mod search;
 mod select;
 mod under;
 
+pub(crate) use compare::ends;
 pub use make::Element;
 pub use search::Sorted;
 
@@ -71,10 +72,15 @@ impl Array {
     /// # Errors
     /// `BadContainer` if it has none, as where more than sixteen arrays stand in one another; `OutOfMemory`.
     pub fn to_bytes(&self) -> Result<Vec<u8>, Error> {
-        let len = self.ask(|array, len| unsafe { ffi::flcol_serialized_len(array, len) })?;
+        let len = self.serialized_len()?;
         let mut all = 0;
         // SAFETY: the call writes exactly so many bytes.
         unsafe { written(len, |bytes| ffi::flcol_serialize(self.word(), bytes, len, &mut all)) }
+    }
+
+    /// How many bytes the container has.
+    pub(crate) fn serialized_len(&self) -> Result<usize, Error> {
+        self.ask(|array, len| unsafe { ffi::flcol_serialized_len(array, len) })
     }
 
     /// How many bytes all buffers of the array take.
@@ -200,7 +206,7 @@ macro_rules! at_item_type {
     };
 }
 
-use at_item_type;
+pub(crate) use at_item_type;
 
 /// The scheme, or `bool` of booleans, which no scheme makes.
 impl fmt::Display for Array {
