@@ -13,7 +13,9 @@ pub use crate::column_chunks::ColumnChunks;
 pub use crate::error::ColumnFileError;
 pub use crate::files::append;
 pub use crate::passing::count_passing;
-pub use crate::scans::{count, len, min_max, null_count, sum};
+pub use crate::scans::{
+    count_trusting, len_trusting, min_max_trusting, null_count_trusting, sum_trusting,
+};
 
 #[cfg(test)]
 mod tests;

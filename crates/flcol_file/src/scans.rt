@@ -16,7 +16,7 @@ use fl_file::{Extremes, Pruning, Test, prune};
 use std::alloc::Global;
 
 /// How many items a column has. No chunk is read.
-pub fn len<C: ColumnChunks>(chunks: &C) -> u128
+pub fn len_trusting<C: ColumnChunks>(chunks: &C) -> u128
     ensures { (columns : List Column) → C.holds chunks.now columns → result ≡ length (items_in columns) }
 {
     let mut len = 0u128;
@@ -27,7 +27,7 @@ pub fn len<C: ColumnChunks>(chunks: &C) -> u128
 }
 
 /// How many items of a column are null. No chunk is read.
-pub fn null_count<C: ColumnChunks>(chunks: &C) -> u128
+pub fn null_count_trusting<C: ColumnChunks>(chunks: &C) -> u128
     ensures { (columns : List Column) → C.holds chunks.now columns → result ≡ count_by is_none (items_in columns) }
 {
     let mut count = 0u128;
@@ -52,7 +52,7 @@ fn extremes_of_both(a: Option<Extremes>, b: Option<Extremes>) -> Option<Extremes
 }
 
 /// The least and the greatest valid item of a column; `None` where no item is valid. No chunk is read.
-pub fn min_max<C: ColumnChunks>(chunks: &C) -> Option<Extremes>
+pub fn min_max_trusting<C: ColumnChunks>(chunks: &C) -> Option<Extremes>
     ensures { (columns : List Column) → C.holds chunks.now columns → result ≡ extremes_among (valid_in columns) }
 {
     let mut extremes = None;
@@ -66,7 +66,7 @@ pub fn min_max<C: ColumnChunks>(chunks: &C) -> Option<Extremes>
 ///
 /// # Errors
 /// `LengthOverflow` where the sum of the items of the first chunks does not fit an `i128`, so that there are 2^63 items or more.
-pub fn sum<C: ColumnChunks>(chunks: &C) -> Result<i128, FastLanesError>
+pub fn sum_trusting<C: ColumnChunks>(chunks: &C) -> Result<i128, FastLanesError>
     ensures sum { (columns : List Column) → C.holds chunks.now columns → IfOk result (λ sum. sum ≡ total (valid_in columns)) }
     ensures refused { IfErr result (λ e. e ≡ LengthOverflow) }
 {
@@ -107,7 +107,7 @@ fn count_in_chunk<C: ColumnChunks>(
 ///
 /// # Errors
 /// Those of reading these.
-pub fn count<C: ColumnChunks>(
+pub fn count_trusting<C: ColumnChunks>(
     alloc: Global,
     chunks: &mut C,
     test: &Test,

@@ -56,14 +56,14 @@ fn file(alloc: Global) -> Result<Vec<u8>, ColumnFileError> {
 #[test]
 fn what_the_foot_knows(rt: HostRuntime) -> Result<(), ColumnFileError> {
     let reader = Reader::open(rt.alloc(), file(rt.alloc())?)?;
-    assert_eq!(rt; len(&reader), 6);
-    assert_eq!(rt; null_count(&reader), 1);
-    assert_eq!(rt; sum(&reader)?, 209);
+    assert_eq!(rt; len_trusting(&reader), 6);
+    assert_eq!(rt; null_count_trusting(&reader), 1);
+    assert_eq!(rt; sum_trusting(&reader)?, 209);
     let extremes = Extremes {
         least: -4,
         greatest: 101,
     };
-    assert_eq!(rt; min_max(&reader), Some(extremes));
+    assert_eq!(rt; min_max_trusting(&reader), Some(extremes));
     Ok(())
 }
 
@@ -74,12 +74,12 @@ fn chunks_are_read_where_it_does_not(rt: HostRuntime) -> Result<(), ColumnFileEr
         operator: CompareOperator::Lt,
         constant: 9,
     };
-    assert_eq!(rt; count(rt.alloc(), &mut reader, &below)?, 2);
+    assert_eq!(rt; count_trusting(rt.alloc(), &mut reader, &below)?, 2);
     let equal = Test::Compare {
         operator: CompareOperator::Eq,
         constant: 101,
     };
-    assert_eq!(rt; count(rt.alloc(), &mut reader, &equal)?, 1);
+    assert_eq!(rt; count_trusting(rt.alloc(), &mut reader, &equal)?, 1);
     Ok(())
 }
 
@@ -96,12 +96,12 @@ fn damaged_chunk_is_read_or_not(rt: HostRuntime) -> Result<(), ColumnFileError> 
         operator: CompareOperator::Gt,
         constant: 100,
     };
-    assert_eq!(rt; count(rt.alloc(), &mut reader, &second)?, 1);
+    assert_eq!(rt; count_trusting(rt.alloc(), &mut reader, &second)?, 1);
     let first = Test::Compare {
         operator: CompareOperator::Gt,
         constant: 4,
     };
     let error = ColumnFileError::File(FileError::BadChunk);
-    assert!(rt; count(rt.alloc(), &mut reader, &first) == Err(error));
+    assert!(rt; count_trusting(rt.alloc(), &mut reader, &first) == Err(error));
     Ok(())
 }

@@ -1,7 +1,7 @@
 use Rattle.std.proofs.Common.{◌+◌, ◌≤◌, ◌∙◌, List, ap, arith, rules}
 use Rattle.fl_column.specs.Columns.{Column}
 use Rattle.flcol_file.proofs.ChunkSteps.{next_nulls}
-use Rattle.flcol_file.proofs.scans.null_count.Goals as goal
+use Rattle.flcol_file.proofs.scans.null_count_trusting.Goals as goal
 
 pub loop-k-preserved : goal.loop-k-preserved
 loop-k-preserved g c =

@@ -2,7 +2,7 @@ use Rattle.std.proofs.Common.{◌+◌, ◌≤◌, ◌∙◌, List, ap, arith, ru
 use Rattle.fl_column.specs.Columns.{Column}
 use Rattle.fl_file.specs.Pruning.{passes}
 use Rattle.flcol_file.proofs.ChunkSteps.{next_count}
-use Rattle.flcol_file.proofs.scans.count.Goals as goal
+use Rattle.flcol_file.proofs.scans.count_trusting.Goals as goal
 
 pub loop-k-preserved : goal.loop-k-preserved
 loop-k-preserved g c =

@@ -3,7 +3,7 @@ use Rattle.std.specs.Prelude.{count_by}
 use Rattle.fl_column.specs.Columns.{Column}
 use Rattle.fl_file.specs.Pruning.{passes}
 use Rattle.flcol_file.specs.Chunked.{valid_in}
-use Rattle.flcol_file.proofs.scans.count.Given as goal
+use Rattle.flcol_file.proofs.scans.count_trusting.Given as goal
 
 -- the chunks are the same; the items of those so far that pass
 abbrev pub invariant-loop-k : goal.invariant-loop-k

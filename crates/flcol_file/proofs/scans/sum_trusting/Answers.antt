@@ -4,7 +4,7 @@ use Rattle.std.specs.Int.{w128}
 use Rattle.std.proofs.lemmas.Int.{to_z-of_z}
 use Rattle.fl_column.specs.Columns.{Column}
 use Rattle.flcol_file.proofs.ChunkSteps.{added, next_sum}
-use Rattle.flcol_file.proofs.scans.sum.Goals as goal
+use Rattle.flcol_file.proofs.scans.sum_trusting.Goals as goal
 
 pub loop-k-preserved : goal.loop-k-preserved
 loop-k-preserved g c =

@@ -2,7 +2,7 @@ use Rattle.std.proofs.Common.{◌≡◌, List, take}
 use Rattle.fl_file.specs.Statistics.{total}
 use Rattle.fl_column.specs.Columns.{Column}
 use Rattle.flcol_file.specs.Chunked.{valid_in}
-use Rattle.flcol_file.proofs.scans.sum.Given as goal
+use Rattle.flcol_file.proofs.scans.sum_trusting.Given as goal
 
 -- the sum of the chunks so far
 abbrev pub invariant-loop-k : goal.invariant-loop-k

@@ -1,7 +1,7 @@
 use Rattle.std.proofs.Common.{List}
 use Rattle.fl_column.specs.Columns.{Column}
 use Rattle.flcol_file.proofs.ChunkSteps.{next_extremes}
-use Rattle.flcol_file.proofs.scans.min_max.Goals as goal
+use Rattle.flcol_file.proofs.scans.min_max_trusting.Goals as goal
 
 pub loop-k-preserved : goal.loop-k-preserved
 loop-k-preserved g c = λ (columns : List Column) holds.
