@@ -5,6 +5,7 @@ use Rattle.fl_file.specs.declared.error.FileError.TheVariants.{BadChunk, BadMark
 use Rattle.fl_file.specs.declared.foot.ChunkEntry.{ChunkEntry}
 use Rattle.fl_file.specs.declared.reader.Reader.{Reader}
 use Rattle.fl_file.specs.Crc32c.{crc32c_of}
+use Rattle.fl_file.specs.Ends.{Place}
 use Rattle.fl_file.specs.Foot.{FootParts, foot_parts}
 use Rattle.fl_file.specs.FootReading.{foot_of, lie_between, then_with}
 
@@ -76,3 +77,11 @@ foot_of_reader r = foot_parts r.foot
 -- reads of a reader's source can fail
 abbrev pub source_can_fail : {R : Type 0} → (R → Bool) → Reader R → Bool
 source_can_fail can_fail r = can_fail r.source
+
+-- the reads of a reader's source so far, where they are logged
+abbrev pub reads_of_source : {R : Type 0} → (R → Option (List Place)) → Reader R → Option (List Place)
+reads_of_source reads r = reads r.source
+
+-- where a chunk lies, and how many bytes it has
+abbrev pub place_of : ChunkEntry → Place
+place_of e = (e.offset, e.size)

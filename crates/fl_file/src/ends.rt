@@ -1,7 +1,7 @@
 //! Where the bytes of a file come from and go to.
 
-ghost use Rattle.std.specs.Prelude.{◌≡◌, ◌+◌, ◌<◌, ◌≤◌, ℕ, Bool, false, true, List, Option, Some, IfOk, IfSome, OnErr, OnOk, length};
-ghost use Rattle.fl_file.specs.Ends.{GrowsBy, GrowsByFront, StandsAt};
+ghost use Rattle.std.specs.Prelude.{◌≡◌, ◌+◌, ◌<◌, ◌≤◌, ◌∷◌, [], ℕ, Bool, false, true, List, Option, None, Some, IfOk, IfSome, OnErr, OnOk, length};
+ghost use Rattle.fl_file.specs.Ends.{GrowsBy, GrowsByFront, LogGrowsBy, Place, StandsAt};
 
 /// A read failed, or the bytes end before it does.
 #[derive(Clone, Copy, Debug, PartialEq, Eq)]
@@ -19,6 +19,9 @@ pub trait ReadAt {
     /// Whether a call may answer a fault although the bytes are there.
     ghost can_fail: { Self → Bool };
 
+    /// The reads so far, where they are logged.
+    ghost reads: { Self → Option (List Place) };
+
     /// The number of bytes.
     fn len(&self) -> Result<u64, ReadFault>
         ensures len { IfOk result (λ n. IfSome (contents self.now) (λ bytes. length bytes ≡ n)) }
@@ -29,7 +32,8 @@ pub trait ReadAt {
         ensures read { OnOk result (IfSome (contents self.old) (λ bytes. StandsAt room.new offset bytes)) }
         ensures fault { OnErr result (IfSome (contents self.old) (λ bytes. offset + length room.old ≤ length bytes → can_fail self.old ≡ true)) }
         ensures contents { contents self.new ≡ contents self.old }
-        ensures can_fail { can_fail self.new ≡ can_fail self.old };
+        ensures can_fail { can_fail self.new ≡ can_fail self.old }
+        ensures reads { LogGrowsBy (reads self.old) (reads self.new) ((offset, length room.old) ∷ []) };
 }
 
 /// What takes bytes at its end, as a file that is written.
@@ -67,6 +71,8 @@ impl ReadAt for &[u8] {
 
     ghost can_fail = { λ s. false };
 
+    ghost reads = { λ s. None };
+
     fn len(&self) -> Result<u64, ReadFault> {
         Ok((**self).len() as u64)
     }
@@ -81,6 +87,8 @@ impl ReadAt for Vec<u8> {
     ghost contents = { λ s. Some s.items };
 
     ghost can_fail = { λ s. false };
+
+    ghost reads = { λ s. None };
 
     fn len(&self) -> Result<u64, ReadFault> {
         Ok(self.as_slice().len() as u64)

@@ -1,10 +1,11 @@
 //! Reading a file of chunks.
 
-ghost use Rattle.std.specs.Prelude.{◌≡◌, ◌+◌, ◌*◌, ◌<◌, ◌≤◌, ◌^◌, ◌∷◌, ℕ, Bool, List, Result, Ok, Some, IfOk, length, slice_get, take, drop, vec_len};
+ghost use Rattle.std.specs.Prelude.{◌≡◌, ◌+◌, ◌*◌, ◌<◌, ◌≤◌, ◌^◌, ◌∷◌, [], ℕ, Bool, List, Result, Ok, Some, IfOk, OnErr, OnOk, length, slice_get, take, drop, vec_len};
 ghost use Rattle.fl_file.specs.declared.foot.ChunkEntry.{ChunkEntry};
 ghost use Rattle.fl_file.specs.declared.error.FileError.{FileError};
 ghost use Rattle.fl_file.specs.Foot.{FootParts, foot_parts};
-ghost use Rattle.fl_file.specs.FileReading.{GivesFrom, IsFoundFrom, IsReaderOf, RefusesFrom, begun, chunk_of, foot_before, foot_of_file, foot_of_reader, last_foot, last_foot_of_file, source_can_fail};
+ghost use Rattle.fl_file.specs.FileReading.{GivesFrom, IsFoundFrom, IsReaderOf, RefusesFrom, begun, chunk_of, foot_before, foot_of_file, foot_of_reader, last_foot, last_foot_of_file, place_of, reads_of_source, source_can_fail};
+ghost use Rattle.fl_file.specs.Ends.{LogGrowsBy, LogGrowsByFront};
 
 use crate::checksum::crc32c;
 use crate::ends::ReadAt;
@@ -89,7 +90,11 @@ impl<R: ReadAt + Drop> Reader<R> {
         requires range { k < length (foot_of_reader self.old).chunks }
         ensures chunk { (bytes : List ℕ) (e : ChunkEntry) → IsReaderOf R.contents self.old bytes → slice_get (foot_of_reader self.old).chunks k ≡ Some e → GivesFrom (source_can_fail R.can_fail self.old) (λ v. v.items) result (chunk_of bytes e) }
         ensures reader { (bytes : List ℕ) → IsReaderOf R.contents self.old bytes → IsReaderOf R.contents self.new bytes }
+        ensures same { (bytes : List ℕ) → IsReaderOf R.contents self.new bytes → IsReaderOf R.contents self.old bytes }
         ensures foot { foot_of_reader self.new ≡ foot_of_reader self.old }
+        ensures can_fail { source_can_fail R.can_fail self.new ≡ source_can_fail R.can_fail self.old }
+        ensures read { (e : ChunkEntry) → slice_get (foot_of_reader self.old).chunks k ≡ Some e → OnOk result (LogGrowsBy (reads_of_source R.reads self.old) (reads_of_source R.reads self.new) (place_of e ∷ [])) }
+        ensures unread { (e : ChunkEntry) → slice_get (foot_of_reader self.old).chunks k ≡ Some e → OnErr result (LogGrowsByFront (reads_of_source R.reads self.old) (reads_of_source R.reads self.new) (place_of e ∷ [])) }
     {
         let entry = self.foot.chunks[k];
         let chunk = bytes_at(alloc, &mut self.source, entry.offset, entry.size as usize)?;
@@ -196,6 +201,8 @@ fn bytes_at<R: ReadAt>(
     ensures len { IfOk result (λ v. length v.items ≡ len) }
     ensures contents { R.contents source.new ≡ R.contents source.old }
     ensures can_fail { R.can_fail source.new ≡ R.can_fail source.old }
+    ensures reads { OnOk result (LogGrowsBy (R.reads source.old) (R.reads source.new) ((offset, len) ∷ [])) }
+    ensures unread { OnErr result (LogGrowsByFront (R.reads source.old) (R.reads source.new) ((offset, len) ∷ [])) }
 {
     let mut room = zeros(alloc, len)?;
     source.read_at(offset, &mut room)?;

@@ -1,6 +1,6 @@
 //! Writing a file of chunks.
 
-ghost use Rattle.std.specs.Prelude.{◌≡◌, ◌↔◌, ◌+◌, ◌<◌, ◌≤◌, ◌^◌, ℕ, List, [], true, Err, None, Some, IfErr, IfOk, IfSome, IsErrOf, OnErr, OnOk, length, nat_lt, replicate, if◌then◌else◌};
+ghost use Rattle.std.specs.Prelude.{◌≡◌, ◌↔◌, ◌⊎◌, ◌+◌, ◌<◌, ◌≤◌, ◌^◌, ℕ, List, [], true, Err, None, Some, IfErr, IfOk, IfSome, IsErrOf, OnErr, OnOk, length, nat_lt, replicate, if◌then◌else◌};
 ghost use Rattle.fl_file.specs.declared.error.FileError.TheVariants as errors;
 ghost use Rattle.fl_file.specs.Ends.{GrowsBy, GrowsByFront};
 ghost use Rattle.fl_file.specs.Foot.{foot_parts};
@@ -104,6 +104,7 @@ impl<S: Append + Drop> Writer<S> {
         ensures left { (s : FileSoFar) → HasWritten S.written self.old s → IfErr result (λ e. IsLeftBy e S.written self.new s (padded (padding_len (length s.bytes)) chunk.now)) }
         ensures too_long { (s : FileSoFar) → HasWritten S.written self.old s → IsErrOf result errors.TooLong ↔ (2 ^ 63 ≤ length (with_chunk s (chunk.now, statistics)).bytes) }
         ensures fault { (s : FileSoFar) → HasWritten S.written self.old s → IsErrOf result errors.WriteFault → SinkCanFail S.can_fail self.old }
+        ensures refused { IfErr result (λ e. (e ≡ errors.OutOfMemory) ⊎ (e ≡ errors.TooLong) ⊎ (e ≡ errors.WriteFault)) }
         ensures failed { HasFailed self.old → result ≡ Err errors.WriteFault }
         ensures ptype { type_of_writer self.new ≡ type_of_writer self.old }
     {
@@ -133,6 +134,8 @@ impl<S: Append + Drop> Writer<S> {
     /// beginning of the foot.
     pub fn finish(self, alloc: Global) -> Result<S, FileError>
         ensures written { (s : FileSoFar) → HasWritten S.written self s → IfOk result (λ sink. IfSome (S.written sink) (λ bytes. bytes ≡ finished s)) }
+        ensures refused { IfErr result (λ e. (e ≡ errors.OutOfMemory) ⊎ (e ≡ errors.WriteFault)) }
+        ensures fault { (s : FileSoFar) → HasWritten S.written self s → IsErrOf result errors.WriteFault → SinkCanFail S.can_fail self }
         ensures failed { HasFailed self → result ≡ Err errors.WriteFault }
     {
         let Writer {

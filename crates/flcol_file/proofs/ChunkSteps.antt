@@ -1,7 +1,7 @@
 -- A column in chunks, chunk by chunk.
-use Rattle.std.proofs.Common.{◌≡◌, ℕ, ℤ, zero, suc, ◌+◌, ◌≤◌, ◌++◌, List, [], ◌∷◌, length, take, Option, Some, None, refl, ap, subst, sym, ◌∙◌, cond, add-one, arith}
-use Rattle.std.specs.Prelude.{SomeIff, All, Bool, false, true, ◌+ℤ◌, count_by, filter_map, fold, is_none, option_map}
-use Rattle.std.specs.Int.{int_max, int_min}
+use Rattle.std.proofs.Common.{◌≡◌, ℕ, ℤ, zero, suc, ◌+◌, ◌≤◌, ◌<◌, ◌++◌, List, [], ◌∷◌, length, take, map, Option, Some, None, Result, Ok, Err, IsErrAnd, inl, inr, refl, ap, subst, sym, ◌∙◌, cond, add-one, arith}
+use Rattle.std.specs.Prelude.{◌⊎◌, FitsSigned, SomeIff, All, Bool, false, true, ◌+ℤ◌, count_by, filter_map, fold, is_none, option_map}
+use Rattle.std.specs.Int.{int_max, int_min, w128}
 use Rattle.std.specs.List.{AllByRecursion, slice_get}
 use Rattle.std.proofs.lemmas.Int.{clamps, ints}
 use Rattle.std.proofs.lemmas.List.{append-nil, append_assoc, length-append}
@@ -11,7 +11,14 @@ use Rattle.fl_column.specs.Columns.{Column}
 use Rattle.fl_file.specs.declared.statistics.ChunkStatistics.{ChunkStatistics}
 use Rattle.fl_file.specs.declared.statistics.Extremes.{Extremes}
 use Rattle.fl_file.specs.Statistics.{extremes_among, statistics_of_column, total, valid_items}
-use Rattle.flcol_file.specs.Chunked.{extremes_of_both, items_in, valid_in}
+use Rattle.flcol_file.specs.Chunked.{AreFactsOf, ChunkFacts, SumFits, extremes_of_both, items_in, valid_in}
+use Rattle.flcol_file.specs.Outcomes.{AnswersFrom, IsFault}
+use Rattle.flcol_file.specs.declared.error.ColumnFileError.{ColumnFileError}
+use Rattle.flcol_file.specs.declared.error.ColumnFileError.TheVariants.{Array}
+use Rattle.fl_types.specs.Refusals.{Answers, Refuses}
+use Rattle.fl_types.proofs.RefusalLaws.{Refuses_cases}
+use Rattle.fl_types.specs.declared.error.FastLanesError.{FastLanesError}
+use Rattle.std.proofs.lemmas.Option.{slice_get-map}
 
 -- the chunk at a place, and the items up to it and of it
 pub record Next (columns : List Column) (k : ℕ) (s : ChunkStatistics) : Type 0 where
@@ -170,3 +177,78 @@ next_count test columns k count n h e = of (slice_get columns k) refl h where
       let both : count_by test (valid_in (take k columns) ++ valid_items c) ≡ count_by test (valid_in (take k columns)) + count_by test (valid_items c) = sum_by-append (λ x. cond (test x) 1 0) (valid_in (take k columns)) (valid_items c) in
       let sums : count + n ≡ count_by test (valid_in (take k columns) ++ valid_items c) = omega arith in
       sums ∙ sym (ap (count_by test) valid)
+
+-- ---- what is known of chunks
+pub known_at : (facts : ChunkFacts) (columns : List Column) (k : ℕ) (s : ChunkStatistics) → AreFactsOf facts columns → slice_get facts.statistics k ≡ Some s → option_map statistics_of_column (slice_get columns k) ≡ Some s
+known_at facts columns k s known found = sym (slice_get-map statistics_of_column columns k) ∙ (ap (λ ss. slice_get ss k) (sym known.statistics) ∙ found)
+
+length_map : {A B : Type 0} (f : A → B) (xs : List A) → length (map f xs) ≡ length xs
+length_map f [] = refl
+length_map f (x ∷ xs) = ap suc (length_map f xs)
+
+take_whole : (columns : List Column) (k : ℕ) → length columns ≤ k → take k columns ≡ columns
+take_whole [] zero h = refl
+take_whole [] (suc k) h = refl
+take_whole (c ∷ columns) zero h = absurd (omega arith)
+take_whole (c ∷ columns) (suc k) h = ap (λ cs. c ∷ cs) (take_whole columns k (omega arith))
+
+pub counted : (facts : ChunkFacts) (columns : List Column) → AreFactsOf facts columns → length facts.statistics ≡ length columns
+counted facts columns known = ap length known.statistics ∙ length_map statistics_of_column columns
+
+pub whole : (facts : ChunkFacts) (columns : List Column) (k : ℕ) → AreFactsOf facts columns → length facts.statistics ≤ k → take k columns ≡ columns
+whole facts columns k known all = take_whole columns k (let n = counted facts columns known in omega arith)
+
+-- ---- sums
+pub sums_fit : (facts : ChunkFacts) (columns : List Column) (n k : ℕ) → AreFactsOf facts columns → length facts.statistics ≤ n → ((j : ℕ) → j ≤ n → SumFits columns j) → SumFits columns k
+sums_fit facts columns n k known all fit = by_order (le_or_above k n) where
+  le_or_above : (a b : ℕ) → (a ≤ b) ⊎ (b < a)
+  le_or_above a b = grind arith
+
+  by_order : (k ≤ n) ⊎ (n < k) → SumFits columns k
+  by_order (inl le) = fit k le
+  by_order (inr lt) = subst (λ cs. FitsSigned w128 (total (valid_in cs))) (whole facts columns n known all ∙ sym (whole facts columns k known (omega arith))) (fit n (omega arith))
+
+pub sums_more : (columns : List Column) (k : ℕ) (z : ℤ) → ((j : ℕ) → j ≤ k → SumFits columns j) → FitsSigned w128 z → z ≡ total (valid_in (take (k + 1) columns)) → (j : ℕ) → j ≤ k + 1 → SumFits columns j
+sums_more columns k z fit here is j le = by_order (last_or_before j k le) where
+  last_or_before : (a b : ℕ) → a ≤ b + 1 → (a ≤ b) ⊎ (a ≡ b + 1)
+  last_or_before a b h = grind arith
+
+  by_order : (j ≤ k) ⊎ (j ≡ k + 1) → SumFits columns j
+  by_order (inl before) = fit j before
+  by_order (inr last) = subst (λ n. SumFits columns n) (sym last) (subst (λ w. FitsSigned w128 w) is here)
+
+-- a checked sum that is not there
+pub not_added : (r : Option ℤ) (P : Type 0) (v : ℤ) → SomeIff r P v → r ≡ None → P → ⊥
+not_added r P v h e = subst (λ o. SomeIff o P v) e h
+
+-- ---- answers
+pub refused_array : {X Y : Type 0} (fails : Bool) (view : X → Y) (r : Result X ColumnFileError) (e : FastLanesError) (y : Y) (c : Result Y FastLanesError) → IsErrAnd r (λ x. x ≡ Array e) → Refuses e c → c ≡ Ok y → AnswersFrom fails view r (Ok y)
+refused_array fails view (Ok x) e y c is refused there = absurd is
+refused_array fails view (Err x) e y c is refused there = elim (Refuses_cases e c refused) [
+  | inl memory ↦ inl (inl (is ∙ ap Array memory))
+  | inr wrong ↦ absurd (let never : Err e ≡ Ok y = sym wrong ∙ there in cc)
+]
+
+pub refused_chunk : {X Y Z : Type 0} (fails : Bool) (view : X → Y) (r : Result X ColumnFileError) (e : ColumnFileError) (y : Y) (z : Z) → IsErrAnd r (λ x. x ≡ e) → IsFault fails e ⊎ (◌≡◌ {A = Result Z ColumnFileError} (Ok z) (Err e)) → AnswersFrom fails view r (Ok y)
+refused_chunk fails view (Ok x) e y z is h = absurd is
+refused_chunk fails view (Err x) e y z is h = elim h [
+  | inl fault ↦ inl (subst (λ f. IsFault fails f) (sym is) fault)
+  | inr wrong ↦ absurd cc
+]
+
+-- a scan is refused as its chunk is
+pub refused_scan : {X Y Z : Type 0} (now facts : ChunkFacts) (view : X → Y) (r : Result X ColumnFileError) (e : ColumnFileError) (y : Y) (z : Z) → now ≡ facts → IsErrAnd r (λ x. x ≡ e) → IsFault now.can_fail e ⊎ (◌≡◌ {A = Result Z ColumnFileError} (Ok z) (Err e)) → AnswersFrom facts.can_fail view r (Ok y)
+refused_scan {Z = Z} now facts view r e y z same is h = refused_chunk facts.can_fail view r e y z is (subst (λ (f : ChunkFacts). IsFault f.can_fail e ⊎ (◌≡◌ {A = Result Z ColumnFileError} (Ok z) (Err e))) same h)
+
+-- ---- chunks that need not be read
+pub skipped_chunk : (test : ℤ → Bool) (c : Column) (s : ChunkStatistics) → s ≡ statistics_of_column c → ((d : Column) → s ≡ statistics_of_column d → All (λ z. test z ≡ false) (valid_items d)) → count_by test (valid_items c) ≡ 0
+skipped_chunk test c s is says = failing test (valid_items c) (recursion_from_All (λ z. test z ≡ false) (valid_items c) (says c is))
+
+pub taken_chunk : (test : ℤ → Bool) (c : Column) (n : ℕ) (s : ChunkStatistics) → s ≡ statistics_of_column c → ((d : Column) → s ≡ statistics_of_column d → All (λ z. test z ≡ true) (valid_items d)) → (s.null_count ≤ s.len → n + s.null_count ≡ s.len) → count_by test (valid_items c) ≡ n
+taken_chunk test c n s is says less =
+    let all = passing test (valid_items c) (recursion_from_All (λ z. test z ≡ true) (valid_items c) (says c is)) in
+    let parts = null_or_valid c.items in
+    let nulls : s.null_count ≡ count_by is_none c.items = ap (λ (t : ChunkStatistics). t.null_count) is in
+    let len : s.len ≡ length c.items = ap (λ (t : ChunkStatistics). t.len) is in
+    let sum : n + s.null_count ≡ s.len = less (omega arith) in
+    omega arith

@@ -1,4 +1,9 @@
+pub mod AppendLaws
 pub mod ChunkLaws
 pub mod ChunkSteps
 pub mod FileLaws
 pub mod PassingLaws
+pub mod PlanLaws
+pub mod ReadLaws
+pub mod SameStatistics
+pub mod ScanSteps

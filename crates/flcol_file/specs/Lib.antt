@@ -1,5 +1,7 @@
 pub mod Outcomes
 pub mod Chunks
 pub mod Chunked
+pub mod Plans
 pub mod Files
-pub mod FileCounts
+pub mod Facts
+pub mod OneChunk

@@ -1,9 +1,9 @@
 //! Arrays as chunks of a file.
 
-ghost use Rattle.std.specs.Prelude.{◌≡◌};
-ghost use Rattle.fl_array.specs.Trees.{column};
-ghost use Rattle.fl_column.specs.Columns.{Column};
-ghost use Rattle.flcol_file.specs.Chunks.{GivesChunk, GivesColumn, IsChunkOf};
+ghost use Rattle.std.specs.Prelude.{false};
+ghost use Rattle.fl_metadata.specs.WrittenText.{AreBytes};
+ghost use Rattle.flcol_file.specs.Chunks.{GivesChunk, array_of};
+ghost use Rattle.flcol_file.specs.Outcomes.{AnswersFrom};
 
 use crate::error::ColumnFileError;
 use bytes::Bytes;
@@ -29,8 +29,16 @@ pub fn write_chunk(alloc: Global, array: &ArrayRef) -> Result<Vec<u8>, ColumnFil
 /// `BadContainer` where the bytes are no container, else those of the container's array. Of the bytes that `write_chunk` gave
 /// only `OutOfMemory`.
 pub fn read_chunk(alloc: Global, bytes: &Bytes) -> Result<ArrayRef, ColumnFileError>
-    ensures { (c : Column) → IsChunkOf c bytes.now → GivesColumn column c result }
+    ensures { AnswersFrom false (λ a. a) result (array_of bytes.now) }
 {
+    prove_bytes(bytes.as_slice());
     let node = read_container(alloc, bytes)?;
     Ok(deserialize(alloc, &node)?)
+}
+
+/// Each is a number below 256.
+fn prove_bytes(bytes: &[u8])
+    ensures { AreBytes bytes.now }
+{
+    let _ = bytes.len();
 }

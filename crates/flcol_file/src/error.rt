@@ -2,7 +2,7 @@
 
 ghost use Rattle.std.specs.Prelude.{◌≡◌};
 ghost use Rattle.fl_types.specs.declared.error.FastLanesError.TheVariants.{OutOfMemory};
-ghost use Rattle.flcol_file.specs.Outcomes.{of_container};
+ghost use Rattle.flcol_file.specs.Outcomes.{of_container, of_file};
 ghost use Rattle.flcol_file.specs.declared.error.ColumnFileError.TheVariants as errors;
 
 use fl_column::FastLanesError;
@@ -17,7 +17,9 @@ pub enum ColumnFileError {
     Array(FastLanesError),
     /// The bytes of a chunk are no container, or an array has none.
     BadContainer,
-    /// The file is refused.
+    /// The statistics in the foot of a file are not those of a chunk.
+    BadStatistics,
+    /// The file is refused, for another reason than memory.
     File(FileError),
 }
 
@@ -30,10 +32,13 @@ impl From<FastLanesError> for ColumnFileError {
 }
 
 impl From<FileError> for ColumnFileError {
-    ghost from_gives = { λ e error. error ≡ errors.File e };
+    ghost from_gives = { λ e error. error ≡ of_file e };
 
     fn from(e: FileError) -> ColumnFileError {
-        ColumnFileError::File(e)
+        match e {
+            FileError::OutOfMemory => ColumnFileError::Array(FastLanesError::OutOfMemory),
+            _ => ColumnFileError::File(e),
+        }
     }
 }
 

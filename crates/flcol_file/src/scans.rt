@@ -1,12 +1,13 @@
-//! What is asked of a column in chunks: what the statistics say is not read.
+//! What is asked of a column in chunks whose statistics are taken as they are: what they say is not read.
 
-ghost use Rattle.std.specs.Prelude.{◌≡◌, ◌<◌, IfErr, IfOk, List, Some, length, option_map, count_by, is_none};
-ghost use Rattle.std.specs.List.{slice_get};
-ghost use Rattle.fl_types.specs.declared.error.FastLanesError.TheVariants.{LengthOverflow};
+ghost use Rattle.std.specs.Prelude.{◌≡◌, ◌<◌, ◌∷◌, [], ℕ, List, Ok, Some, length, slice_get, count_by, is_none};
 ghost use Rattle.fl_column.specs.Columns.{Column};
-ghost use Rattle.fl_file.specs.Pruning.{passes};
-ghost use Rattle.fl_file.specs.Statistics.{extremes_among, total, valid_items};
-ghost use Rattle.flcol_file.specs.Chunked.{extremes_of_both, items_in, valid_in};
+ghost use Rattle.fl_file.specs.declared.pruning.Pruning.{Pruning};
+ghost use Rattle.fl_file.specs.Pruning.{IsPruningOf, passes};
+ghost use Rattle.fl_file.specs.Statistics.{extremes_among, statistics_of_column, valid_items};
+ghost use Rattle.flcol_file.specs.Chunked.{HasRead, IsSumOf, extremes_of_both, items_in, valid_in};
+ghost use Rattle.flcol_file.specs.Outcomes.{AnswersFrom};
+ghost use Rattle.flcol_file.specs.Plans.{ArePruningsOf, chunks_where, is_open};
 
 use crate::column_chunks::ColumnChunks;
 use crate::error::ColumnFileError;
@@ -16,7 +17,7 @@ use fl_file::{Extremes, Pruning, Test, prune};
 use std::alloc::Global;
 
 /// How many items a column has. No chunk is read.
-pub fn len<C: ColumnChunks>(chunks: &C) -> u128
+pub fn len_trusting<C: ColumnChunks>(chunks: &C) -> u128
     ensures { (columns : List Column) → C.holds chunks.now columns → result ≡ length (items_in columns) }
 {
     let mut len = 0u128;
@@ -27,7 +28,7 @@ pub fn len<C: ColumnChunks>(chunks: &C) -> u128
 }
 
 /// How many items of a column are null. No chunk is read.
-pub fn null_count<C: ColumnChunks>(chunks: &C) -> u128
+pub fn null_count_trusting<C: ColumnChunks>(chunks: &C) -> u128
     ensures { (columns : List Column) → C.holds chunks.now columns → result ≡ count_by is_none (items_in columns) }
 {
     let mut count = 0u128;
@@ -52,7 +53,7 @@ fn extremes_of_both(a: Option<Extremes>, b: Option<Extremes>) -> Option<Extremes
 }
 
 /// The least and the greatest valid item of a column; `None` where no item is valid. No chunk is read.
-pub fn min_max<C: ColumnChunks>(chunks: &C) -> Option<Extremes>
+pub fn min_max_trusting<C: ColumnChunks>(chunks: &C) -> Option<Extremes>
     ensures { (columns : List Column) → C.holds chunks.now columns → result ≡ extremes_among (valid_in columns) }
 {
     let mut extremes = None;
@@ -65,10 +66,9 @@ pub fn min_max<C: ColumnChunks>(chunks: &C) -> Option<Extremes>
 /// The exact sum of the valid items of a column. No chunk is read.
 ///
 /// # Errors
-/// `LengthOverflow` where the sum of the items of the first chunks does not fit an `i128`, so that there are 2^63 items or more.
-pub fn sum<C: ColumnChunks>(chunks: &C) -> Result<i128, FastLanesError>
-    ensures sum { (columns : List Column) → C.holds chunks.now columns → IfOk result (λ sum. sum ≡ total (valid_in columns)) }
-    ensures refused { IfErr result (λ e. e ≡ LengthOverflow) }
+/// `LengthOverflow` where the sum of the items of some first chunks does not fit an `i128`, so that there are 2^63 items or more.
+pub fn sum_trusting<C: ColumnChunks>(chunks: &C) -> Result<i128, FastLanesError>
+    ensures { (columns : List Column) → C.holds chunks.now columns → IsSumOf columns result }
 {
     let mut sum = 0i128;
     for k in 0..chunks.chunk_count() {
@@ -87,10 +87,11 @@ fn count_in_chunk<C: ColumnChunks>(
     k: usize,
     test: &Test,
 ) -> Result<u64, ColumnFileError>
-    requires { k < C.count chunks.old }
-    ensures counted { (columns : List Column) → C.holds chunks.old columns → IfOk result (λ n. option_map (λ c. count_by (passes test.now) (valid_items c)) (slice_get columns k) ≡ Some n) }
+    requires { k < length (C.facts chunks.old).statistics }
+    ensures count { (columns : List Column) (c : Column) → C.holds chunks.old columns → slice_get columns k ≡ Some c → AnswersFrom (C.facts chunks.old).can_fail (λ n. n) result (Ok (count_by (passes test.now) (valid_items c))) }
+    ensures read { (columns : List Column) (c : Column) (p : Pruning) → C.holds chunks.old columns → slice_get columns k ≡ Some c → IsPruningOf test.now (statistics_of_column c) p → HasRead result (C.facts chunks.old) (C.reads chunks.old) (C.reads chunks.new) (chunks_where is_open k (p ∷ [])) }
+    ensures facts { C.facts chunks.new ≡ C.facts chunks.old }
     ensures holds { (columns : List Column) → C.holds chunks.old columns → C.holds chunks.new columns }
-    ensures count { C.count chunks.new ≡ C.count chunks.old }
 {
     let statistics = chunks.statistics(k);
     match prune(&statistics, test) {
@@ -107,14 +108,15 @@ fn count_in_chunk<C: ColumnChunks>(
 ///
 /// # Errors
 /// Those of reading these.
-pub fn count<C: ColumnChunks>(
+pub fn count_trusting<C: ColumnChunks>(
     alloc: Global,
     chunks: &mut C,
     test: &Test,
 ) -> Result<u128, ColumnFileError>
-    ensures counted { (columns : List Column) → C.holds chunks.old columns → IfOk result (λ n. n ≡ count_by (passes test.now) (valid_in columns)) }
+    ensures count { (columns : List Column) → C.holds chunks.old columns → AnswersFrom (C.facts chunks.old).can_fail (λ n. n) result (Ok (count_by (passes test.now) (valid_in columns))) }
+    ensures read { (columns : List Column) (plan : List Pruning) → C.holds chunks.old columns → ArePruningsOf test.now (C.facts chunks.old).statistics plan → HasRead result (C.facts chunks.old) (C.reads chunks.old) (C.reads chunks.new) (chunks_where is_open 0 plan) }
+    ensures facts { C.facts chunks.new ≡ C.facts chunks.old }
     ensures holds { (columns : List Column) → C.holds chunks.old columns → C.holds chunks.new columns }
-    ensures count { C.count chunks.new ≡ C.count chunks.old }
 {
     let mut count = 0u128;
     for k in 0..chunks.chunk_count() {

@@ -1,7 +1,7 @@
 use Rattle.std.proofs.Common.{◌≡◌, ◌*◌, ◌≤◌, List, length, take}
 use Rattle.fl_column.specs.Columns.{Column}
 use Rattle.flcol_file.specs.Chunked.{items_in}
-use Rattle.flcol_file.proofs.scans.len.Given as goal
+use Rattle.flcol_file.proofs.scans.len_trusting.Given as goal
 
 -- the items of the chunks so far
 abbrev pub invariant-loop-k : goal.invariant-loop-k
