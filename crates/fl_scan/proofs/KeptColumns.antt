@@ -25,11 +25,15 @@ each_mark : (c : Column) (v marks : Validity) (m : Mask) → IsValidityOf v c �
     → (i : ℕ) → i < length (mask_bits m) → is_valid_at marks i ≡ (get_or (mask_bits m) i false && is_valid_at v i)
 each_mark c v marks m of long each i h = let size = mask_long m in each i (omega arith)
 
+-- the marks of an array's items
+pub marks_kept : (c : Column) (v marks : Validity) (m : Mask) → IsValidityOf v c → mask_len m ≡ length c.items → IsTrue (covers marks (mask_len m)) → ((i : ℕ) → i < mask_len m → is_valid_at marks i ≡ (get_or (mask_bits m) i false && is_valid_at v i)) → Marks marks c
+marks_kept c v marks m of long covered each =
+    let covers_all : IsTrue (covers marks (length c.items)) = subst (λ (n : ℕ). IsTrue (covers marks n)) long covered in
+    kept_marks marks (mask_bits m) c covers_all (marks_each marks v (mask_bits m) c of (mask_long m ∙ long) (each_mark c v marks m of long each))
+
 pub marks_read : (c d : Column) (v marks : Validity) (m : Mask) → integer_column c ≡ Ok d → IsValidityOf v c → mask_len m ≡ length c.items → IsTrue (covers marks (mask_len m)) → ((i : ℕ) → i < mask_len m → is_valid_at marks i ≡ (get_or (mask_bits m) i false && is_valid_at v i))
     → Marks marks d
-marks_read c d v marks m e of long covered each =
-    let covers_all : IsTrue (covers marks (length c.items)) = subst (λ (n : ℕ). IsTrue (covers marks n)) long covered in
-    subst (λ (x : Column). Marks marks x) (read_is c d e) (kept_marks marks (mask_bits m) c covers_all (marks_each marks v (mask_bits m) c of (mask_long m ∙ long) (each_mark c v marks m of long each)))
+marks_read c d v marks m e of long covered each = subst (λ (x : Column). Marks marks x) (read_is c d e) (marks_kept c v marks m of long covered each)
 
 pub kept_read : (c d : Column) (v marks : Validity) (m : Mask) → integer_column c ≡ Ok d → IsValidityOf v c → mask_len m ≡ length c.items → IsTrue (covers marks (mask_len m)) → ((i : ℕ) → i < mask_len m → is_valid_at marks i ≡ (get_or (mask_bits m) i false && is_valid_at v i))
     → of_integers c (valid_column (filter_of m c)) ≡ Ok (marked_column marks d)

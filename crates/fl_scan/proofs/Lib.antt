@@ -3,10 +3,10 @@ pub mod BoundLaws
 pub mod CountedColumns
 pub mod CountingLaws
 pub mod FinalLaws
-pub mod GatherSteps
 pub mod KeptAnswers
 pub mod KeptColumns
 pub mod LawProofs
+pub mod ListLaws
 pub mod MarkLaws
 pub mod MaskLaws
 pub mod MembershipLaws

@@ -3,7 +3,6 @@ pub mod Bounds
 pub mod Constants
 pub mod Counts
 pub mod ExtremeLaws
-pub mod GatherLaws
 pub mod Indices
 pub mod Membership
 pub mod Raised

@@ -1,5 +1,5 @@
 -- Whether items are one of a list.
-use Rattle.std.specs.Prelude.{◌≡◌, ◌<◌, ◌||◌, ℕ, ℤ, Bool, List, None, Some, false, length, not, slice_index_or}
+use Rattle.std.specs.Prelude.{◌||◌, ℤ, Bool, List, not}
 use Rattle.std.specs.List.{list_all, list_any}
 use Rattle.std.specs.Ordering.{int_eq}
 use Rattle.fl_types.specs.declared.scalar.PValue.{PValue}
@@ -14,8 +14,3 @@ is_one_of list z = list_any (int_eq z) list
 -- the constants are of the column's type, where the column is of integers
 abbrev pub are_comparable : Column → List PValue → Bool
 are_comparable c list = not (is_integer c.dtype) || list_all (λ value. has_ptype (ptype_of_value value) c.dtype) list
-
--- the answers of a test for the first n items: any where a null is
-pub record AreAnswers (test : ℤ → Bool) (answers : List Bool) (n : ℕ) (c : Column) : Type 0 where
-  pub long : length answers ≡ n
-  pub each : (i : ℕ) (z : ℤ) → i < n → slice_index_or c.items i None ≡ Some z → slice_index_or answers i false ≡ test z

@@ -1,11 +1,13 @@
 -- Which of the items that a mask keeps pass a test.
-use Rattle.std.specs.Prelude.{◌==◌, ◌≡◌, ◌&&◌, ◌<◌, ◌≤◌, ℕ, ℤ, Bool, true, false, List, Option, None, Some, Result, Err, is_some, length, not, slice_index_or, if◌then◌else◌}
+use Rattle.std.specs.Prelude.{◌==◌, ◌&&◌, ℤ, Bool, false, List, Option, None, Some, Result, Err, length, not, slice_index_or, if◌then◌else◌}
 use Rattle.fl_types.specs.declared.error.FastLanesError.{FastLanesError}
 use Rattle.fl_types.specs.declared.error.FastLanesError.TheVariants.{MaskLength}
 use Rattle.fl_types.specs.declared.mask.Mask.{Mask}
+use Rattle.fl_types.specs.declared.validity.Validity.{Validity}
 use Rattle.fl_types.specs.Bits.{tabulate}
 use Rattle.fl_types.specs.Masks.{mask_bits, mask_len}
-use Rattle.fl_column.specs.Columns.{Column}
+use Rattle.fl_column.specs.Columns.{Column, integers_in}
+use Rattle.fl_scan.specs.Counts.{both, marked_from, passed_in}
 use Rattle.fl_scan.specs.Totals.{of_integers}
 
 -- the item is not null and passes a test
@@ -21,14 +23,6 @@ passed_under mask test c = tabulate (λ i. slice_index_or (mask_bits mask) i fal
 abbrev pub under_mask : {A : Type 0} → Mask → Column → A → Result A FastLanesError
 under_mask mask c answer = if not (mask_len mask == length c.items) then Err MaskLength else of_integers c answer
 
--- the marks are those of the items that a mask keeps and that are not null
-pub record AreMarked (mask : Mask) (marks : List Bool) (c : Column) : Type 0 where
-  pub long : length marks ≡ length c.items
-  pub each : (i : ℕ) → i < length c.items → slice_index_or marks i false ≡ (slice_index_or (mask_bits mask) i false && is_some (slice_index_or c.items i None))
-
--- the bits are the marks, but for those among the first n whose items are not null and do not pass a test
-pub record ArePassing (test : ℤ → Bool) (marks bits : List Bool) (n : ℕ) (c : Column) : Type 0 where
-  pub long : length bits ≡ length marks
-  pub unmarked : (i : ℕ) → i < n → slice_index_or marks i false ≡ false → slice_index_or bits i false ≡ false
-  pub marked : (i : ℕ) (z : ℤ) → i < n → slice_index_or marks i false ≡ true → slice_index_or c.items i None ≡ Some z → slice_index_or bits i false ≡ test z
-  pub behind : (i : ℕ) → n ≤ i → slice_index_or bits i false ≡ slice_index_or marks i false
+-- which items are marked and pass a test
+abbrev pub passing_marks : (ℤ → Bool) → Validity → Column → List Bool
+passing_marks test marks c = tabulate (both (marked_from marks 0) (passed_in test (integers_in c))) (length c.items)

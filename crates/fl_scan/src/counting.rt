@@ -11,7 +11,7 @@ use crate::folds::tests::ItemTest;
 use fl_column::{NativePType, Validity};
 
 /// Marks of consecutive items as a word, the first one's in the lowest bit. No other bit is set.
-fn marks_from(marks: &Validity, start: usize, count: usize) -> u64
+pub(crate) fn marks_from(marks: &Validity, start: usize, count: usize) -> u64
     requires some { 0 < count }
     requires few { count ≤ 64 }
     requires within { Reaches marks.now (start + count) }
@@ -26,7 +26,7 @@ fn marks_from(marks: &Validity, start: usize, count: usize) -> u64
 }
 
 /// Answers of a block as a word, that at `at` in the lowest bit.
-fn answers_from(answers: &[u64; 16], at: usize) -> u64
+pub(crate) fn answers_from(answers: &[u64; 16], at: usize) -> u64
     requires { at < 1024 }
     ensures { (j : ℕ) → j < 64 → at + j < 1024 → bit_of_word result j ≡ has_bit answers.now (at + j) }
 {

@@ -21,7 +21,7 @@ use fl_column::{ConstantArray, NativePType, PhysicalPType, PrimitiveArray, Valid
 use num_traits::WrappingAdd;
 
 /// Whether some of the items from `from` on may be marked: `false` where none is.
-fn has_marks(marks: &Validity, from: usize, count: usize) -> bool
+pub(crate) fn has_marks(marks: &Validity, from: usize, count: usize) -> bool
     requires { Reaches marks.now (from + count) }
     ensures { result ≡ false → (i : ℕ) → i < count → is_valid_at marks.now (from + i) ≡ false }
 {

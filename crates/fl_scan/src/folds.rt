@@ -1,8 +1,6 @@
 //! What is gathered of integers that come one after another.
 
 pub(crate) mod extremes;
-pub(crate) mod gather;
-pub(crate) mod one_of;
 pub(crate) mod selecting;
 pub(crate) mod tests;
 pub(crate) mod total;

@@ -1,6 +1,6 @@
 //! The items of an array that a mask keeps.
 
-ghost use Rattle.std.specs.Prelude.{◌≡◌, ◌<◌, ◌^◌, IfErr, IfOk, IsTrue, OnOk, length};
+ghost use Rattle.std.specs.Prelude.{◌≡◌, ◌<◌, ◌^◌, IfErr, IfOk, IsTrue, OnOk, filter, length, map};
 ghost use Rattle.fl_types.specs.declared.error.FastLanesError.TheVariants.{OutOfMemory};
 ghost use Rattle.fl_types.specs.Masks.{mask_len};
 ghost use Rattle.fl_types.specs.Refusals.{Answers};
@@ -12,6 +12,7 @@ ghost use Rattle.fl_scan.specs.Totals.{count_of, of_integers, valid_column, vali
 
 use crate::blocks::add_marked;
 use crate::counts::count_marked;
+use crate::filtering::filter_marked;
 use crate::folds::Fold;
 use crate::marks::marks_of;
 use fl_array::{ArrayRef, Reader};
@@ -91,5 +92,19 @@ impl Kept<'_> {
         ensures { result ≡ count_of (passes range) self.now }
     {
         count_marked::<T>(&self.reader, &self.marks, range)
+    }
+
+    /// The items that pass a test.
+    pub(crate) fn filter<T: BitPacked + PhysicalPType + WrappingAdd>(
+        &self,
+        alloc: Global,
+        range: RangeTest,
+    ) -> Result<Vec<T>, FastLanesError>
+        requires typed { IsTrue (has_ptype T.PTYPE self.now.dtype) }
+        requires test { IsTestOf T.PTYPE range }
+        ensures items { IfOk result (λ taken. map T.value taken.items ≡ filter (passes range) (valid_items self.now)) }
+        ensures memory { IfErr result (λ e. e ≡ OutOfMemory) }
+    {
+        filter_marked(alloc, &self.reader, &self.marks, range)
     }
 }

@@ -2,16 +2,19 @@
 #![tactic(auto)]
 
 mod arrays;
+mod block_tests;
 mod blocks;
 mod bounds;
 mod counting;
 mod counts;
+mod filtering;
 mod folds;
 pub mod indices;
 mod kept;
 pub mod laws;
 mod marks;
 mod membership;
+mod one_of;
 mod passing;
 mod plain;
 mod prepared;

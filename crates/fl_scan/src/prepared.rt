@@ -1,6 +1,6 @@
 //! An array that is read block by block.
 
-ghost use Rattle.std.specs.Prelude.{◌≡◌, IfErr, IsTrue, OnOk, length};
+ghost use Rattle.std.specs.Prelude.{◌≡◌, IfErr, IfOk, IsTrue, OnOk, filter, length, map};
 ghost use Rattle.fl_types.specs.declared.error.FastLanesError.TheVariants.{OutOfMemory};
 ghost use Rattle.fl_types.specs.Refusals.{Answers};
 ghost use Rattle.fl_types.specs.Types.{has_ptype};
@@ -11,6 +11,7 @@ ghost use Rattle.fl_scan.specs.Totals.{count_of, valid_items};
 
 use crate::blocks::add_marked;
 use crate::counts::count_marked;
+use crate::filtering::filter_marked;
 use crate::folds::Fold;
 use fl_array::{ArrayRef, Reader};
 use fl_bitpacking::RangeTest;
@@ -82,5 +83,19 @@ impl Blocks<'_> {
         ensures { result ≡ count_of (passes range) self.now }
     {
         count_marked::<T>(&self.reader, &self.validity, range)
+    }
+
+    /// The valid items that pass a test.
+    pub(crate) fn filter<T: BitPacked + PhysicalPType + WrappingAdd>(
+        &self,
+        alloc: Global,
+        range: RangeTest,
+    ) -> Result<Vec<T>, FastLanesError>
+        requires typed { IsTrue (has_ptype T.PTYPE self.now.dtype) }
+        requires test { IsTestOf T.PTYPE range }
+        ensures items { IfOk result (λ taken. map T.value taken.items ≡ filter (passes range) (valid_items self.now)) }
+        ensures memory { IfErr result (λ e. e ≡ OutOfMemory) }
+    {
+        filter_marked(alloc, &self.reader, &self.validity, range)
     }
 }

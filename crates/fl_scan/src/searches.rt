@@ -1,6 +1,6 @@
 //! Whether items are among given ones, and where a value stands in a sorted array.
 
-ghost use Rattle.std.specs.Prelude.{◌≡◌, All, IfErr, IfOk, IsTrue, Ok, length, map};
+ghost use Rattle.std.specs.Prelude.{◌≡◌, All, IfErr, IfOk, IsTrue, Ok, map};
 ghost use Rattle.fl_types.specs.declared.error.FastLanesError.TheVariants.{OutOfMemory};
 ghost use Rattle.fl_types.specs.Refusals.{Answers};
 ghost use Rattle.fl_types.specs.Types.{has_ptype};
@@ -9,14 +9,16 @@ ghost use Rattle.fl_column.specs.Columns.{column_of_bools};
 ghost use Rattle.fl_column.specs.Queries.{are_sorted, tested};
 ghost use Rattle.fl_array.specs.Reads.{IsValidityOf};
 ghost use Rattle.fl_array.specs.Trees.{column};
+ghost use Rattle.fl_scan.specs.Blocks.{Marks};
 ghost use Rattle.fl_scan.specs.Bounds.{lower_bound_of};
 ghost use Rattle.fl_scan.specs.Constants.{integer_in, is_comparable};
-ghost use Rattle.fl_scan.specs.Membership.{AreAnswers, are_comparable, is_one_of};
+ghost use Rattle.fl_scan.specs.Membership.{are_comparable, is_one_of};
+ghost use Rattle.fl_scan.specs.Selections.{passing_marks};
 ghost use Rattle.fl_scan.specs.Totals.{of_integers};
 
 use crate::blocks::MOST_ITEMS;
 use crate::bounds::position_of;
-use crate::membership::are_in;
+use crate::membership::keep_listed;
 use crate::queries::integer_for;
 use fl_array::{ArrayRef, IntoArray, Reader};
 use fl_bitpacking::unpack_iter::BitPacked;
@@ -27,19 +29,21 @@ use fl_types::match_each_integer_ptype;
 use num_traits::WrappingAdd;
 use std::alloc::Global;
 
-/// Whether each item of a column of this type is one of a list, also under a null.
-fn are_in_typed(
+/// The marks of the items that are one of a list, by a column's integer type.
+fn keep_typed(
     alloc: Global,
     reader: &Reader,
+    marks: &Validity,
     ptype: PType,
     list: &[PValue],
 ) -> Result<BitList, FastLanesError>
     requires typed { IsTrue (has_ptype ptype reader.now.column.dtype) }
+    requires marks { Marks marks.now reader.now.column }
     requires constants { All (λ value. ptype_of_value value ≡ ptype) list.now }
-    ensures answers { IfOk result (λ answers. AreAnswers (is_one_of (map integer_of list.now)) answers (length reader.now.column.items) reader.now.column) }
+    ensures marks { IfOk result (λ bits. bits ≡ passing_marks (is_one_of (map integer_of list.now)) marks.now reader.now.column) }
     ensures memory { IfErr result (λ e. e ≡ OutOfMemory) }
 {
-    match_each_integer_ptype!(ptype, are_in(alloc, reader, list))
+    match_each_integer_ptype!(ptype, keep_listed(alloc, reader, marks, list))
 }
 
 /// Whether each item of an array is one of a list, null at a null.
@@ -55,7 +59,7 @@ fn is_in_read(
 {
     let validity = array.validity(alloc)?;
     let reader = Reader::try_new(alloc, array)?;
-    let answers = are_in_typed(alloc, &reader, ptype, list)?;
+    let answers = keep_typed(alloc, &reader, &validity, ptype, list)?;
     BoolArray::new(answers, validity)
 }
 

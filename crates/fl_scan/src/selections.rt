@@ -1,6 +1,6 @@
 //! What is asked of the items of an array that a mask keeps. A block without one is not read.
 
-ghost use Rattle.std.specs.Prelude.{◌≡◌, IfErr, IfOk, IfSome, IsTrue, Ok, length, option_map};
+ghost use Rattle.std.specs.Prelude.{◌≡◌, ℤ, Bool, IfErr, IfOk, IfSome, IsTrue, Ok, length, option_map};
 ghost use Rattle.fl_types.specs.declared.error.FastLanesError.TheVariants.{OutOfMemory};
 ghost use Rattle.fl_types.specs.Integers.{is_unsigned};
 ghost use Rattle.fl_types.specs.Masks.{mask_bits, mask_len};
@@ -10,9 +10,11 @@ ghost use Rattle.fl_types.specs.Values.{integer_of, ptype_of_value, scalar_parts
 ghost use Rattle.fl_column.specs.Columns.{ptype_of_column};
 ghost use Rattle.fl_column.specs.Operations.{filter_of};
 ghost use Rattle.fl_column.specs.Queries.{holds, is_between};
+ghost use Rattle.fl_bitpacking.specs.RangeTests.{IsTestOf, passes};
 ghost use Rattle.fl_array.specs.Trees.{column};
+ghost use Rattle.fl_scan.specs.Blocks.{Marks};
 ghost use Rattle.fl_scan.specs.Constants.{integer_in, is_comparable};
-ghost use Rattle.fl_scan.specs.Selections.{AreMarked, ArePassing, passed_under, under_mask};
+ghost use Rattle.fl_scan.specs.Selections.{passed_under, passing_marks, under_mask};
 ghost use Rattle.fl_scan.specs.Sources.{column_of_source};
 ghost use Rattle.fl_scan.specs.Sums.{integer_of_sum, is_unsigned_sum};
 ghost use Rattle.fl_scan.specs.Totals.{count_of, greatest_item, least_item, of_integers, of_kept, sum_of, valid_items};
@@ -20,17 +22,18 @@ ghost use Rattle.fl_scan.specs.Totals.{count_of, greatest_item, least_item, of_i
 use crate::blocks::MOST_ITEMS;
 use crate::kept::Kept;
 use crate::marks::marks_of;
-use crate::passing::{bits_of, keep_passing};
+use crate::passing::keep_passing;
 use crate::queries::integer_for;
 use crate::source::Source;
 use crate::sums::{Sum, sum_typed};
-use crate::totals::{comparison, count_compared, extremes, range};
+use crate::totals::{count_compared, extremes};
 use fl_array::laws::items_are_in_range;
 use fl_array::{ArrayRef, Reader};
+use fl_bitpacking::RangeTest;
 use fl_bitpacking::unpack_iter::BitPacked;
 use fl_column::{
     BetweenOptions, BitList, CompareOperator, DType, FastLanesError, Mask, PType, PValue,
-    PhysicalPType, Scalar,
+    PhysicalPType, Scalar, Validity,
 };
 use fl_types::match_each_integer_ptype;
 use num_traits::WrappingAdd;
@@ -73,79 +76,67 @@ fn extremes_typed(source: &Source, ptype: PType) -> Result<Option<(PValue, PValu
     match_each_integer_ptype!(ptype, extremes(source))
 }
 
-/// The marks of the items that a mask keeps and that are not null.
-fn marked_items(alloc: Global, array: &ArrayRef, mask: &Mask) -> Result<BitList, FastLanesError>
+/// The marks of the items of an array that a mask keeps and that are not null.
+fn marks_under(alloc: Global, array: &ArrayRef, mask: &Mask) -> Result<Validity, FastLanesError>
     requires { mask_len mask.now ≡ length (column array.now).items }
-    ensures marks { IfOk result (λ marks. AreMarked mask.now marks (column array.now)) }
+    ensures marks { IfOk result (λ marks. Marks marks (column array.now)) }
+    ensures passing { IfOk result (λ marks. (test : ℤ → Bool) → passing_marks test marks (column array.now) ≡ passed_under mask.now test (column array.now)) }
     ensures memory { IfErr result (λ e. e ≡ OutOfMemory) }
 {
     let validity = array.validity(alloc)?;
-    let marks = marks_of(alloc, mask, validity)?;
-    bits_of(alloc, marks, array.len())
+    marks_of(alloc, mask, validity)
 }
 
-/// The marks of the items that compare so with a constant.
-fn keep_compared<T: BitPacked + PhysicalPType + WrappingAdd>(
-    marks: BitList,
-    reader: &Reader,
-    operator: CompareOperator,
-    constant: PValue,
-) -> BitList
-    requires typed { IsTrue (has_ptype T.PTYPE reader.now.column.dtype) }
-    requires constant { ptype_of_value constant ≡ T.PTYPE }
-    requires long { length marks ≡ length reader.now.column.items }
-    ensures { ArePassing (holds operator (integer_of constant)) marks result (length reader.now.column.items) reader.now.column }
-{
-    keep_passing(marks, reader, comparison::<T>(operator, constant))
-}
-
-/// The marks of the items that lie between two bounds.
+/// The marks of the items that lie in a range.
 fn keep_in_range<T: BitPacked + PhysicalPType + WrappingAdd>(
-    marks: BitList,
+    alloc: Global,
     reader: &Reader,
-    bounds: (PValue, PValue),
-    options: BetweenOptions,
-) -> BitList
+    marks: &Validity,
+    range: RangeTest,
+) -> Result<BitList, FastLanesError>
     requires typed { IsTrue (has_ptype T.PTYPE reader.now.column.dtype) }
-    requires lower { ptype_of_value bounds.0 ≡ T.PTYPE }
-    requires upper { ptype_of_value bounds.1 ≡ T.PTYPE }
-    requires long { length marks ≡ length reader.now.column.items }
-    ensures { ArePassing (is_between options (integer_of bounds.0) (integer_of bounds.1)) marks result (length reader.now.column.items) reader.now.column }
+    requires test { IsTestOf T.PTYPE range }
+    requires marks { Marks marks.now reader.now.column }
+    ensures marks { IfOk result (λ bits. bits ≡ passing_marks (passes range) marks.now reader.now.column) }
+    ensures memory { IfErr result (λ e. e ≡ OutOfMemory) }
 {
-    keep_passing(marks, reader, range::<T>(bounds.0, bounds.1, options))
+    keep_passing::<T, _>(alloc, reader, marks, range)
 }
 
 /// The same, by a column's integer type.
-fn compared(
-    marks: BitList,
+fn keep_typed(
+    alloc: Global,
     reader: &Reader,
+    marks: &Validity,
     ptype: PType,
-    operator: CompareOperator,
-    constant: PValue,
-) -> BitList
+    range: RangeTest,
+) -> Result<BitList, FastLanesError>
     requires typed { IsTrue (has_ptype ptype reader.now.column.dtype) }
-    requires constant { ptype_of_value constant ≡ ptype }
-    requires long { length marks ≡ length reader.now.column.items }
-    ensures { ArePassing (holds operator (integer_of constant)) marks result (length reader.now.column.items) reader.now.column }
+    requires test { IsTestOf ptype range }
+    requires marks { Marks marks.now reader.now.column }
+    ensures marks { IfOk result (λ bits. bits ≡ passing_marks (passes range) marks.now reader.now.column) }
+    ensures memory { IfErr result (λ e. e ≡ OutOfMemory) }
 {
-    match_each_integer_ptype!(ptype, keep_compared(marks, reader, operator, constant))
+    match_each_integer_ptype!(ptype, keep_in_range(alloc, reader, marks, range))
 }
 
-/// The marks of the items that lie between two bounds, by a column's integer type.
-fn in_range(
-    marks: BitList,
-    reader: &Reader,
+/// Which of the items that a mask keeps are not null and lie in a range.
+fn passed(
+    alloc: Global,
+    array: &ArrayRef,
+    mask: &Mask,
     ptype: PType,
-    bounds: (PValue, PValue),
-    options: BetweenOptions,
-) -> BitList
-    requires typed { IsTrue (has_ptype ptype reader.now.column.dtype) }
-    requires lower { ptype_of_value bounds.0 ≡ ptype }
-    requires upper { ptype_of_value bounds.1 ≡ ptype }
-    requires long { length marks ≡ length reader.now.column.items }
-    ensures { ArePassing (is_between options (integer_of bounds.0) (integer_of bounds.1)) marks result (length reader.now.column.items) reader.now.column }
+    range: RangeTest,
+) -> Result<Mask, FastLanesError>
+    requires mask { mask_len mask.now ≡ length (column array.now).items }
+    requires typed { IsTrue (has_ptype ptype (column array.now).dtype) }
+    requires test { IsTestOf ptype range }
+    ensures { Answers mask_bits result (Ok (passed_under mask.now (passes range) (column array.now))) }
 {
-    match_each_integer_ptype!(ptype, keep_in_range(marks, reader, bounds, options))
+    let marks = marks_under(alloc, array, mask)?;
+    let reader = Reader::try_new(alloc, array)?;
+    let bits = keep_typed(alloc, &reader, &marks, ptype, range)?;
+    Ok(Mask::Values(bits))
 }
 
 /// Which of the items that a mask keeps compare so with a constant of the array's type that is not null; a null does
@@ -171,10 +162,8 @@ pub fn compare_under(
         return Err(FastLanesError::NotInteger);
     };
     let value = integer_for(array, constant);
-    let marks = marked_items(alloc, array, mask)?;
-    let reader = Reader::try_new(alloc, array)?;
-    let bits = compared(marks, &reader, ptype, operator, value);
-    Ok(Mask::Values(bits))
+    let range = RangeTest::comparing(operator, value);
+    passed(alloc, array, mask, ptype, range)
 }
 
 /// Which of the items that a mask keeps lie between two bounds of the array's type that are not null; a null does not.
@@ -200,11 +189,9 @@ pub fn between_under(
     let DType::Primitive(ptype, _) = array.dtype() else {
         return Err(FastLanesError::NotInteger);
     };
-    let bounds = (integer_for(array, lower), integer_for(array, upper));
-    let marks = marked_items(alloc, array, mask)?;
-    let reader = Reader::try_new(alloc, array)?;
-    let bits = in_range(marks, &reader, ptype, bounds, *options);
-    Ok(Mask::Values(bits))
+    let (low, high) = (integer_for(array, lower), integer_for(array, upper));
+    let range = RangeTest::between(low, high, *options);
+    passed(alloc, array, mask, ptype, range)
 }
 
 /// How many of the items that a mask keeps compare so with a constant of the array's type that is not null; a null does

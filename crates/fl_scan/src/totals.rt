@@ -1,6 +1,6 @@
 //! Answers of what is scanned, at its type.
 
-ghost use Rattle.std.specs.Prelude.{◌≡◌, IfErr, IfOk, IfSome, IsTrue, Ok, option_map};
+ghost use Rattle.std.specs.Prelude.{◌≡◌, IfErr, IfOk, IfSome, IsTrue, Ok, filter, map, option_map};
 ghost use Rattle.std.specs.Int.{int_wrap, w128};
 ghost use Rattle.fl_types.specs.declared.error.FastLanesError.TheVariants.{OutOfMemory};
 ghost use Rattle.fl_types.specs.Refusals.{Answers};
@@ -10,11 +10,11 @@ ghost use Rattle.fl_column.specs.Columns.{column_of_primitive};
 ghost use Rattle.fl_column.specs.Queries.{holds, is_between};
 ghost use Rattle.fl_scan.specs.Sources.{column_of_source};
 ghost use Rattle.fl_scan.specs.Counts.{IsRange};
-ghost use Rattle.fl_scan.specs.Totals.{count_of, filtered_by, greatest_item, least_item, sum_of};
+ghost use Rattle.fl_scan.specs.Totals.{count_of, filtered_by, greatest_item, least_item, sum_of, valid_items};
 
 use crate::counts::{count_constant, count_plain};
+use crate::filtering::{filter_constant, filter_plain};
 use crate::folds::extremes::Extremes;
-use crate::folds::gather::Gather;
 use crate::folds::tests::{Between, Comparison, ItemTest};
 use crate::folds::total::Total;
 use crate::source::Source;
@@ -112,20 +112,42 @@ pub(crate) fn count_in_range<T: BitPacked + PhysicalPType + WrappingAdd>(
     count_passing(source, test, range)
 }
 
+/// The valid items that pass a test, as a list.
+fn items_passing<T: BitPacked + PhysicalPType + WrappingAdd, P: ItemTest<T>>(
+    alloc: Global,
+    source: &Source,
+    test: P,
+    range: RangeTest,
+) -> Result<Vec<T>, FastLanesError>
+    requires typed { IsTrue (has_ptype T.PTYPE (column_of_source source.now).dtype) }
+    requires ranged { IsRange T.PTYPE (P.passing test) range }
+    ensures items { IfOk result (λ taken. map T.value taken.items ≡ filter (P.passing test) (valid_items (column_of_source source.now))) }
+    ensures memory { IfErr result (λ e. e ≡ OutOfMemory) }
+{
+    match source {
+        Source::Primitive(plain) => filter_plain(alloc, plain, test),
+        Source::Constant(constant) => filter_constant(alloc, constant, test),
+        Source::Blocks(blocks) => blocks.filter(alloc, range),
+        Source::Kept(kept) => kept.filter(alloc, range),
+        Source::Decoded(plain) => filter_plain(alloc, plain, test),
+    }
+}
+
 /// The valid items that pass a test.
 fn filter_passing<T: BitPacked + PhysicalPType + WrappingAdd, P: ItemTest<T>>(
     alloc: Global,
     source: &Source,
     nullability: Nullability,
     test: P,
+    range: RangeTest,
 ) -> Result<PrimitiveArray, FastLanesError>
     requires typed { IsTrue (has_ptype T.PTYPE (column_of_source source.now).dtype) }
     requires nullability { nullability ≡ nullability_in (column_of_source source.now).dtype }
+    requires ranged { IsRange T.PTYPE (P.passing test) range }
     ensures { Answers column_of_primitive result (Ok (filtered_by (P.passing test) (column_of_source source.now))) }
 {
-    let mut fold = Gather::new(alloc, test);
-    source.scan(&mut fold)?;
-    Ok(PrimitiveArray::without_nulls(fold.into_items(), nullability))
+    let items = items_passing(alloc, source, test, range)?;
+    Ok(PrimitiveArray::without_nulls(items, nullability))
 }
 
 /// The valid items that compare so with a constant.
@@ -141,12 +163,9 @@ pub(crate) fn filter_compared<T: BitPacked + PhysicalPType + WrappingAdd>(
     requires constant { ptype_of_value constant ≡ T.PTYPE }
     ensures { Answers column_of_primitive result (Ok (filtered_by (holds operator (integer_of constant)) (column_of_source source.now))) }
 {
-    filter_passing(
-        alloc,
-        source,
-        nullability,
-        comparison::<T>(operator, constant),
-    )
+    let test = comparison::<T>(operator, constant);
+    let range = RangeTest::comparing(operator, constant);
+    filter_passing(alloc, source, nullability, test, range)
 }
 
 /// The valid items between two bounds, the lower one first.
@@ -164,12 +183,9 @@ pub(crate) fn filter_in_range<T: BitPacked + PhysicalPType + WrappingAdd>(
     ensures { Answers column_of_primitive result (Ok (filtered_by (is_between options (integer_of bounds.0) (integer_of bounds.1)) (column_of_source source.now))) }
 {
     let (lower, upper) = bounds;
-    filter_passing(
-        alloc,
-        source,
-        nullability,
-        range::<T>(lower, upper, options),
-    )
+    let test = range::<T>(lower, upper, options);
+    let range = RangeTest::between(lower, upper, options);
+    filter_passing(alloc, source, nullability, test, range)
 }
 
 /// The sum of the valid items, modulo 2 to the power of 128.
