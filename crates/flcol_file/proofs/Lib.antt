@@ -1,7 +1,7 @@
-pub mod AppendLaws
 pub mod ChunkLaws
 pub mod ChunkSteps
 pub mod FileLaws
+pub mod HeldLaws
 pub mod PassingLaws
 pub mod PlanLaws
 pub mod ReadLaws

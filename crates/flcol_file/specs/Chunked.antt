@@ -52,10 +52,6 @@ pub record AreFactsOf (facts : ChunkFacts) (columns : List Column) : Type 0 wher
   pub statistics : facts.statistics ≡ map statistics_of_column columns
   pub typed : AllByRecursion (λ c. c.dtype ≡ Primitive facts.ptype facts.nullability) columns
 
--- the column of these items, of the type that is known
-abbrev pub column_of_items : ChunkFacts → List (Option ℤ) → Column
-column_of_items facts items = record { dtype = Primitive facts.ptype facts.nullability; items = items }
-
 -- ---- reads
 -- where these chunks lie
 abbrev pub places_of : ChunkFacts → List ℕ → List Place

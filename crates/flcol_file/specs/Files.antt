@@ -4,7 +4,8 @@ use Rattle.fl_types.specs.declared.dtype.DType.{DType}
 use Rattle.fl_types.specs.declared.dtype.DType.TheVariants.{Primitive}
 use Rattle.fl_types.specs.declared.error.FastLanesError.TheVariants.{OutOfMemory, TypeMismatch}
 use Rattle.fl_column.specs.Columns.{Column}
-use Rattle.fl_file.specs.Files.{FileSoFar, HasWritten, IsLeftBy, padded, padding_len, with_chunk}
+use Rattle.fl_file.specs.FileLaws.{AreChunksOf}
+use Rattle.fl_file.specs.Files.{FileSoFar, HasWritten, IsLeftBy, Part, padded, padding_len, with_chunk}
 use Rattle.fl_file.specs.Foot.{FootParts}
 use Rattle.fl_file.specs.FileReading.{IsReaderOf, chunk_of, foot_of_reader, place_of, source_can_fail}
 use Rattle.fl_file.specs.Statistics.{statistics_of_column}
@@ -111,3 +112,19 @@ GivesArray fails bytes foot e (Err error) = IsFault fails error ⊎ IsRefused by
 abbrev pub IsChunkVerdict : {X : Type 0} → Bool → List ℕ → FootParts → ChunkEntry → Result X ColumnFileError → Type 0
 IsChunkVerdict fails bytes foot e (Ok x) = (c : Column) × HoldsColumn bytes foot e c
 IsChunkVerdict fails bytes foot e (Err error) = IsFault fails error ⊎ IsRefused bytes foot e error
+
+-- ---- laws
+-- a chunk is of an array with this column, which is of the file's type, and its statistics are the column's
+abbrev pub IsPartOf : FootParts → Part → Column → Type 0
+IsPartOf foot part c = IsChunkOf c part.0 × (part.1 ≡ statistics_of_column c) × (c.dtype ≡ Primitive foot.ptype foot.nullability)
+
+-- chunks are of these columns, one by one
+abbrev pub ArePartsOf : FootParts → List Part → List Column → Type 0
+ArePartsOf foot [] [] = ⊤
+ArePartsOf foot [] (c ∷ columns) = ⊥
+ArePartsOf foot (part ∷ parts) [] = ⊥
+ArePartsOf foot (part ∷ parts) (c ∷ columns) = IsPartOf foot part c × ArePartsOf foot parts columns
+
+-- a law: a file that is read as chunks of these columns holds them
+abbrev pub FileIsHeld : Type 0
+FileIsHeld = (bytes : List ℕ) (foot : FootParts) (parts : List Part) (columns : List Column) → AreChunksOf bytes foot.chunks parts → ArePartsOf foot parts columns → HoldEach bytes foot foot.chunks columns

@@ -19,12 +19,6 @@ is_open prunings.Skip = false
 is_open prunings.All = false
 is_open prunings.Some = true
 
--- a plan does not say of the chunk that no item passes
-abbrev pub is_kept : Pruning → Bool
-is_kept prunings.Skip = false
-is_kept prunings.All = true
-is_kept prunings.Some = true
-
 -- the numbers of the chunks of which a plan says what passes the test; the first chunk has this number
 abbrev pub chunks_where : (Pruning → Bool) → ℕ → List Pruning → List ℕ
 chunks_where test k [] = []

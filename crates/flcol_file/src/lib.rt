@@ -5,6 +5,7 @@ pub mod chunks;
 pub mod column_chunks;
 pub mod error;
 pub mod files;
+pub mod laws;
 pub mod one_chunk;
 pub mod passing;
 pub mod scans;
