@@ -17,14 +17,15 @@ def framed(own, children):
         yield from (f"{many}({child},{references})" for child in children for references in children)
 
 
-def with_deltas(own, children):
-    """Those, and deltas over two of these children."""
+def with_deltas(own, bases, deltas):
+    """Those, and deltas over these."""
     yield from own
-    yield from (f"delta({bases},{deltas})" for bases in children for deltas in children)
+    yield from (f"delta({base},{delta})" for base in bases for delta in deltas)
 
 
 FRAMED = [list(framed(PACKED, PLAIN)), list(framed(PACKED, PACKED))]
-DELTAS = [list(with_deltas(FRAMED[1], FRAMED[0])), list(with_deltas(FRAMED[1], FRAMED[1]))]
+BASES = [list(with_deltas(FRAMED[0], PLAIN, PLAIN)), list(with_deltas(FRAMED[1], FRAMED[0], FRAMED[0]))]
+DELTAS = [list(with_deltas(FRAMED[1], BASES[0], FRAMED[0])), list(with_deltas(FRAMED[1], BASES[1], FRAMED[1]))]
 
 
 def schemes(chance, count):
@@ -32,8 +33,8 @@ def schemes(chance, count):
     yield from FRAMED[1]
     yield from chance.sample(DELTAS[1], count)
     for _ in range(count):
-        yield f"rle({chance.choice(DELTAS[0])},{chance.choice(FRAMED[1])},{chance.choice(FRAMED[1])})"
-        yield f"dict({chance.choice(DELTAS[0])},{chance.choice(DELTAS[0])},{chance.choice(FRAMED[1])})"
+        for runs in ("rle", "dict"):
+            yield f"{runs}({chance.choice(DELTAS[0])},{chance.choice(DELTAS[0])},{chance.choice(FRAMED[1])})"
 
 
 def columns(chance):
@@ -81,7 +82,7 @@ class Compress(unittest.TestCase):
         plain = flcol.array(items)
         least = plain.compress()
         self.assertEqual(plain.compress(encodings=None, depth=4).nbytes, plain.compress(depth=4).nbytes)
-        self.assertEqual(plain.compress(depth=10**30).scheme, plain.compress(depth=4).scheme)
+        self.assertEqual(plain.compress(depth=10**30).scheme, plain.compress(depth=5).scheme)
         self.assertEqual(plain.compress(["constant", "bitpacked", "for", "delta", "rle", "dict"]).scheme, least.scheme)
         for encodings, word in (([], "primitive"), (["bitpacked"], "blocked"), (("constant", "dict"), "primitive")):
             made = plain.compress(encodings)

@@ -1,17 +1,17 @@
 -- What the steps of the search answer, by what the calls in them answered.
 use Rattle.std.proofs.lemmas.Bool.Decides.{nat_tests}
-use Rattle.std.proofs.Common.{◌≡◌, ◌≤◌, ◌<◌, ℕ, ◌+◌, ◌-◌, Bool, true, false, List, [], ◌∷◌, ◌++◌, length, Option, Some, None, Ok, Err, ap, sym, subst, ◌∙◌, refl, arith}
-use Rattle.std.specs.Prelude.{IfErr, IfOk, IsTrue, Result}
+use Rattle.std.proofs.Common.{◌≡◌, ◌≤◌, ◌<◌, ℕ, ◌+◌, ◌-◌, Bool, true, false, List, [], ◌∷◌, ◌++◌, length, Option, Some, None, Ok, Err, ap, sym, subst, ◌∙◌, refl, arith, zero, suc}
+use Rattle.std.specs.Prelude.{IfErr, IfOk, IsErrAnd, IsTrue, Result}
 use Rattle.fl_types.specs.declared.error.FastLanesError.{FastLanesError}
 use Rattle.fl_types.specs.declared.error.FastLanesError.TheVariants.{OutOfMemory}
-use Rattle.fl_types.specs.Refusals.{Answers}
+use Rattle.fl_types.specs.Refusals.{Answers, Refuses}
+use Rattle.fl_types.proofs.RefusalLaws.{Refuses_map}
 use Rattle.fl_types.specs.Validities.{covers}
 use Rattle.fl_types.specs.Values.{ScalarParts}
 use Rattle.fl_column.specs.Columns.{ConstantParts, PrimitiveParts, column_of_primitive}
 use Rattle.fl_column.specs.Queries.{are_constant}
 use Rattle.fl_codec.specs.declared.for_.ItemOrder.{ItemOrder}
 use Rattle.fl_codec.specs.declared.for_.ItemOrder.TheVariants.{Natural, Signed}
-use Rattle.fl_codec.specs.Dictionaries.{encode_dictionaries}
 use Rattle.fl_codec.specs.Parts.{ByChunk, Nulls, OneReference, RunParts, Whole, compress_deltas, encode_chunked_by, encode_global_by}
 use Rattle.fl_bitpacking.specs.Encoders.{AnswersUnless}
 use Rattle.fl_array.specs.Trees.{Tree, column}
@@ -24,14 +24,14 @@ use Rattle.fl_encode.specs.Shapes.{BitPacked, Constant, Delta, Dictionary, FoR, 
 use Rattle.fl_serde.specs.ByteCounts.{primitive_bytes, tree_bytes, validity_bytes}
 use Rattle.fl_compress.specs.declared.choice.Choice.{Choice}
 use Rattle.fl_compress.specs.declared.limits.Limits.{Limits}
-use Rattle.fl_compress.specs.Candidates.{candidates, delta_schemes, dictionary_schemes, framed_schemes, has_level, over_chunk_references, over_deltas, over_one_reference, over_runs, packed_schemes, run_schemes, where_allowed}
-use Rattle.fl_compress.specs.Cheapest.{beside, cheaper, cheapest, combined}
+use Rattle.fl_compress.specs.Candidates.{candidates, delta_schemes, framed_schemes, has_level, over_chunk_references, over_deltas, over_one_reference, packed_schemes, run_schemes, where_allowed}
+use Rattle.fl_compress.specs.Cheapest.{cheaper, cheapest, combined}
 use Rattle.fl_compress.specs.Choices.{chosen, or_frames, runs_of, two, with_bytes}
 use Rattle.fl_compress.specs.EncodedBytes.{encoded_bytes}
 use Rattle.fl_compress.specs.Smallest.{IsSmallest}
 use Rattle.fl_compress.proofs.AlikeLaws.{AreAlike, frames_alike}
-use Rattle.fl_compress.proofs.CheapestLaws.{cheaper_none, cheapest_append, first_cheapest, free_first, wrapped}
-use Rattle.fl_compress.proofs.ListLaws.{candidate_list, chunk_list, delta_list, deltas_list, dictionary_list, framed_list, no_delta_list, no_dictionary_list, no_list, no_run_list, not_framed_list, nulls_list, one_list, packed_list, packings_there, run_list, runs_list, whole_list}
+use Rattle.fl_compress.proofs.CheapestLaws.{beside, cheaper_none, cheapest_append, first_cheapest, free_first, wrapped}
+use Rattle.fl_compress.proofs.ListLaws.{candidate_list, chunk_list, delta_list, deltas_list, framed_list, no_delta_list, no_list, no_run_list, not_framed_list, nulls_list, one_list, packed_list, packings_there, run_list, runs_list, whole_list}
 use Rattle.fl_compress.proofs.MadeBytes.{free_of_refusal}
 use Rattle.fl_compress.proofs.SmallestLaws.{constant_is_constant, empty_is_plain, never_larger, smallest_is}
 
@@ -42,6 +42,11 @@ Gives {X} a b = (let r : Result X FastLanesError = Ok a in r) ≡ Ok b
 
 pub gives : {X : Type 0} (a b : X) → a ≡ b → Gives a b
 gives {X} a b e = ap (λ x. let r : Result X FastLanesError = Ok x in r) e
+
+-- where a call in it is refused, a call is refused alike
+pub passed_on : {X Y Z : Type 0} (view : X → Y) (r : Result X FastLanesError) (e : FastLanesError) (z : Z) (y : Y) → IsErrAnd r (λ f. f ≡ e) → (let m : Result Z FastLanesError = Ok z in Refuses e m) → Answers view r (Ok y)
+passed_on view (Ok x) e z y h m = absurd h
+passed_on view (Err f) e z y h m = rw h (Refuses_map e (Ok z) (Ok y) (λ g. cc) m)
 
 -- a call that answers one thing answers what is the same
 pub answers_same : (r : Result Choice FastLanesError) (x y : Option (Shape × ℕ)) → x ≡ y → Answers chosen r (Ok x) → Answers chosen r (Ok y)
@@ -127,13 +132,14 @@ pub free_framed : (limits : Limits) (depth : ℕ) (p : PrimitiveParts) (s : Shap
 unfolding framed_schemes
 free_framed limits depth p s n e none = gives _ _ (free_longer p (packed_schemes limits depth) _ s n e none)
 
-pub free_deltas : (limits : Limits) (depth : ℕ) (p : PrimitiveParts) (s : Shape) (n : ℕ) → Gives (cheapest (encoded_bytes p) (framed_schemes limits depth)) (Some (s, n)) → n ≡ 0 → Gives (cheapest (encoded_bytes p) (delta_schemes limits depth)) (Some (s, n))
+pub free_deltas : (nested : ℕ) (limits : Limits) (depth : ℕ) (p : PrimitiveParts) (s : Shape) (n : ℕ) → Gives (cheapest (encoded_bytes p) (framed_schemes limits depth)) (Some (s, n)) → n ≡ 0 → Gives (cheapest (encoded_bytes p) (delta_schemes nested limits depth)) (Some (s, n))
 unfolding delta_schemes
-free_deltas limits depth p s n e none = gives _ _ (free_longer p (framed_schemes limits depth) _ s n (sym (ok_is _ _ e)) none)
+free_deltas zero limits depth p s n e none = e
+free_deltas (suc nested) limits depth p s n e none = gives _ _ (free_longer p (framed_schemes limits depth) _ s n (sym (ok_is _ _ e)) none)
 
-pub free_candidate : (limits : Limits) (p : PrimitiveParts) (s : Shape) (n : ℕ) → Gives (cheapest (encoded_bytes p) (delta_schemes limits limits.depth)) (Some (s, n)) → n ≡ 0 → Gives (cheapest (encoded_bytes p) (candidates limits)) (Some (s, n))
+pub free_candidate : (limits : Limits) (p : PrimitiveParts) (s : Shape) (n : ℕ) → Gives (cheapest (encoded_bytes p) (delta_schemes 2 limits limits.depth)) (Some (s, n)) → n ≡ 0 → Gives (cheapest (encoded_bytes p) (candidates limits)) (Some (s, n))
 unfolding candidates
-free_candidate limits p s n e none = gives _ _ (free_longer p (delta_schemes limits limits.depth) _ s n (sym (ok_is _ _ e)) none)
+free_candidate limits p s n e none = gives _ _ (free_longer p (delta_schemes 2 limits limits.depth) _ s n (sym (ok_is _ _ e)) none)
 
 -- where both orders are one, the wrapped one finds nothing cheaper
 pub alike_choice : (limits : Limits) (depth : ℕ) (p : PrimitiveParts) (packed natural : Option (Shape × ℕ)) → has_level limits.for_ depth ≡ true → packed ≡ cheapest (encoded_bytes p) (packed_schemes limits depth)
@@ -153,49 +159,52 @@ unframed_choice limits depth p packed e f = gives _ _ (not_framed_list limits de
 
 -- ---- deltas
 -- the cheapest of arrays of deltas, by those of the parts
-deltas_are : (p : PrimitiveParts) (own : ℕ) (schemes : List Shape) (d : Shape × ℕ) → own ≡ validity_bytes (length p.slots) p.validity → Gives (cheapest (encoded_bytes (compress_deltas p).1) schemes) (Some d)
-    → cheapest (encoded_bytes p) (over_deltas schemes) ≡ combined Delta (cheapest (encoded_bytes (compress_deltas p).0) schemes) (beside own (Some d))
-deltas_are p own schemes d e f =
-    let bases = cheapest (encoded_bytes (compress_deltas p).0) schemes in
-    deltas_list p schemes ∙ (ap (λ n. combined Delta bases (beside n (cheapest (encoded_bytes (compress_deltas p).1) schemes))) (sym e) ∙ ap (λ c. combined Delta bases (beside own c)) (ok_is _ _ f))
+deltas_are : (p : PrimitiveParts) (own : ℕ) (bases deltas : List Shape) (d : Shape × ℕ) → own ≡ validity_bytes (length p.slots) p.validity → Gives (cheapest (encoded_bytes (compress_deltas p).1) deltas) (Some d)
+    → cheapest (encoded_bytes p) (over_deltas bases deltas) ≡ combined Delta (cheapest (encoded_bytes (compress_deltas p).0) bases) (beside own (Some d))
+deltas_are p own bases deltas d e f =
+    let over = cheapest (encoded_bytes (compress_deltas p).0) bases in
+    deltas_list p bases deltas ∙ (ap (λ n. combined Delta over (beside n (cheapest (encoded_bytes (compress_deltas p).1) deltas))) (sym e) ∙ ap (λ c. combined Delta over (beside own c)) (ok_is _ _ f))
 
 dear_two : (first : Shape × ℕ) (bases : Option (Shape × ℕ)) (d : Shape × ℕ) (own : ℕ) → first.1 ≤ d.1 + own → cheaper (Some first) (combined Delta bases (beside own (Some d))) ≡ Some first
 dear_two first None d own h = refl
 dear_two first (Some b) d own h = grind (arith, nat_tests)
 
--- deltas that take as many bytes as another choice
-pub dear_deltas : (p : PrimitiveParts) (first : Shape) (n own : ℕ) (schemes : List Shape) (d : Shape × ℕ) → own ≡ validity_bytes (length p.slots) p.validity → Gives (cheapest (encoded_bytes (compress_deltas p).1) schemes) (Some d) → n ≤ d.1 + own
-    → Gives (cheaper (Some (first, n)) (cheapest (encoded_bytes p) (over_deltas schemes))) (Some (first, n))
-dear_deltas p first n own schemes d e f h =
-    gives _ _ (ap (cheaper (Some (first, n))) (deltas_are p own schemes d e f) ∙ dear_two (first, n) (cheapest (encoded_bytes (compress_deltas p).0) schemes) d own h)
+-- a framed choice, and another one that deltas were compared with
+delta_choice : (nested : ℕ) (limits : Limits) (depth : ℕ) (p : PrimitiveParts) (framed choice : Option (Shape × ℕ)) → 0 < nested → has_level limits.delta depth ≡ true → Gives (cheapest (encoded_bytes p) (framed_schemes limits depth)) framed
+    → cheaper framed (cheapest (encoded_bytes p) (over_deltas (delta_schemes (nested - 1) limits (depth - 1)) (framed_schemes limits (depth - 1)))) ≡ choice → Gives (cheapest (encoded_bytes p) (delta_schemes nested limits depth)) choice
+delta_choice nested limits depth p framed choice some e f h =
+    gives _ _ (delta_list nested limits depth p some e ∙ (ap (λ c. cheaper c (cheapest (encoded_bytes p) (over_deltas (delta_schemes (nested - 1) limits (depth - 1)) (framed_schemes limits (depth - 1))))) (ok_is _ _ f) ∙ h))
+
+-- deltas that take as many bytes as a framed array
+pub dear_deltas : (nested : ℕ) (limits : Limits) (depth : ℕ) (p : PrimitiveParts) (framed d : Shape × ℕ) (own : ℕ) → 0 < nested → has_level limits.delta depth ≡ true → Gives (cheapest (encoded_bytes p) (framed_schemes limits depth)) (Some framed)
+    → own ≡ validity_bytes (length p.slots) p.validity → Gives (cheapest (encoded_bytes (compress_deltas p).1) (framed_schemes limits (depth - 1))) (Some d) → framed.1 ≤ d.1 + own → Gives (cheapest (encoded_bytes p) (delta_schemes nested limits depth)) (Some framed)
+dear_deltas nested limits depth p framed d own some e f g h dear =
+    let bases = delta_schemes (nested - 1) limits (depth - 1) in
+    delta_choice nested limits depth p (Some framed) (Some framed) some e f
+    (ap (cheaper (Some framed)) (deltas_are p own bases (framed_schemes limits (depth - 1)) d g h) ∙ dear_two framed (cheapest (encoded_bytes (compress_deltas p).0) bases) d own dear)
 
 -- an array of deltas that was made
-pub deltas_choice : (p bases : PrimitiveParts) (own : ℕ) (schemes : List Shape) (first made choice : Option (Shape × ℕ)) (d : Shape × ℕ) → own ≡ validity_bytes (length p.slots) p.validity → Gives (cheapest (encoded_bytes (compress_deltas p).1) schemes) (Some d) → (compress_deltas p).0 ≡ bases
-    → Gives (combined Delta (cheapest (encoded_bytes bases) schemes) (beside own (Some d))) made → choice ≡ cheaper first made → Gives (cheaper first (cheapest (encoded_bytes p) (over_deltas schemes))) choice
-deltas_choice p bases own schemes first made choice d e f g h c =
-    gives _ _ (ap (cheaper first) (deltas_are p own schemes d e f ∙ (ap (λ q. combined Delta (cheapest (encoded_bytes q) schemes) (beside own (Some d))) g ∙ ok_is _ _ h)) ∙ sym c)
+pub deltas_choice : (nested : ℕ) (limits : Limits) (depth : ℕ) (p bases : PrimitiveParts) (framed b made choice : Option (Shape × ℕ)) (d : Shape × ℕ) (own : ℕ) → 0 < nested → has_level limits.delta depth ≡ true → Gives (cheapest (encoded_bytes p) (framed_schemes limits depth)) framed
+    → own ≡ validity_bytes (length p.slots) p.validity → Gives (cheapest (encoded_bytes (compress_deltas p).1) (framed_schemes limits (depth - 1))) (Some d) → (compress_deltas p).0 ≡ bases
+    → Gives (cheapest (encoded_bytes bases) (delta_schemes (nested - 1) limits (depth - 1))) b → Gives (combined Delta b (beside own (Some d))) made → choice ≡ cheaper framed made
+    → Gives (cheapest (encoded_bytes p) (delta_schemes nested limits depth)) choice
+deltas_choice nested limits depth p bases framed b made choice d own some e f g h is k l c =
+    let over = delta_schemes (nested - 1) limits (depth - 1) in
+    delta_choice nested limits depth p framed choice some e f
+    (ap (cheaper framed) (deltas_are p own over (framed_schemes limits (depth - 1)) d g h
+    ∙ (ap (λ q. combined Delta (cheapest (encoded_bytes q) over) (beside own (Some d))) is
+    ∙ (ap (λ x. combined Delta x (beside own (Some d))) (ok_is _ _ k) ∙ ok_is _ _ l))) ∙ sym c)
 
--- a choice over these bases
-pub over_bases : (bases : Option (Shape × ℕ)) (first : Option (Shape × ℕ)) (other : Option (Shape × ℕ)) (r : Result Choice FastLanesError) → Gives bases first → Answers chosen r (Ok (combined Delta first other)) → Answers chosen r (Ok (combined Delta bases other))
-over_bases bases first other r e a = answers_same r _ _ (ap (λ b. combined Delta b other) (sym (ok_is _ _ e))) a
+pub no_delta_choice : (nested : ℕ) (limits : Limits) (depth : ℕ) (p : PrimitiveParts) (framed : Option (Shape × ℕ)) → has_level limits.delta depth ≡ false → Gives (cheapest (encoded_bytes p) (framed_schemes limits depth)) framed → Gives (cheapest (encoded_bytes p) (delta_schemes nested limits depth)) framed
+no_delta_choice nested limits depth p framed e f = gives _ _ (no_delta_list nested limits depth p e ∙ ok_is _ _ f)
 
-pub delta_choice : (limits : Limits) (depth : ℕ) (p : PrimitiveParts) (framed : Option (Shape × ℕ)) (r : Result Choice FastLanesError) → has_level limits.delta depth ≡ true → Gives (cheapest (encoded_bytes p) (framed_schemes limits depth)) framed
-    → Answers chosen r (Ok (cheaper framed (cheapest (encoded_bytes p) (over_deltas (framed_schemes limits (depth - 1)))))) → Answers chosen r (Ok (cheapest (encoded_bytes p) (delta_schemes limits depth)))
-delta_choice limits depth p framed r e f a =
-    answers_same r _ _ (sym (delta_list limits depth p e ∙ ap (λ c. cheaper c (cheapest (encoded_bytes p) (over_deltas (framed_schemes limits (depth - 1))))) (ok_is _ _ f))) a
-
-pub no_delta_choice : (limits : Limits) (depth : ℕ) (p : PrimitiveParts) (framed : Option (Shape × ℕ)) → has_level limits.delta depth ≡ false → Gives (cheapest (encoded_bytes p) (framed_schemes limits depth)) framed → Gives (cheapest (encoded_bytes p) (delta_schemes limits depth)) framed
-no_delta_choice limits depth p framed e f = gives _ _ (no_delta_list limits depth p e ∙ ok_is _ _ f)
+-- where no deltas may stand in one another
+pub not_nested : (nested : ℕ) (limits : Limits) (depth : ℕ) (p : PrimitiveParts) (framed : Option (Shape × ℕ)) → nested ≡ 0 → Gives (cheapest (encoded_bytes p) (framed_schemes limits depth)) framed → Gives (cheapest (encoded_bytes p) (delta_schemes nested limits depth)) framed
+unfolding delta_schemes
+not_nested zero limits depth p framed e f = f
+not_nested (suc nested) limits depth p framed e f = absurd (omega arith)
 
 -- ---- runs
-pub runs_choice : (which : RunValues) (p v o : PrimitiveParts) (i : Option (Shape × ℕ)) (values indices offsets : List Shape) (first : Option (Shape × ℕ)) (r : Result Choice FastLanesError) → ◌≡◌ {A = PrimitiveParts × PrimitiveParts} ((runs_by which p).values, (runs_by which p).offsets) (v, o) → Gives (cheapest (encoded_bytes (runs_by which p).indices) indices) i
-    → Answers chosen r (Ok (cheaper first (combined (runs_of which) (cheapest (encoded_bytes v) values) (combined two i (cheapest (encoded_bytes o) offsets)))))
-    → Answers chosen r (Ok (cheaper first (cheapest (encoded_bytes p) (over_runs which values indices offsets))))
-runs_choice which p v o i values indices offsets first r e f a =
-    answers_same r _ _ (ap (cheaper first) (sym (runs_list which p values indices offsets
-    ∙ (ap (λ x. combined (runs_of which) (cheapest (encoded_bytes (runs_by which p).values) values) (combined two x (cheapest (encoded_bytes (runs_by which p).offsets) offsets))) (ok_is _ _ f)
-    ∙ ap (λ (x : PrimitiveParts × PrimitiveParts). combined (runs_of which) (cheapest (encoded_bytes x.0) values) (combined two i (cheapest (encoded_bytes x.1) offsets))) e)))) a
-
 -- run indices that take as many bytes as another choice
 dear_first : (which : RunValues) (first : Shape × ℕ) (values : Option (Shape × ℕ)) (i : Shape × ℕ) (offsets : Option (Shape × ℕ)) → first.1 ≤ i.1 → cheaper (Some first) (combined (runs_of which) values (combined two (Some i) offsets)) ≡ Some first
 dear_first which first None i None h = refl
@@ -203,12 +212,10 @@ dear_first which first None i (Some o) h = refl
 dear_first which first (Some v) i None h = refl
 dear_first which first (Some v) i (Some o) h = grind (arith, nat_tests)
 
-pub dear_indices : (which : RunValues) (p : PrimitiveParts) (first : Shape) (n : ℕ) (values indices offsets : List Shape) (i : Shape × ℕ) → Gives (cheapest (encoded_bytes (runs_by which p).indices) indices) (Some i) → n ≤ i.1
-    → Gives (cheaper (Some (first, n)) (cheapest (encoded_bytes p) (over_runs which values indices offsets))) (Some (first, n))
-dear_indices which p first n values indices offsets i e h =
-    let v = cheapest (encoded_bytes (runs_by which p).values) values in
-    let o = cheapest (encoded_bytes (runs_by which p).offsets) offsets in
-    gives _ _ (ap (cheaper (Some (first, n))) (runs_list which p values indices offsets) ∙ (ap (λ x. cheaper (Some (first, n)) (combined (runs_of which) v (combined two x o))) (ok_is _ _ e) ∙ dear_first which (first, n) v i o h))
+pub dear_indices : (which : RunValues) (first : Shape) (n : ℕ) (values indices offsets : Option (Shape × ℕ)) (i : Shape × ℕ) → Gives indices (Some i) → n ≤ i.1
+    → Gives (cheaper (Some (first, n)) (combined (runs_of which) values (combined two indices offsets))) (Some (first, n))
+dear_indices which first n values indices offsets i e h =
+    gives _ _ (ap (λ x. cheaper (Some (first, n)) (combined (runs_of which) values (combined two x offsets))) (ok_is _ _ e) ∙ dear_first which (first, n) values i offsets h)
 
 -- two parts that take as many bytes as another choice
 dear_parts : (which : RunValues) (first : Shape × ℕ) (values : Option (Shape × ℕ)) (i o : Shape × ℕ) → first.1 ≤ i.1 + o.1 → cheaper (Some first) (combined (runs_of which) values (combined two (Some i) (Some o))) ≡ Some first
@@ -221,42 +228,34 @@ dear_runs which first n values indices offsets i o e f h =
     gives _ _ (ap (λ x. cheaper (Some (first, n)) (combined (runs_of which) values (combined two x offsets))) (ok_is _ _ e)
     ∙ (ap (λ x. cheaper (Some (first, n)) (combined (runs_of which) values (combined two (Some i) x))) (ok_is _ _ f) ∙ dear_parts which (first, n) values i o h))
 
-pub run_parts_choice : (which : RunValues) (first values indices offsets i o made choice : Option (Shape × ℕ)) → Gives indices i → Gives offsets o → Gives (combined (runs_of which) values (combined two i o)) made → choice ≡ cheaper first made
+pub runs_choice : (which : RunValues) (first values indices offsets v i o made choice : Option (Shape × ℕ)) → Gives values v → Gives indices i → Gives offsets o → Gives (combined (runs_of which) v (combined two i o)) made → choice ≡ cheaper first made
     → Gives (cheaper first (combined (runs_of which) values (combined two indices offsets))) choice
-run_parts_choice which first values indices offsets i o made choice e f g c =
-    gives _ _ (ap (λ x. cheaper first (combined (runs_of which) values (combined two x offsets))) (ok_is _ _ e)
-    ∙ (ap (λ x. cheaper first (combined (runs_of which) values (combined two i x))) (ok_is _ _ f) ∙ (ap (cheaper first) (ok_is _ _ g) ∙ sym c)))
+runs_choice which first values indices offsets v i o made choice d e f g c =
+    gives _ _ (ap (λ x. cheaper first (combined (runs_of which) x (combined two indices offsets))) (ok_is _ _ d)
+    ∙ (ap (λ x. cheaper first (combined (runs_of which) v (combined two x offsets))) (ok_is _ _ e)
+    ∙ (ap (λ x. cheaper first (combined (runs_of which) v (combined two i x))) (ok_is _ _ f) ∙ (ap (cheaper first) (ok_is _ _ g) ∙ sym c))))
 
--- the choice for the indices of the dictionaries that were made
-pub dictionary_indices : (p : PrimitiveParts) (runs : RunParts) (schemes : List Shape) (i : Option (Shape × ℕ)) → encode_dictionaries p ≡ runs → Gives (cheapest (encoded_bytes runs.indices) schemes) i → Gives (cheapest (encoded_bytes (runs_by Dictionary p).indices) schemes) i
-dictionary_indices p runs schemes i e f = gives _ _ (ap (λ (r : RunParts). cheapest (encoded_bytes r.indices) schemes) e ∙ ok_is _ _ f)
+-- where run-length encoded arrays of some runs are allowed, and where they are not
+pub allowed_runs : (which : RunValues) (allowed : Bool) (limits : Limits) (p : PrimitiveParts) (runs : RunParts) (first : Option (Shape × ℕ)) (r : Result Choice FastLanesError) → has_level allowed limits.depth ≡ true → runs_by which p ≡ runs
+    → Answers chosen r (Ok (cheaper first (combined (runs_of which) (cheapest (encoded_bytes runs.values) (delta_schemes 2 limits (limits.depth - 1))) (combined two (cheapest (encoded_bytes runs.indices) (delta_schemes 2 limits (limits.depth - 1))) (cheapest (encoded_bytes runs.offsets) (framed_schemes limits (limits.depth - 1)))))))
+    → Answers chosen r (Ok (cheaper first (cheapest (encoded_bytes p) (run_schemes which allowed limits limits.depth))))
+allowed_runs which allowed limits p runs first r e is a =
+    let parts = delta_schemes 2 limits (limits.depth - 1) in
+    let offsets = framed_schemes limits (limits.depth - 1) in
+    answers_same r _ _ (ap (cheaper first) (sym (run_list which allowed limits limits.depth p e ∙ (runs_list which p parts parts offsets
+    ∙ ap (λ (x : RunParts). combined (runs_of which) (cheapest (encoded_bytes x.values) parts) (combined two (cheapest (encoded_bytes x.indices) parts) (cheapest (encoded_bytes x.offsets) offsets))) is)))) a
 
--- where run-length encoded arrays of runs are allowed, and where they are not
-pub allowed_runs : (limits : Limits) (p : PrimitiveParts) (first : Option (Shape × ℕ)) (r : Result Choice FastLanesError) → has_level limits.rle limits.depth ≡ true
-    → Answers chosen r (Ok (cheaper first (cheapest (encoded_bytes p) (over_runs Runs (delta_schemes limits (limits.depth - 1)) (framed_schemes limits (limits.depth - 1)) (framed_schemes limits (limits.depth - 1))))))
-    → Answers chosen r (Ok (cheaper first (cheapest (encoded_bytes p) (run_schemes limits limits.depth))))
-allowed_runs limits p first r e a = answers_same r _ _ (ap (cheaper first) (sym (run_list limits limits.depth p e))) a
-
-pub no_runs : (limits : Limits) (p : PrimitiveParts) (first : Option (Shape × ℕ)) → has_level limits.rle limits.depth ≡ false → Gives (cheaper first (cheapest (encoded_bytes p) (run_schemes limits limits.depth))) first
-no_runs limits p first e = gives _ _ (ap (cheaper first) (no_run_list limits limits.depth p e) ∙ cheaper_none first)
-
--- the same of dictionaries
-pub allowed_dictionaries : (limits : Limits) (p : PrimitiveParts) (first : Option (Shape × ℕ)) (r : Result Choice FastLanesError) → has_level limits.dict limits.depth ≡ true
-    → Answers chosen r (Ok (cheaper first (cheapest (encoded_bytes p) (over_runs Dictionary (delta_schemes limits (limits.depth - 1)) (delta_schemes limits (limits.depth - 1)) (framed_schemes limits (limits.depth - 1))))))
-    → Answers chosen r (Ok (cheaper first (cheapest (encoded_bytes p) (dictionary_schemes limits limits.depth))))
-allowed_dictionaries limits p first r e a = answers_same r _ _ (ap (cheaper first) (sym (dictionary_list limits limits.depth p e))) a
-
-pub no_dictionaries : (limits : Limits) (p : PrimitiveParts) (first : Option (Shape × ℕ)) → has_level limits.dict limits.depth ≡ false → Gives (cheaper first (cheapest (encoded_bytes p) (dictionary_schemes limits limits.depth))) first
-no_dictionaries limits p first e = gives _ _ (ap (cheaper first) (no_dictionary_list limits limits.depth p e) ∙ cheaper_none first)
+pub no_runs : (which : RunValues) (allowed : Bool) (limits : Limits) (p : PrimitiveParts) (first : Option (Shape × ℕ)) → has_level allowed limits.depth ≡ false → Gives (cheaper first (cheapest (encoded_bytes p) (run_schemes which allowed limits limits.depth))) first
+no_runs which allowed limits p first e = gives _ _ (ap (cheaper first) (no_run_list which allowed limits limits.depth p e) ∙ cheaper_none first)
 
 -- the choice that all steps of the search find
-pub whole_search : (limits : Limits) (p : PrimitiveParts) (best with_runs : Option (Shape × ℕ)) (r : Result Choice FastLanesError) → Gives (cheapest (encoded_bytes p) (delta_schemes limits limits.depth)) best
-    → Gives (cheaper best (cheapest (encoded_bytes p) (run_schemes limits limits.depth))) with_runs
-    → Answers chosen r (Ok (cheaper with_runs (cheapest (encoded_bytes p) (dictionary_schemes limits limits.depth))))
+pub whole_search : (limits : Limits) (p : PrimitiveParts) (best with_runs : Option (Shape × ℕ)) (r : Result Choice FastLanesError) → Gives (cheapest (encoded_bytes p) (delta_schemes 2 limits limits.depth)) best
+    → Gives (cheaper best (cheapest (encoded_bytes p) (run_schemes Runs limits.rle limits limits.depth))) with_runs
+    → Answers chosen r (Ok (cheaper with_runs (cheapest (encoded_bytes p) (run_schemes Dictionary limits.dict limits limits.depth))))
     → Answers chosen r (Ok (cheapest (encoded_bytes p) (candidates limits)))
 whole_search limits p best with_runs r f g a =
-    let runs = cheapest (encoded_bytes p) (run_schemes limits limits.depth) in
-    let dictionaries = cheapest (encoded_bytes p) (dictionary_schemes limits limits.depth) in
+    let runs = cheapest (encoded_bytes p) (run_schemes Runs limits.rle limits limits.depth) in
+    let dictionaries = cheapest (encoded_bytes p) (run_schemes Dictionary limits.dict limits limits.depth) in
     answers_same r _ _ (sym (candidate_list limits p ∙ (ap (λ c. cheaper (cheaper c runs) dictionaries) (ok_is _ _ f) ∙ ap (λ c. cheaper c dictionaries) (ok_is _ _ g)))) a
 
 -- ---- the array

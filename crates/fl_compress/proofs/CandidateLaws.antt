@@ -5,10 +5,10 @@ use Rattle.std.specs.List.{All}
 use Rattle.std.proofs.lemmas.List.Elements.{All-append, All-cons, All-head, All-map, All-nil, All-tail, All-weaker}
 use Rattle.fl_codec.specs.declared.for_.ItemOrder.TheVariants.{Natural, Signed}
 use Rattle.fl_encode.specs.declared.scheme.Packing.TheVariants.{BestWidth, BestWidths}
-use Rattle.fl_encode.specs.Shapes.{BitPacked, Constant, Delta, Dictionary, FoR, FoRChunked, Plain, Primitive, RLE, Runs, Shape}
+use Rattle.fl_encode.specs.Shapes.{BitPacked, Constant, Delta, Dictionary, FoR, FoRChunked, Plain, Primitive, RLE, Runs, RunValues, Shape}
 use Rattle.fl_compress.specs.declared.limits.Limits.{Limits}
-use Rattle.fl_compress.specs.Candidates.{candidates, delta_schemes, dictionary_schemes, framed_schemes, has_level, over_deltas, over_frames, over_runs, packed_schemes, run_schemes, where_allowed}
-use Rattle.fl_compress.specs.Statistics.{is_candidate, is_delta, is_framed, is_packed}
+use Rattle.fl_compress.specs.Candidates.{candidates, delta_schemes, framed_schemes, has_level, over_deltas, over_frames, over_runs, packed_schemes, run_schemes, where_allowed}
+use Rattle.fl_compress.specs.Statistics.{is_base, is_candidate, is_delta, is_framed, is_packed}
 
 -- ---- lists
 all_allowed : (P : Shape → Type 0) (allowed : Bool) (schemes : List Shape) → All P schemes → All P (where_allowed allowed schemes)
@@ -39,6 +39,9 @@ IsPacked s = is_packed s ≡ true
 
 abbrev IsFramed : Shape → Type 0
 IsFramed s = is_framed s ≡ true
+
+abbrev IsBase : Shape → Type 0
+IsBase s = is_base s ≡ true
 
 abbrev IsDelta : Shape → Type 0
 IsDelta s = is_delta s ≡ true
@@ -75,6 +78,16 @@ all_framed limits depth =
     All-append IsFramed _ _ (All-weaker IsPacked IsFramed packed_framed (packed_schemes limits depth) (all_packed limits depth))
     (all_allowed IsFramed (has_level limits.for_ depth) (over_frames (packed_schemes limits (depth - 1))) (all_frames (packed_schemes limits (depth - 1)) (all_packed limits (depth - 1))))
 
+framed_base : (s : Shape) → IsFramed s → IsBase s
+framed_base Plain e = refl
+framed_base Primitive e = refl
+framed_base Constant e = refl
+framed_base (BitPacked packing) e = e
+framed_base (FoR order encoded) e = e
+framed_base (FoRChunked order encoded references) e = e
+framed_base (Delta bases deltas) e = cc
+framed_base (RLE run_values values indices offsets) e = cc
+
 framed_delta : (s : Shape) → IsFramed s → IsDelta s
 framed_delta Plain e = refl
 framed_delta Primitive e = refl
@@ -85,13 +98,21 @@ framed_delta (FoRChunked order encoded references) e = e
 framed_delta (Delta bases deltas) e = cc
 framed_delta (RLE run_values values indices offsets) e = cc
 
-all_deltas : (limits : Limits) (depth : ℕ) → All IsDelta (delta_schemes limits depth)
+all_bases : (limits : Limits) (depth : ℕ) → All IsBase (delta_schemes 1 limits depth)
 unfolding delta_schemes
-all_deltas limits depth =
+all_bases limits depth =
     let children = framed_schemes limits (depth - 1) in
     let all = all_framed limits (depth - 1) in
+    All-append IsBase _ _ (All-weaker IsFramed IsBase framed_base (framed_schemes limits depth) (all_framed limits depth))
+    (all_allowed IsBase (has_level limits.delta depth) (over_deltas children children) (all_pairs IsFramed IsFramed IsBase Delta (λ x y e f. both_true (is_framed x) (is_framed y) e f) children children all all))
+
+all_deltas : (limits : Limits) (depth : ℕ) → All IsDelta (delta_schemes 2 limits depth)
+unfolding delta_schemes
+all_deltas limits depth =
+    let bases = delta_schemes 1 limits (depth - 1) in
+    let children = framed_schemes limits (depth - 1) in
     All-append IsDelta _ _ (All-weaker IsFramed IsDelta framed_delta (framed_schemes limits depth) (all_framed limits depth))
-    (all_allowed IsDelta (has_level limits.delta depth) (over_deltas children) (all_pairs IsFramed IsFramed IsDelta Delta (λ x y e f. both_true (is_framed x) (is_framed y) e f) children children all all))
+    (all_allowed IsDelta (has_level limits.delta depth) (over_deltas bases children) (all_pairs IsBase IsFramed IsDelta Delta (λ x y e f. both_true (is_base x) (is_framed y) e f) bases children (all_bases limits (depth - 1)) (all_framed limits (depth - 1))))
 
 delta_candidate : (s : Shape) → IsDelta s → IsCandidate s
 unfolding is_candidate
@@ -104,34 +125,21 @@ delta_candidate (FoRChunked order encoded references) e = e
 delta_candidate (Delta bases deltas) e = e
 delta_candidate (RLE run_values values indices offsets) e = cc
 
-run_candidate : (x y z : Shape) → IsDelta x → IsFramed y → IsFramed z → IsCandidate (RLE Runs x y z)
+run_candidate : (which : RunValues) (x y z : Shape) → IsDelta x → IsDelta y → IsFramed z → IsCandidate (RLE which x y z)
 unfolding is_candidate
-run_candidate x y z e f g = both_true (is_delta x) (is_framed y && is_framed z) e (both_true (is_framed y) (is_framed z) f g)
+run_candidate which x y z e f g = both_true (is_delta x) (is_delta y && is_framed z) e (both_true (is_delta y) (is_framed z) f g)
 
-dictionary_candidate : (x y z : Shape) → IsDelta x → IsDelta y → IsFramed z → IsCandidate (RLE Dictionary x y z)
-unfolding is_candidate
-dictionary_candidate x y z e f g = both_true (is_delta x) (is_delta y && is_framed z) e (both_true (is_delta y) (is_framed z) f g)
-
-all_runs : (limits : Limits) (depth : ℕ) → All IsCandidate (run_schemes limits depth)
+all_runs : (which : RunValues) (allowed : Bool) (limits : Limits) (depth : ℕ) → All IsCandidate (run_schemes which allowed limits depth)
 unfolding run_schemes
-all_runs limits depth =
-    let values = delta_schemes limits (depth - 1) in
-    let others = framed_schemes limits (depth - 1) in
-    let are_framed = all_framed limits (depth - 1) in
-    all_allowed IsCandidate (has_level limits.rle depth) (over_runs Runs values others others)
-    (all_threes IsDelta IsFramed IsFramed IsCandidate (RLE Runs) run_candidate values others others (all_deltas limits (depth - 1)) are_framed are_framed)
-
-all_dictionaries : (limits : Limits) (depth : ℕ) → All IsCandidate (dictionary_schemes limits depth)
-unfolding dictionary_schemes
-all_dictionaries limits depth =
-    let values = delta_schemes limits (depth - 1) in
+all_runs which allowed limits depth =
+    let parts = delta_schemes 2 limits (depth - 1) in
     let offsets = framed_schemes limits (depth - 1) in
     let are_deltas = all_deltas limits (depth - 1) in
-    all_allowed IsCandidate (has_level limits.dict depth) (over_runs Dictionary values values offsets)
-    (all_threes IsDelta IsDelta IsFramed IsCandidate (RLE Dictionary) dictionary_candidate values values offsets are_deltas are_deltas (all_framed limits (depth - 1)))
+    all_allowed IsCandidate (has_level allowed depth) (over_runs which parts parts offsets)
+    (all_threes IsDelta IsDelta IsFramed IsCandidate (RLE which) (run_candidate which) parts parts offsets are_deltas are_deltas (all_framed limits (depth - 1)))
 
 pub all_candidates : (limits : Limits) → All (λ s. IsTrue (is_candidate s)) (candidates limits)
 unfolding candidates
 all_candidates limits =
-    All-append IsCandidate _ _ (All-weaker IsDelta IsCandidate delta_candidate (delta_schemes limits limits.depth) (all_deltas limits limits.depth))
-    (All-append IsCandidate _ _ (all_runs limits limits.depth) (all_dictionaries limits limits.depth))
+    All-append IsCandidate _ _ (All-weaker IsDelta IsCandidate delta_candidate (delta_schemes 2 limits limits.depth) (all_deltas limits limits.depth))
+    (All-append IsCandidate _ _ (all_runs Runs limits.rle limits limits.depth) (all_runs Dictionary limits.dict limits limits.depth))

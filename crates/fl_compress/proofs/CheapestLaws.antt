@@ -1,11 +1,15 @@
 -- What costs least of joined lists, and of combinations whose costs add up.
-use Rattle.std.proofs.Common.{◌≡◌, ◌<◌, ◌≤◌, ℕ, true, false, List, [], ◌∷◌, ◌++◌, map, Option, Some, None, refl, ap, sym, ◌∙◌, arith, inl, inr}
+use Rattle.std.proofs.Common.{◌≡◌, ◌+◌, ◌<◌, ◌≤◌, ℕ, true, false, List, [], ◌∷◌, ◌++◌, map, Option, Some, None, refl, ap, sym, ◌∙◌, arith, inl, inr}
 use Rattle.std.specs.Prelude.{option_map, nat_lt, if◌then◌else◌, ◌⊎◌, flat_map}
 use Rattle.std.specs.List.{All}
 use Rattle.std.proofs.lemmas.Bool.{cases_lt}
 use Rattle.std.proofs.lemmas.Bool.Decides.{nat_tests}
 use Rattle.std.proofs.lemmas.List.Elements.{All-nil, All-cons}
-use Rattle.fl_compress.specs.Cheapest.{beside, both, cheaper, cheapest, combined, priced}
+use Rattle.fl_compress.specs.Cheapest.{both, cheaper, cheapest, combined, priced}
+
+-- the same at a cost that is higher by so much
+abbrev pub beside : {A : Type 0} → ℕ → Option (A × ℕ) → Option (A × ℕ)
+beside more choice = option_map (λ c. (c.0, c.1 + more)) choice
 
 pub cheaper_none : {A : Type 0} (a : Option (A × ℕ)) → cheaper a None ≡ a
 cheaper_none None = refl

@@ -1,5 +1,5 @@
 -- The cheapest of each list of schemes, by the cheapest of the lists for its children.
-use Rattle.std.proofs.Common.{◌≡◌, ℕ, ◌+◌, ◌-◌, ◌<◌, Bool, true, false, List, [], ◌∷◌, ◌++◌, length, map, Option, Some, None, Ok, Err, refl, ap, sym, ◌∙◌, arith}
+use Rattle.std.proofs.Common.{◌≡◌, ℕ, ◌+◌, ◌-◌, ◌<◌, Bool, true, false, List, [], ◌∷◌, ◌++◌, length, map, Option, Some, None, Ok, Err, refl, ap, sym, ◌∙◌, arith, zero, suc}
 use Rattle.std.specs.Prelude.{◌&&◌, Result, flat_map, nat_lt}
 use Rattle.std.proofs.lemmas.Bool.Decides.{nat_tests}
 use Rattle.std.proofs.lemmas.List.{append-nil, map-append}
@@ -15,11 +15,11 @@ use Rattle.fl_encode.specs.Encodings.{runs_by}
 use Rattle.fl_encode.specs.Shapes.{BitPacked, Constant, Delta, Dictionary, FoR, FoRChunked, Primitive, RLE, Runs, RunValues, Shape}
 use Rattle.fl_serde.specs.ByteCounts.{primitive_bytes, validity_bytes}
 use Rattle.fl_compress.specs.declared.limits.Limits.{Limits}
-use Rattle.fl_compress.specs.Candidates.{candidates, delta_schemes, dictionary_schemes, framed_schemes, has_level, over_chunk_references, over_deltas, over_frames, over_one_reference, over_runs, packed_schemes, run_schemes, where_allowed}
-use Rattle.fl_compress.specs.Cheapest.{beside, both, cheaper, cheapest, combined}
+use Rattle.fl_compress.specs.Candidates.{candidates, delta_schemes, framed_schemes, has_level, over_chunk_references, over_deltas, over_frames, over_one_reference, over_runs, packed_schemes, run_schemes, where_allowed}
+use Rattle.fl_compress.specs.Cheapest.{both, cheaper, cheapest, combined}
 use Rattle.fl_compress.specs.Choices.{or_frames, runs_of, two, with_bytes}
 use Rattle.fl_compress.specs.EncodedBytes.{encoded_bytes, over_reference, over_references}
-use Rattle.fl_compress.proofs.CheapestLaws.{cheaper_assoc, cheaper_none, cheapest_append, cheapest_beside, cheapest_free, cheapest_map, cheapest_none, cheapest_pairs, cheapest_row, cheapest_rows, cheapest_three, wrapped}
+use Rattle.fl_compress.proofs.CheapestLaws.{beside, cheaper_assoc, cheaper_none, cheapest_append, cheapest_beside, cheapest_free, cheapest_map, cheapest_none, cheapest_pairs, cheapest_row, cheapest_rows, cheapest_three, wrapped}
 
 -- ---- allowed lists
 pub level : (allowed : Bool) (depth : ℕ) → allowed ≡ true → 0 < depth → has_level allowed depth ≡ true
@@ -133,24 +133,28 @@ delta_bytes : (p : PrimitiveParts) (bases deltas : Shape) → encoded_bytes p (D
 unfolding encoded_bytes
 delta_bytes p bases deltas = refl
 
-pub deltas_list : (p : PrimitiveParts) (schemes : List Shape) → cheapest (encoded_bytes p) (over_deltas schemes)
-    ≡ combined Delta (cheapest (encoded_bytes (compress_deltas p).0) schemes) (beside (validity_bytes (length p.slots) p.validity) (cheapest (encoded_bytes (compress_deltas p).1) schemes))
-deltas_list p schemes =
+pub deltas_list : (p : PrimitiveParts) (bases deltas : List Shape) → cheapest (encoded_bytes p) (over_deltas bases deltas)
+    ≡ combined Delta (cheapest (encoded_bytes (compress_deltas p).0) bases) (beside (validity_bytes (length p.slots) p.validity) (cheapest (encoded_bytes (compress_deltas p).1) deltas))
+deltas_list p bases deltas =
     let own = validity_bytes (length p.slots) p.validity in
-    cheapest_pairs (encoded_bytes p) (encoded_bytes (compress_deltas p).0) (λ d. both (encoded_bytes (compress_deltas p).1 d) (Some own)) Delta (delta_bytes p) schemes schemes
-    ∙ ap (combined Delta (cheapest (encoded_bytes (compress_deltas p).0) schemes)) (cheapest_beside (encoded_bytes (compress_deltas p).1) own schemes)
+    cheapest_pairs (encoded_bytes p) (encoded_bytes (compress_deltas p).0) (λ d. both (encoded_bytes (compress_deltas p).1 d) (Some own)) Delta (delta_bytes p) bases deltas
+    ∙ ap (combined Delta (cheapest (encoded_bytes (compress_deltas p).0) bases)) (cheapest_beside (encoded_bytes (compress_deltas p).1) own deltas)
 
-pub delta_list : (limits : Limits) (depth : ℕ) (p : PrimitiveParts) → has_level limits.delta depth ≡ true → cheapest (encoded_bytes p) (delta_schemes limits depth)
-    ≡ cheaper (cheapest (encoded_bytes p) (framed_schemes limits depth)) (cheapest (encoded_bytes p) (over_deltas (framed_schemes limits (depth - 1))))
+pub delta_list : (nested : ℕ) (limits : Limits) (depth : ℕ) (p : PrimitiveParts) → 0 < nested → has_level limits.delta depth ≡ true → cheapest (encoded_bytes p) (delta_schemes nested limits depth)
+    ≡ cheaper (cheapest (encoded_bytes p) (framed_schemes limits depth)) (cheapest (encoded_bytes p) (over_deltas (delta_schemes (nested - 1) limits (depth - 1)) (framed_schemes limits (depth - 1))))
 unfolding delta_schemes
-delta_list limits depth p e =
-    let deltas = over_deltas (framed_schemes limits (depth - 1)) in
-    ap (λ b. cheapest (encoded_bytes p) (framed_schemes limits depth ++ where_allowed b deltas)) e ∙ cheapest_append (encoded_bytes p) (framed_schemes limits depth) deltas
+delta_list zero limits depth p some e = absurd (omega arith)
+delta_list (suc nested) limits depth p some e =
+    let deltas : ℕ → List Shape = λ n. over_deltas (delta_schemes n limits (depth - 1)) (framed_schemes limits (depth - 1)) in
+    let one_less : nested ≡ suc nested - 1 = omega arith in
+    ap (λ b. cheapest (encoded_bytes p) (framed_schemes limits depth ++ where_allowed b (deltas nested))) e
+    ∙ (cheapest_append (encoded_bytes p) (framed_schemes limits depth) (deltas nested) ∙ ap (λ n. cheaper (cheapest (encoded_bytes p) (framed_schemes limits depth)) (cheapest (encoded_bytes p) (deltas n))) one_less)
 
-pub no_delta_list : (limits : Limits) (depth : ℕ) (p : PrimitiveParts) → has_level limits.delta depth ≡ false → cheapest (encoded_bytes p) (delta_schemes limits depth) ≡ cheapest (encoded_bytes p) (framed_schemes limits depth)
+pub no_delta_list : (nested : ℕ) (limits : Limits) (depth : ℕ) (p : PrimitiveParts) → has_level limits.delta depth ≡ false → cheapest (encoded_bytes p) (delta_schemes nested limits depth) ≡ cheapest (encoded_bytes p) (framed_schemes limits depth)
 unfolding delta_schemes
-no_delta_list limits depth p e =
-    let deltas = over_deltas (framed_schemes limits (depth - 1)) in
+no_delta_list zero limits depth p e = refl
+no_delta_list (suc nested) limits depth p e =
+    let deltas = over_deltas (delta_schemes nested limits (depth - 1)) (framed_schemes limits (depth - 1)) in
     ap (λ b. cheapest (encoded_bytes p) (framed_schemes limits depth ++ where_allowed b deltas)) e ∙ ap (cheapest (encoded_bytes p)) (append-nil (framed_schemes limits depth))
 
 -- ---- runs
@@ -183,27 +187,17 @@ runs_list which p values indices offsets =
     ∙ ap (combined (runs_of which) (with_bytes v (encoded_bytes runs.values v))) two_by_two))
     values
 
-pub run_list : (limits : Limits) (depth : ℕ) (p : PrimitiveParts) → has_level limits.rle depth ≡ true → cheapest (encoded_bytes p) (run_schemes limits depth)
-    ≡ cheapest (encoded_bytes p) (over_runs Runs (delta_schemes limits (depth - 1)) (framed_schemes limits (depth - 1)) (framed_schemes limits (depth - 1)))
+pub run_list : (which : RunValues) (allowed : Bool) (limits : Limits) (depth : ℕ) (p : PrimitiveParts) → has_level allowed depth ≡ true → cheapest (encoded_bytes p) (run_schemes which allowed limits depth)
+    ≡ cheapest (encoded_bytes p) (over_runs which (delta_schemes 2 limits (depth - 1)) (delta_schemes 2 limits (depth - 1)) (framed_schemes limits (depth - 1)))
 unfolding run_schemes
-run_list limits depth p e =
-    ap (λ b. cheapest (encoded_bytes p) (where_allowed b (over_runs Runs (delta_schemes limits (depth - 1)) (framed_schemes limits (depth - 1)) (framed_schemes limits (depth - 1))))) e
+run_list which allowed limits depth p e =
+    ap (λ b. cheapest (encoded_bytes p) (where_allowed b (over_runs which (delta_schemes 2 limits (depth - 1)) (delta_schemes 2 limits (depth - 1)) (framed_schemes limits (depth - 1))))) e
 
-pub no_run_list : (limits : Limits) (depth : ℕ) (p : PrimitiveParts) → has_level limits.rle depth ≡ false → cheapest (encoded_bytes p) (run_schemes limits depth) ≡ None
+pub no_run_list : (which : RunValues) (allowed : Bool) (limits : Limits) (depth : ℕ) (p : PrimitiveParts) → has_level allowed depth ≡ false → cheapest (encoded_bytes p) (run_schemes which allowed limits depth) ≡ None
 unfolding run_schemes
-no_run_list limits depth p e = no_list p (has_level limits.rle depth) (over_runs Runs (delta_schemes limits (depth - 1)) (framed_schemes limits (depth - 1)) (framed_schemes limits (depth - 1))) e
-
-pub dictionary_list : (limits : Limits) (depth : ℕ) (p : PrimitiveParts) → has_level limits.dict depth ≡ true → cheapest (encoded_bytes p) (dictionary_schemes limits depth)
-    ≡ cheapest (encoded_bytes p) (over_runs Dictionary (delta_schemes limits (depth - 1)) (delta_schemes limits (depth - 1)) (framed_schemes limits (depth - 1)))
-unfolding dictionary_schemes
-dictionary_list limits depth p e =
-    ap (λ b. cheapest (encoded_bytes p) (where_allowed b (over_runs Dictionary (delta_schemes limits (depth - 1)) (delta_schemes limits (depth - 1)) (framed_schemes limits (depth - 1))))) e
-
-pub no_dictionary_list : (limits : Limits) (depth : ℕ) (p : PrimitiveParts) → has_level limits.dict depth ≡ false → cheapest (encoded_bytes p) (dictionary_schemes limits depth) ≡ None
-unfolding dictionary_schemes
-no_dictionary_list limits depth p e = no_list p (has_level limits.dict depth) (over_runs Dictionary (delta_schemes limits (depth - 1)) (delta_schemes limits (depth - 1)) (framed_schemes limits (depth - 1))) e
+no_run_list which allowed limits depth p e = no_list p (has_level allowed depth) (over_runs which (delta_schemes 2 limits (depth - 1)) (delta_schemes 2 limits (depth - 1)) (framed_schemes limits (depth - 1))) e
 
 pub candidate_list : (limits : Limits) (p : PrimitiveParts) → cheapest (encoded_bytes p) (candidates limits)
-    ≡ cheaper (cheaper (cheapest (encoded_bytes p) (delta_schemes limits limits.depth)) (cheapest (encoded_bytes p) (run_schemes limits limits.depth))) (cheapest (encoded_bytes p) (dictionary_schemes limits limits.depth))
+    ≡ cheaper (cheaper (cheapest (encoded_bytes p) (delta_schemes 2 limits limits.depth)) (cheapest (encoded_bytes p) (run_schemes Runs limits.rle limits limits.depth))) (cheapest (encoded_bytes p) (run_schemes Dictionary limits.dict limits limits.depth))
 unfolding candidates
-candidate_list limits p = cheapest_three (encoded_bytes p) (delta_schemes limits limits.depth) (run_schemes limits limits.depth) (dictionary_schemes limits limits.depth)
+candidate_list limits p = cheapest_three (encoded_bytes p) (delta_schemes 2 limits limits.depth) (run_schemes Runs limits.rle limits limits.depth) (run_schemes Dictionary limits.dict limits limits.depth)

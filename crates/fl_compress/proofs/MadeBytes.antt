@@ -3,7 +3,6 @@ use Rattle.std.proofs.Common.{◌≡◌, ℕ, ◌+◌, length, Option, Some, Non
 use Rattle.std.specs.Prelude.{Result}
 use Rattle.fl_types.specs.declared.error.FastLanesError.{FastLanesError}
 use Rattle.fl_column.specs.Columns.{PrimitiveParts}
-use Rattle.fl_codec.specs.declared.for_.ItemOrder.TheVariants.{Natural, Signed}
 use Rattle.fl_codec.specs.Parts.{ByChunk, FoRParts, Nulls, OneReference, RunParts, Whole, compress_deltas, encode_chunked_by, encode_global_by}
 use Rattle.fl_bitpacking.specs.Encoders.{best_width_of, best_widths_of}
 use Rattle.fl_bitpacking.specs.Blocks.{boundary_array}

@@ -14,13 +14,14 @@ use Rattle.fl_encode.specs.declared.scheme.Packing.TheVariants.{BestWidth, BestW
 use Rattle.fl_encode.specs.Encodings.{IsEncodedAs, encode_refusal}
 use Rattle.fl_encode.specs.Shapes.{BitPacked, Constant, Delta, Dictionary, FoR, FoRChunked, Plain, Primitive, RLE, Runs, Shape}
 use Rattle.fl_serde.specs.ByteCounts.{primitive_bytes, tree_bytes, validity_bytes}
+use Rattle.fl_compress.specs.declared.statistics.BaseSizes.{BaseSizes}
 use Rattle.fl_compress.specs.declared.statistics.DeltaSizes.{DeltaSizes}
-use Rattle.fl_compress.specs.declared.statistics.DictionarySizes.{DictionarySizes}
 use Rattle.fl_compress.specs.declared.statistics.FramedSizes.{FramedSizes}
+use Rattle.fl_compress.specs.declared.statistics.RunSizes.{RunSizes}
 use Rattle.fl_compress.specs.declared.statistics.Statistics.{Statistics}
 use Rattle.fl_compress.specs.Cheapest.{both}
 use Rattle.fl_compress.specs.EncodedBytes.{encoded_bytes, over_reference, over_references, unless}
-use Rattle.fl_compress.specs.Statistics.{capped, chunk_size, chunk_sizes, delta_size, delta_sizes, dictionary_sizes, framed_size, framed_sizes, is_candidate, is_delta, is_framed, is_packed, packed_size, packed_sizes, reference_size, reference_sizes, size_in, statistics_of}
+use Rattle.fl_compress.specs.Statistics.{base_size, base_sizes, capped, chunk_size, chunk_sizes, delta_size, delta_sizes, framed_size, framed_sizes, is_base, is_candidate, is_delta, is_framed, is_packed, packed_size, packed_sizes, reference_size, reference_sizes, run_size, run_sizes, size_in, statistics_of}
 use Rattle.fl_compress.proofs.AnswerLaws.{Gives, gives}
 use Rattle.fl_compress.proofs.MadeBytes.{free_of_refusal, made_bytes}
 
@@ -29,34 +30,40 @@ pub packed_sizes_are : (p : PrimitiveParts) (plain : ℕ) (same : Bool) (one eac
     → record { plain = plain; is_constant = same; best_width = one; best_widths = each } ≡ packed_sizes p
 packed_sizes_are p plain same one each e f g h = rw (e, f, g, h) refl
 
-pub delta_sizes_are : (p bases : PrimitiveParts) (framed b d : FramedSizes) (v : Validity) (own len : ℕ) → framed_sizes p ≡ framed → (compress_deltas p).0 ≡ bases → framed_sizes bases ≡ b → framed_sizes (compress_deltas p).1 ≡ d → own ≡ validity_bytes len v → len ≡ length p.slots → v ≡ p.validity
-    → Gives (delta_sizes p) (record { framed = framed; bases = b; deltas = d; validity = own })
-delta_sizes_are p bases framed b d v own len e f g h o l w =
-    let all : FramedSizes → FramedSizes → FramedSizes → ℕ → DeltaSizes = λ first second third n. record { framed = first; bases = second; deltas = third; validity = n } in
+pub base_sizes_are : (p bases : PrimitiveParts) (framed b d : FramedSizes) (v : Validity) (own len : ℕ) → framed_sizes p ≡ framed → (compress_deltas p).0 ≡ bases → framed_sizes bases ≡ b → framed_sizes (compress_deltas p).1 ≡ d → own ≡ validity_bytes len v → len ≡ length p.slots → v ≡ p.validity
+    → Gives (base_sizes p) (record { framed = framed; bases = b; deltas = d; validity = own })
+base_sizes_are p bases framed b d v own len e f g h o l w =
+    let all : FramedSizes → FramedSizes → FramedSizes → ℕ → BaseSizes = λ first second third n. record { framed = first; bases = second; deltas = third; validity = n } in
     let bytes : own ≡ validity_bytes (length p.slots) p.validity = o ∙ (ap (λ n. validity_bytes n v) l ∙ ap (validity_bytes (length p.slots)) w) in
     gives _ _ (ap (λ x. all x (framed_sizes (compress_deltas p).0) (framed_sizes (compress_deltas p).1) (validity_bytes (length p.slots) p.validity)) e
     ∙ (ap (λ x. all framed (framed_sizes x) (framed_sizes (compress_deltas p).1) (validity_bytes (length p.slots) p.validity)) f
     ∙ (ap (λ x. all framed x (framed_sizes (compress_deltas p).1) (validity_bytes (length p.slots) p.validity)) g
     ∙ (ap (λ x. all framed b x (validity_bytes (length p.slots) p.validity)) h ∙ ap (all framed b d) (sym bytes)))))
 
-pub statistics_are : (p v o : PrimitiveParts) (items values : DeltaSizes) (indices offsets : FramedSizes) (dictionaries : DictionarySizes) → delta_sizes p ≡ items → ◌≡◌ {A = PrimitiveParts × PrimitiveParts} ((encode_runs p).values, (encode_runs p).offsets) (v, o) → delta_sizes v ≡ values → framed_sizes (encode_runs p).indices ≡ indices → framed_sizes o ≡ offsets → dictionary_sizes p ≡ dictionaries
-    → Gives (statistics_of p) (record { items = items; values = values; indices = indices; offsets = offsets; dictionaries = dictionaries })
-unfolding statistics_of
-statistics_are p v o items values indices offsets dictionaries e f g h l m =
-    let all : DeltaSizes → DeltaSizes → FramedSizes → FramedSizes → DictionarySizes → Statistics = λ first second third fourth last. record { items = first; values = second; indices = third; offsets = fourth; dictionaries = last } in
-    gives _ _ (ap (λ x. all x (delta_sizes (encode_runs p).values) (framed_sizes (encode_runs p).indices) (framed_sizes (encode_runs p).offsets) (dictionary_sizes p)) e
-    ∙ (ap (λ (x : PrimitiveParts × PrimitiveParts). all items (delta_sizes x.0) (framed_sizes (encode_runs p).indices) (framed_sizes x.1) (dictionary_sizes p)) f
-    ∙ (ap (λ x. all items x (framed_sizes (encode_runs p).indices) (framed_sizes o) (dictionary_sizes p)) g
-    ∙ (ap (λ x. all items values x (framed_sizes o) (dictionary_sizes p)) h
-    ∙ (ap (λ x. all items values indices x (dictionary_sizes p)) l ∙ ap (all items values indices offsets) m)))))
+pub delta_sizes_are : (p bases : PrimitiveParts) (framed d : FramedSizes) (b : BaseSizes) (v : Validity) (own len : ℕ) → framed_sizes p ≡ framed → (compress_deltas p).0 ≡ bases → base_sizes bases ≡ b → framed_sizes (compress_deltas p).1 ≡ d → own ≡ validity_bytes len v → len ≡ length p.slots → v ≡ p.validity
+    → Gives (delta_sizes p) (record { framed = framed; bases = b; deltas = d; validity = own })
+delta_sizes_are p bases framed d b v own len e f g h o l w =
+    let all : FramedSizes → BaseSizes → FramedSizes → ℕ → DeltaSizes = λ first second third n. record { framed = first; bases = second; deltas = third; validity = n } in
+    let bytes : own ≡ validity_bytes (length p.slots) p.validity = o ∙ (ap (λ n. validity_bytes n v) l ∙ ap (validity_bytes (length p.slots)) w) in
+    gives _ _ (ap (λ x. all x (base_sizes (compress_deltas p).0) (framed_sizes (compress_deltas p).1) (validity_bytes (length p.slots) p.validity)) e
+    ∙ (ap (λ x. all framed (base_sizes x) (framed_sizes (compress_deltas p).1) (validity_bytes (length p.slots) p.validity)) f
+    ∙ (ap (λ x. all framed x (framed_sizes (compress_deltas p).1) (validity_bytes (length p.slots) p.validity)) g
+    ∙ (ap (λ x. all framed b x (validity_bytes (length p.slots) p.validity)) h ∙ ap (all framed b d) (sym bytes)))))
 
-pub dictionary_sizes_are : (p : PrimitiveParts) (runs : RunParts) (values indices : DeltaSizes) (offsets : FramedSizes) → encode_dictionaries p ≡ runs → delta_sizes runs.values ≡ values → delta_sizes runs.indices ≡ indices → framed_sizes runs.offsets ≡ offsets
-    → Gives (dictionary_sizes p) (record { values = values; indices = indices; offsets = offsets })
-dictionary_sizes_are p runs values indices offsets e f g h =
-    let all : DeltaSizes → DeltaSizes → FramedSizes → DictionarySizes = λ first second last. record { values = first; indices = second; offsets = last } in
-    gives _ _ (ap (λ (x : RunParts). all (delta_sizes x.values) (delta_sizes x.indices) (framed_sizes x.offsets)) e
-    ∙ (ap (λ x. all x (delta_sizes runs.indices) (framed_sizes runs.offsets)) f
-    ∙ (ap (λ x. all values x (framed_sizes runs.offsets)) g ∙ ap (all values indices) h)))
+pub run_sizes_are : (runs : RunParts) (values indices : DeltaSizes) (offsets : FramedSizes) → delta_sizes runs.values ≡ values → delta_sizes runs.indices ≡ indices → framed_sizes runs.offsets ≡ offsets
+    → Gives (run_sizes runs) (record { values = values; indices = indices; offsets = offsets })
+run_sizes_are runs values indices offsets e f g =
+    let all : DeltaSizes → DeltaSizes → FramedSizes → RunSizes = λ first second last. record { values = first; indices = second; offsets = last } in
+    gives _ _ (ap (λ x. all x (delta_sizes runs.indices) (framed_sizes runs.offsets)) e ∙ (ap (λ x. all values x (framed_sizes runs.offsets)) f ∙ ap (all values indices) g))
+
+pub statistics_are : (p : PrimitiveParts) (items : DeltaSizes) (runs dictionaries : RunParts) (r d : RunSizes) → delta_sizes p ≡ items → encode_runs p ≡ runs → run_sizes runs ≡ r → encode_dictionaries p ≡ dictionaries → run_sizes dictionaries ≡ d
+    → Gives (statistics_of p) (record { items = items; runs = r; dictionaries = d })
+unfolding statistics_of
+statistics_are p items runs dictionaries r d e f g h k =
+    let all : DeltaSizes → RunSizes → RunSizes → Statistics = λ first second last. record { items = first; runs = second; dictionaries = last } in
+    gives _ _ (ap (λ x. all x (run_sizes (encode_runs p)) (run_sizes (encode_dictionaries p))) e
+    ∙ (ap (λ (x : RunParts). all items (run_sizes x) (run_sizes (encode_dictionaries p))) f ∙ (ap (λ x. all items x (run_sizes (encode_dictionaries p))) g
+    ∙ (ap (λ (x : RunParts). all items r (run_sizes x)) h ∙ ap (all items r) k))))
 
 -- ---- what is foreseen
 first_of : (a b : Bool) → (a && b) ≡ true → a ≡ true
@@ -109,6 +116,19 @@ framed_exact p (FoRChunked Signed encoded references) e = chunks_exact (encode_c
 framed_exact p (Delta bases deltas) e = cc
 framed_exact p (RLE run_values values indices offsets) e = cc
 
+base_exact : (p : PrimitiveParts) (s : Shape) → is_base s ≡ true → base_size (base_sizes p) s ≡ encoded_bytes p s
+unfolding encoded_bytes
+base_exact p Plain e = framed_exact p Plain e
+base_exact p Primitive e = framed_exact p Primitive e
+base_exact p Constant e = framed_exact p Constant e
+base_exact p (BitPacked packing) e = framed_exact p (BitPacked packing) e
+base_exact p (FoR order encoded) e = framed_exact p (FoR order encoded) e
+base_exact p (FoRChunked order encoded references) e = framed_exact p (FoRChunked order encoded references) e
+base_exact p (Delta bases deltas) e =
+    both_same _ _ _ _ (framed_exact (compress_deltas p).0 bases (first_of (is_framed bases) (is_framed deltas) e))
+    (both_same _ _ (Some (validity_bytes (length p.slots) p.validity)) _ (framed_exact (compress_deltas p).1 deltas (other_of (is_framed bases) (is_framed deltas) e)) refl)
+base_exact p (RLE run_values values indices offsets) e = cc
+
 delta_exact : (p : PrimitiveParts) (s : Shape) → is_delta s ≡ true → delta_size (delta_sizes p) s ≡ encoded_bytes p s
 unfolding encoded_bytes
 delta_exact p Plain e = framed_exact p Plain e
@@ -118,9 +138,16 @@ delta_exact p (BitPacked packing) e = framed_exact p (BitPacked packing) e
 delta_exact p (FoR order encoded) e = framed_exact p (FoR order encoded) e
 delta_exact p (FoRChunked order encoded references) e = framed_exact p (FoRChunked order encoded references) e
 delta_exact p (Delta bases deltas) e =
-    both_same _ _ _ _ (framed_exact (compress_deltas p).0 bases (first_of (is_framed bases) (is_framed deltas) e))
-    (both_same _ _ (Some (validity_bytes (length p.slots) p.validity)) _ (framed_exact (compress_deltas p).1 deltas (other_of (is_framed bases) (is_framed deltas) e)) refl)
+    both_same _ _ _ _ (base_exact (compress_deltas p).0 bases (first_of (is_base bases) (is_framed deltas) e))
+    (both_same _ _ (Some (validity_bytes (length p.slots) p.validity)) _ (framed_exact (compress_deltas p).1 deltas (other_of (is_base bases) (is_framed deltas) e)) refl)
 delta_exact p (RLE run_values values indices offsets) e = cc
+
+runs_exact : (runs : RunParts) (values indices offsets : Shape) → (is_delta values && (is_delta indices && is_framed offsets)) ≡ true
+    → run_size (run_sizes runs) values indices offsets ≡ both (encoded_bytes runs.values values) (both (encoded_bytes runs.indices indices) (encoded_bytes runs.offsets offsets))
+runs_exact runs values indices offsets e =
+    let rest = other_of (is_delta values) (is_delta indices && is_framed offsets) e in
+    both_same _ _ _ _ (delta_exact runs.values values (first_of (is_delta values) (is_delta indices && is_framed offsets) e))
+    (both_same _ _ _ _ (delta_exact runs.indices indices (first_of (is_delta indices) (is_framed offsets) rest)) (framed_exact runs.offsets offsets (other_of (is_delta indices) (is_framed offsets) rest)))
 
 pub candidate_exact : (p : PrimitiveParts) (s : Shape) → is_candidate s ≡ true → size_in (statistics_of p) s ≡ encoded_bytes p s
 unfolding encoded_bytes is_candidate statistics_of
@@ -131,14 +158,8 @@ candidate_exact p (BitPacked packing) e = delta_exact p (BitPacked packing) e
 candidate_exact p (FoR order encoded) e = delta_exact p (FoR order encoded) e
 candidate_exact p (FoRChunked order encoded references) e = delta_exact p (FoRChunked order encoded references) e
 candidate_exact p (Delta bases deltas) e = delta_exact p (Delta bases deltas) e
-candidate_exact p (RLE Dictionary values indices offsets) e =
-    let rest = other_of (is_delta values) (is_delta indices && is_framed offsets) e in
-    both_same _ _ _ _ (delta_exact (encode_dictionaries p).values values (first_of (is_delta values) (is_delta indices && is_framed offsets) e))
-    (both_same _ _ _ _ (delta_exact (encode_dictionaries p).indices indices (first_of (is_delta indices) (is_framed offsets) rest)) (framed_exact (encode_dictionaries p).offsets offsets (other_of (is_delta indices) (is_framed offsets) rest)))
-candidate_exact p (RLE Runs values indices offsets) e =
-    let rest = other_of (is_delta values) (is_framed indices && is_framed offsets) e in
-    both_same _ _ _ _ (delta_exact (encode_runs p).values values (first_of (is_delta values) (is_framed indices && is_framed offsets) e))
-    (both_same _ _ _ _ (framed_exact (encode_runs p).indices indices (first_of (is_framed indices) (is_framed offsets) rest)) (framed_exact (encode_runs p).offsets offsets (other_of (is_framed indices) (is_framed offsets) rest)))
+candidate_exact p (RLE Dictionary values indices offsets) e = runs_exact (encode_dictionaries p) values indices offsets e
+candidate_exact p (RLE Runs values indices offsets) e = runs_exact (encode_runs p) values indices offsets e
 
 -- ---- a size that is there, of any scheme
 packed_some : (p : PrimitiveParts) (s : Shape) (n : ℕ) → packed_size (packed_sizes p) s ≡ Some n → encoded_bytes p s ≡ Some n
@@ -181,6 +202,19 @@ framed_some p (FoRChunked Signed encoded references) n e = chunks_some (encode_c
 framed_some p (Delta bases deltas) n e = cc
 framed_some p (RLE run_values values indices offsets) n e = cc
 
+base_some : (p : PrimitiveParts) (s : Shape) (n : ℕ) → base_size (base_sizes p) s ≡ Some n → encoded_bytes p s ≡ Some n
+unfolding encoded_bytes
+base_some p Plain n e = framed_some p Plain n e
+base_some p Primitive n e = framed_some p Primitive n e
+base_some p Constant n e = framed_some p Constant n e
+base_some p (BitPacked packing) n e = framed_some p (BitPacked packing) n e
+base_some p (FoR order encoded) n e = framed_some p (FoR order encoded) n e
+base_some p (FoRChunked order encoded references) n e = framed_some p (FoRChunked order encoded references) n e
+base_some p (Delta bases deltas) n e =
+    both_some _ _ _ _ n (λ m f. framed_some (compress_deltas p).0 bases m f)
+    (λ m f. both_some _ (Some (validity_bytes (length p.slots) p.validity)) _ _ m (λ k g. framed_some (compress_deltas p).1 deltas k g) (λ k g. g) f) e
+base_some p (RLE run_values values indices offsets) n e = cc
+
 delta_some : (p : PrimitiveParts) (s : Shape) (n : ℕ) → delta_size (delta_sizes p) s ≡ Some n → encoded_bytes p s ≡ Some n
 unfolding encoded_bytes
 delta_some p Plain n e = framed_some p Plain n e
@@ -190,9 +224,13 @@ delta_some p (BitPacked packing) n e = framed_some p (BitPacked packing) n e
 delta_some p (FoR order encoded) n e = framed_some p (FoR order encoded) n e
 delta_some p (FoRChunked order encoded references) n e = framed_some p (FoRChunked order encoded references) n e
 delta_some p (Delta bases deltas) n e =
-    both_some _ _ _ _ n (λ m f. framed_some (compress_deltas p).0 bases m f)
+    both_some _ _ _ _ n (λ m f. base_some (compress_deltas p).0 bases m f)
     (λ m f. both_some _ (Some (validity_bytes (length p.slots) p.validity)) _ _ m (λ k g. framed_some (compress_deltas p).1 deltas k g) (λ k g. g) f) e
 delta_some p (RLE run_values values indices offsets) n e = cc
+
+runs_some : (runs : RunParts) (values indices offsets : Shape) (n : ℕ) → run_size (run_sizes runs) values indices offsets ≡ Some n → both (encoded_bytes runs.values values) (both (encoded_bytes runs.indices indices) (encoded_bytes runs.offsets offsets)) ≡ Some n
+runs_some runs values indices offsets n e =
+    both_some _ _ _ _ n (λ m f. delta_some runs.values values m f) (λ m f. both_some _ _ _ _ m (λ k g. delta_some runs.indices indices k g) (λ k g. framed_some runs.offsets offsets k g) f) e
 
 size_some : (p : PrimitiveParts) (s : Shape) (n : ℕ) → size_in (statistics_of p) s ≡ Some n → encoded_bytes p s ≡ Some n
 unfolding encoded_bytes statistics_of
@@ -203,12 +241,8 @@ size_some p (BitPacked packing) n e = delta_some p (BitPacked packing) n e
 size_some p (FoR order encoded) n e = delta_some p (FoR order encoded) n e
 size_some p (FoRChunked order encoded references) n e = delta_some p (FoRChunked order encoded references) n e
 size_some p (Delta bases deltas) n e = delta_some p (Delta bases deltas) n e
-size_some p (RLE Dictionary values indices offsets) n e =
-    both_some _ _ _ _ n (λ m f. delta_some (encode_dictionaries p).values values m f)
-    (λ m f. both_some _ _ _ _ m (λ k g. delta_some (encode_dictionaries p).indices indices k g) (λ k g. framed_some (encode_dictionaries p).offsets offsets k g) f) e
-size_some p (RLE Runs values indices offsets) n e =
-    both_some _ _ _ _ n (λ m f. delta_some (encode_runs p).values values m f)
-    (λ m f. both_some _ _ _ _ m (λ k g. framed_some (encode_runs p).indices indices k g) (λ k g. framed_some (encode_runs p).offsets offsets k g) f) e
+size_some p (RLE Dictionary values indices offsets) n e = runs_some (encode_dictionaries p) values indices offsets n e
+size_some p (RLE Runs values indices offsets) n e = runs_some (encode_runs p) values indices offsets n e
 
 none_capped : (o : Option ℕ) → ((n : ℕ) → o ≡ Some n → ⊥) → capped o ≡ None
 none_capped None never = refl

@@ -1,6 +1,5 @@
 -- Parts whose chunks begin with 0, and of which nothing is below it.
 use Rattle.std.proofs.Common.{◌≡◌, ℕ, ℤ, pos, ◌+◌, ◌-◌, ◌*◌, ◌/◌, ◌%◌, ◌^◌, ◌<◌, true, List, [], ◌∷◌, length, map, drop, get_or, take, Option, Some, None, unwrap_or, IsTrue, refl, ap, sym, subst, ◌∙◌, arith, int_le, find, if◌then◌else◌}
-use Rattle.std.specs.Prelude.{◌⊎◌}
 use Rattle.std.specs.List.{list_all}
 use Rattle.std.specs.Ordering.{int_eq}
 use Rattle.std.proofs.lemmas.Bool.Decides.{Decides-int_eq}
@@ -8,7 +7,6 @@ use Rattle.std.proofs.lemmas.Int.{ints}
 use Rattle.std.proofs.lemmas.List.{length-drop, length-map, length-take}
 use Rattle.fl_types.specs.declared.dtype.PType.{PType}
 use Rattle.fl_types.specs.declared.dtype.PType.TheVariants.{U8, U16, U32, U64, I8, I16, I32, I64}
-use Rattle.fl_types.specs.declared.validity.Validity.TheVariants as valid
 use Rattle.fl_types.specs.Integers.{fits, is_unsigned, pattern_of}
 use Rattle.fl_types.specs.Validities.{covers}
 use Rattle.fl_types.proofs.Patterns.{read_pattern}
@@ -20,14 +18,12 @@ use Rattle.fl_codec.specs.Deltas.{delta_of}
 use Rattle.fl_codec.specs.ForwardFill.{Carry, either, fill_forward, first_some, last_some}
 use Rattle.fl_codec.specs.FoRColumns.{chunk_leasts, chunk_references, common_reference, least_by, reference_of_chunk, valid_items}
 use Rattle.fl_codec.specs.declared.for_.ItemOrder.TheVariants.{Natural}
-use Rattle.fl_codec.specs.Parts.{compress_deltas, encode_runs, items_of_primitive}
+use Rattle.fl_codec.specs.Parts.{compress_deltas, items_of_primitive}
 use Rattle.fl_codec.proofs.DeltaLeasts.{deltas_fit, length-deltas}
 use Rattle.fl_codec.proofs.FoRLaws.{find-least}
 use Rattle.fl_codec.proofs.ReferenceLaws.{last_more}
-use Rattle.fl_codec.proofs.RunIndices.{indices_begin, indices_from_zero, length-indices}
 use Rattle.fl_codec.proofs.Tables.{get_or-between, get_or-table, length-table, map-between}
 use Rattle.fl_statistics.proofs.DeltaBlocks.{first_row}
-use Rattle.fl_statistics.proofs.IndexBlocks.{are_full}
 use Rattle.fl_compress.specs.Choices.{HasZeroLeasts}
 
 -- integers as items that are there
@@ -81,15 +77,6 @@ zero_leasts slots n so =
     let long : length references ≡ whole = length-table (reference_of_chunk leasts) whole in (
       least_zero slots (omega (arith, so.long, so.some)) first so.all,
       common_zero references (omega (arith, so.some)) (all_from (int_eq (pos 0)) references (pos 0) (λ i h. ap (int_eq (pos 0)) (get_or-table (reference_of_chunk leasts) whole i (pos 0) (omega arith) ∙ each i (omega arith)))),
-    )
-
--- ---- run indices
-pub indices_zero : (p : PrimitiveParts) → 0 < length p.slots → (p.validity ≡ valid.NonNullable) ⊎ (p.validity ≡ valid.AllValid) → HasZeroLeasts Natural (encode_runs p).indices
-indices_zero p some full =
-    let zero = zero_leasts (encode_runs p).indices.slots (chunks_of (length p.slots)) (record { long = length-indices p; some = omega arith; first = indices_begin p; all = indices_from_zero p }) in
-    let items = are_full p full in (
-      ap (least_by (λ z. z)) items ∙ zero.0,
-      ap (λ xs. common_reference (chunk_references (λ z. z) xs)) items ∙ zero.1,
     )
 
 -- ---- deltas

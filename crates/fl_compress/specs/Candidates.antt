@@ -1,5 +1,5 @@
 -- The schemes among which the smallest is sought, in their order.
-use Rattle.std.specs.Prelude.{◌-◌, ◌&&◌, ℕ, Bool, true, List, [], ◌∷◌, ◌++◌, map, flat_map, nat_lt, if◌then◌else◌}
+use Rattle.std.specs.Prelude.{◌-◌, ◌&&◌, ℕ, zero, suc, Bool, true, List, [], ◌∷◌, ◌++◌, map, flat_map, nat_lt, if◌then◌else◌}
 use Rattle.fl_codec.specs.declared.for_.ItemOrder.{ItemOrder}
 use Rattle.fl_codec.specs.declared.for_.ItemOrder.TheVariants.{Natural, Signed}
 use Rattle.fl_encode.specs.declared.scheme.Packing.TheVariants.{BestWidth, BestWidths}
@@ -35,31 +35,29 @@ over_frames children = over_one_reference Natural children ++ (over_chunk_refere
 unfoldable pub framed_schemes : Limits → ℕ → List Shape
 framed_schemes limits depth = packed_schemes limits depth ++ where_allowed (has_level limits.for_ depth) (over_frames (packed_schemes limits (depth - 1)))
 
--- deltas over each two of these
-abbrev pub over_deltas : List Shape → List Shape
-over_deltas children = flat_map (λ bases. map (Delta bases) children) children
+-- deltas over each of these bases and each of these deltas
+abbrev pub over_deltas : List Shape → List Shape → List Shape
+over_deltas bases deltas = flat_map (λ b. map (Delta b) deltas) bases
 
--- those, and deltas whose children are framed
-unfoldable pub delta_schemes : Limits → ℕ → List Shape
-delta_schemes limits depth = framed_schemes limits depth ++ where_allowed (has_level limits.delta depth) (over_deltas (framed_schemes limits (depth - 1)))
+-- framed schemes, and deltas over framed deltas, and over bases that are deltas in turn, at most this many in one another
+unfoldable pub delta_schemes : ℕ → Limits → ℕ → List Shape
+delta_schemes zero limits depth = framed_schemes limits depth
+delta_schemes (suc nested) limits depth =
+    framed_schemes limits depth ++ where_allowed (has_level limits.delta depth) (over_deltas (delta_schemes nested limits (depth - 1)) (framed_schemes limits (depth - 1)))
 
 -- runs or dictionaries over each of these values, each of these indices and each of these offsets
 abbrev pub over_runs : RunValues → List Shape → List Shape → List Shape → List Shape
 over_runs run_values values indices offsets = flat_map (λ v. flat_map (λ i. map (RLE run_values v i) offsets) indices) values
 
--- runs whose values are deltas or framed, and whose other children are framed
-unfoldable pub run_schemes : Limits → ℕ → List Shape
-run_schemes limits depth =
-    where_allowed (has_level limits.rle depth) (over_runs Runs (delta_schemes limits (depth - 1)) (framed_schemes limits (depth - 1)) (framed_schemes limits (depth - 1)))
-
--- dictionaries whose values and indices are deltas or framed, and whose offsets are framed
-unfoldable pub dictionary_schemes : Limits → ℕ → List Shape
-dictionary_schemes limits depth =
-    where_allowed (has_level limits.dict depth) (over_runs Dictionary (delta_schemes limits (depth - 1)) (delta_schemes limits (depth - 1)) (framed_schemes limits (depth - 1)))
+-- runs or dictionaries, where they are allowed, whose values and indices are deltas or framed, and whose offsets are framed
+unfoldable pub run_schemes : RunValues → Bool → Limits → ℕ → List Shape
+run_schemes run_values allowed limits depth =
+    let parts = delta_schemes 2 limits (depth - 1) in
+    where_allowed (has_level allowed depth) (over_runs run_values parts parts (framed_schemes limits (depth - 1)))
 
 -- framed schemes, deltas, runs and dictionaries
 unfoldable pub candidates : Limits → List Shape
-candidates limits = delta_schemes limits limits.depth ++ (run_schemes limits limits.depth ++ dictionary_schemes limits limits.depth)
+candidates limits = delta_schemes 2 limits limits.depth ++ (run_schemes Runs limits.rle limits limits.depth ++ run_schemes Dictionary limits.dict limits limits.depth)
 
 -- three levels of all encodings
 abbrev pub default_limits : Limits

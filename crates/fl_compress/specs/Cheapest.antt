@@ -27,7 +27,3 @@ abbrev pub combined : {A B C : Type 0} → (A → B → C) → Option (A × ℕ)
 combined f (Some first) (Some other) = Some (f first.0 other.0, first.1 + other.1)
 combined f (Some first) None = None
 combined f None other = None
-
--- the same at a cost that is higher by so much
-abbrev pub beside : {A : Type 0} → ℕ → Option (A × ℕ) → Option (A × ℕ)
-beside more choice = option_map (λ c. (c.0, c.1 + more)) choice

@@ -7,7 +7,7 @@ use Rattle.fl_statistics.specs.BitStatistics.{bit_statistics}
 use Rattle.fl_statistics.specs.Differences.{less_references}
 use Rattle.fl_codec.specs.declared.for_.ItemOrder.{ItemOrder}
 use Rattle.fl_codec.specs.FoRColumns.{chunk_references, common_reference, least_by, reading}
-use Rattle.fl_codec.specs.Parts.{compress_deltas, encode_runs, items_of_primitive}
+use Rattle.fl_codec.specs.Parts.{compress_deltas, items_of_primitive}
 use Rattle.fl_encode.specs.SchemeShapes.{shape}
 use Rattle.fl_encode.specs.Shapes.{RLE, Shape}
 use Rattle.fl_encode.specs.Shapes as shapes
@@ -15,7 +15,7 @@ use Rattle.fl_compress.specs.declared.choice.Choice.{Choice}
 use Rattle.fl_compress.specs.declared.choice.RunValues.{RunValues}
 use Rattle.fl_compress.specs.declared.choice.RunValues.TheVariants.{Dictionary, Runs}
 use Rattle.fl_compress.specs.declared.parts.Part.{Part}
-use Rattle.fl_compress.specs.declared.parts.Part.TheVariants.{Deltas, Indices, Items}
+use Rattle.fl_compress.specs.declared.parts.Part.TheVariants.{Deltas, Items}
 use Rattle.fl_compress.specs.Candidates.{over_chunk_references, over_one_reference}
 use Rattle.fl_compress.specs.Cheapest.{cheaper, cheapest}
 use Rattle.fl_compress.specs.EncodedBytes.{encoded_bytes}
@@ -62,11 +62,10 @@ runs_of which values others = RLE which values others.0 others.1
 abbrev pub or_frames : ItemOrder → PrimitiveParts → List Shape → Option (Shape × ℕ) → Option (Shape × ℕ)
 or_frames order p children best = cheaper (cheaper best (cheapest (encoded_bytes p) (over_one_reference order children))) (cheapest (encoded_bytes p) (over_chunk_references order children))
 
--- the items of an array, its deltas, or its run indices, as an array
+-- the items of an array, or its deltas, as an array
 abbrev pub part_of : Part → PrimitiveParts → PrimitiveParts
 part_of Items p = p
 part_of Deltas p = (compress_deltas p).1
-part_of Indices p = (encode_runs p).indices
 
 -- so many bytes are at most those of a choice, if there is one
 abbrev pub CostsNoMore : ℕ → Option (Shape × ℕ) → Type 0

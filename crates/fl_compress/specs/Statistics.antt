@@ -6,17 +6,18 @@ use Rattle.fl_column.specs.Queries.{are_constant}
 use Rattle.fl_codec.specs.declared.for_.ItemOrder.{ItemOrder}
 use Rattle.fl_codec.specs.declared.for_.ItemOrder.TheVariants.{Natural, Signed}
 use Rattle.fl_codec.specs.Dictionaries.{encode_dictionaries}
-use Rattle.fl_codec.specs.Parts.{ByChunk, FoRParts, Nulls, OneReference, Whole, compress_deltas, encode_chunked_by, encode_global_by, encode_runs}
+use Rattle.fl_codec.specs.Parts.{ByChunk, FoRParts, Nulls, OneReference, RunParts, Whole, compress_deltas, encode_chunked_by, encode_global_by, encode_runs}
 use Rattle.fl_encode.specs.declared.scheme.Packing.TheVariants.{BestWidth, BestWidths}
 use Rattle.fl_encode.specs.Shapes.{BitPacked, Constant, Delta, Dictionary, FoR, FoRChunked, Plain, Primitive, RLE, Runs, Shape}
 use Rattle.fl_serde.specs.ByteCounts.{primitive_bytes, validity_bytes}
+use Rattle.fl_compress.specs.declared.statistics.BaseSizes.{BaseSizes}
 use Rattle.fl_compress.specs.declared.statistics.ChunkSizes.{ChunkSizes}
 use Rattle.fl_compress.specs.declared.statistics.ChunkSizes.TheVariants as chunks
 use Rattle.fl_compress.specs.declared.statistics.DeltaSizes.{DeltaSizes}
-use Rattle.fl_compress.specs.declared.statistics.DictionarySizes.{DictionarySizes}
 use Rattle.fl_compress.specs.declared.statistics.FrameSizes.{FrameSizes}
 use Rattle.fl_compress.specs.declared.statistics.FramedSizes.{FramedSizes}
 use Rattle.fl_compress.specs.declared.statistics.PackedSizes.{PackedSizes}
+use Rattle.fl_compress.specs.declared.statistics.RunSizes.{RunSizes}
 use Rattle.fl_compress.specs.declared.statistics.Statistics.{Statistics}
 use Rattle.fl_compress.specs.Cheapest.{both}
 use Rattle.fl_compress.specs.EncodedBytes.{encoded_bytes}
@@ -51,31 +52,34 @@ abbrev pub framed_sizes : PrimitiveParts → FramedSizes
 framed_sizes p = record { packed = packed_sizes p; natural = frame_sizes Natural p; signed = frame_sizes Signed p }
 
 -- those, and those of the bases and the deltas
-abbrev pub delta_sizes : PrimitiveParts → DeltaSizes
-delta_sizes p = record {
+abbrev pub base_sizes : PrimitiveParts → BaseSizes
+base_sizes p = record {
   framed = framed_sizes p;
   bases = framed_sizes (compress_deltas p).0;
   deltas = framed_sizes (compress_deltas p).1;
   validity = validity_bytes (length p.slots) p.validity;
 }
 
--- those of the distinct items of an array's chunks, of their indices and of their offsets
-abbrev pub dictionary_sizes : PrimitiveParts → DictionarySizes
-dictionary_sizes p = record {
-  values = delta_sizes (encode_dictionaries p).values;
-  indices = delta_sizes (encode_dictionaries p).indices;
-  offsets = framed_sizes (encode_dictionaries p).offsets;
+-- the same, where the bases may be deltas too
+abbrev pub delta_sizes : PrimitiveParts → DeltaSizes
+delta_sizes p = record {
+  framed = framed_sizes p;
+  bases = base_sizes (compress_deltas p).0;
+  deltas = framed_sizes (compress_deltas p).1;
+  validity = validity_bytes (length p.slots) p.validity;
 }
 
--- the statistics of an array: of its items, its bases and its deltas, of its run values, with their bases and deltas, its run indices and its run offsets, and of its dictionaries
-unfoldable pub statistics_of : PrimitiveParts → Statistics
-statistics_of p = record {
-  items = delta_sizes p;
-  values = delta_sizes (encode_runs p).values;
-  indices = framed_sizes (encode_runs p).indices;
-  offsets = framed_sizes (encode_runs p).offsets;
-  dictionaries = dictionary_sizes p;
+-- those of the run values, of the run indices and of the run offsets
+abbrev pub run_sizes : RunParts → RunSizes
+run_sizes runs = record {
+  values = delta_sizes runs.values;
+  indices = delta_sizes runs.indices;
+  offsets = framed_sizes runs.offsets;
 }
+
+-- the statistics of an array: of its items, its bases and its deltas, of its runs, and of its dictionaries
+unfoldable pub statistics_of : PrimitiveParts → Statistics
+statistics_of p = record { items = delta_sizes p; runs = run_sizes (encode_runs p); dictionaries = run_sizes (encode_dictionaries p) }
 
 -- ---- of a scheme
 -- the bytes by a packed scheme, none by another
@@ -110,14 +114,23 @@ framed_size sizes (FoRChunked order encoded references) = chunk_size (by_order o
 framed_size sizes other = packed_size sizes.packed other
 
 -- by one of those, or by deltas over two of them
+abbrev pub base_size : BaseSizes → Shape → Option ℕ
+base_size sizes (Delta bases deltas) = both (framed_size sizes.bases bases) (both (framed_size sizes.deltas deltas) (Some sizes.validity))
+base_size sizes other = framed_size sizes.framed other
+
+-- the same, where the bases may be by deltas too
 abbrev pub delta_size : DeltaSizes → Shape → Option ℕ
-delta_size sizes (Delta bases deltas) = both (framed_size sizes.bases bases) (both (framed_size sizes.deltas deltas) (Some sizes.validity))
+delta_size sizes (Delta bases deltas) = both (base_size sizes.bases bases) (both (framed_size sizes.deltas deltas) (Some sizes.validity))
 delta_size sizes other = framed_size sizes.framed other
+
+-- by runs or dictionaries over three parts
+abbrev pub run_size : RunSizes → Shape → Shape → Shape → Option ℕ
+run_size sizes values indices offsets = both (delta_size sizes.values values) (both (delta_size sizes.indices indices) (framed_size sizes.offsets offsets))
 
 -- the bytes by a candidate, of an array's statistics, if it is not refused
 abbrev pub size_in : Statistics → Shape → Option ℕ
-size_in statistics (RLE Runs values indices offsets) = both (delta_size statistics.values values) (both (framed_size statistics.indices indices) (framed_size statistics.offsets offsets))
-size_in statistics (RLE Dictionary values indices offsets) = both (delta_size statistics.dictionaries.values values) (both (delta_size statistics.dictionaries.indices indices) (framed_size statistics.dictionaries.offsets offsets))
+size_in statistics (RLE Runs values indices offsets) = run_size statistics.runs values indices offsets
+size_in statistics (RLE Dictionary values indices offsets) = run_size statistics.dictionaries values indices offsets
 size_in statistics other = delta_size statistics.items other
 
 -- bytes as a number of 64 bits, the greatest one where there are more
@@ -141,12 +154,16 @@ is_framed (FoRChunked order encoded references) = is_packed encoded && is_packed
 is_framed other = is_packed other
 
 -- those, and deltas over two of them
+abbrev pub is_base : Shape → Bool
+is_base (Delta bases deltas) = is_framed bases && is_framed deltas
+is_base other = is_framed other
+
+-- those, and deltas over bases of these and framed deltas
 abbrev pub is_delta : Shape → Bool
-is_delta (Delta bases deltas) = is_framed bases && is_framed deltas
+is_delta (Delta bases deltas) = is_base bases && is_framed deltas
 is_delta other = is_framed other
 
--- the scheme may be a candidate: it is packed, a frame of reference over packed ones, deltas over two of those, runs over one of these and two without deltas, or dictionaries over two of these and one without deltas
+-- the scheme may be a candidate: it is packed, a frame of reference over packed ones, deltas over those or over bases that are deltas, or runs or dictionaries over two of these and one without deltas
 unfoldable pub is_candidate : Shape → Bool
-is_candidate (RLE Runs values indices offsets) = is_delta values && (is_framed indices && is_framed offsets)
-is_candidate (RLE Dictionary values indices offsets) = is_delta values && (is_delta indices && is_framed offsets)
+is_candidate (RLE run_values values indices offsets) = is_delta values && (is_delta indices && is_framed offsets)
 is_candidate other = is_delta other

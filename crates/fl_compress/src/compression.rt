@@ -23,9 +23,9 @@ use std::alloc::Global;
 ///
 /// The candidates are, in this order: plain; constant; bit-packed at the best width, or at the best width for
 /// each block; a frame of reference for the whole array, and one for each chunk, over these, and the same with
-/// wrapped references; deltas whose bases and deltas are of these; runs whose run values are of these, and whose run indices and run offsets
-/// are of those before the deltas; a dictionary for each chunk, whose distinct items and indices are of these, and whose offsets are of
-/// those before the deltas. The children of each have one level less.
+/// wrapped references; deltas whose deltas are of these, and whose bases are of these or such deltas in turn; runs, and a dictionary for
+/// each chunk, whose run values and run indices are of these, and whose run offsets are of those before the deltas. The children of each
+/// have one level less.
 ///
 /// So it is never larger than the plain array. An array without items stays plain, and one whose items are all
 /// equal becomes constant, where this is allowed.

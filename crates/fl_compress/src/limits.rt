@@ -7,8 +7,8 @@ ghost use Rattle.fl_compress.specs.Candidates.{default_limits, has_level};
 #[derive(Clone, Copy, Debug, PartialEq, Eq)]
 pub struct Limits {
     /// How many encodings may stand in one another. 0 leaves plain and constant arrays, 1 allows packed ones,
-    /// 2 frames of reference over packed ones, 3 deltas, runs and dictionaries over those. Run values may be deltas, so that
-    /// 4 is the most that makes a difference.
+    /// 2 frames of reference over packed ones, 3 deltas, runs and dictionaries over those. Run values and run indices may be
+    /// deltas, and so may the bases of these, so that 5 is the most that makes a difference.
     pub depth: u8,
     /// Whether there may be constant arrays.
     pub constant: bool,

@@ -1,5 +1,5 @@
-//! What is sought a scheme for: the items of an array, its deltas, or its run indices, of which no list is made. Each query
-//! is answered from the array.
+//! What is sought a scheme for: the items of an array, or its deltas, of which no list is made. Each query is answered from
+//! the array.
 
 ghost use Rattle.std.specs.Prelude.{◌≡◌, ◌<◌, ◌^◌, ◌&&◌, IfErr, IfOk, Ok, is_none, length, map, nat_lt, option_map, true};
 ghost use Rattle.std.specs.List.{list_all};
@@ -11,9 +11,8 @@ ghost use Rattle.fl_statistics.specs.BitStatistics.{bit_statistics};
 ghost use Rattle.fl_statistics.specs.Differences.{less_references};
 ghost use Rattle.fl_codec.specs.FoRColumns.{chunk_references, least_by, reading};
 ghost use Rattle.fl_codec.specs.declared.for_.ItemOrder.TheVariants.{Natural};
-ghost use Rattle.fl_codec.specs.Parts.{compress_deltas, encode_runs, items_of_primitive};
+ghost use Rattle.fl_codec.specs.Parts.{compress_deltas, items_of_primitive};
 ghost use Rattle.fl_serde.specs.ByteCounts.{primitive_bytes, validity_bytes};
-ghost use Rattle.fl_serde.specs.Leaves.{bits_size};
 ghost use Rattle.fl_compress.specs.Choices.{HasZeroLeasts, part_of};
 
 use fl_codec::for_::delta_leasts::delta_leasts;
@@ -22,11 +21,8 @@ use fl_column::{FastLanesError, PType, PhysicalPType, PrimitiveArray};
 use fl_serde::byte_counts::{slots_size, validity_bytes};
 use fl_statistics::{
     BitStatistics, bit_statistics, bit_statistics_less, delta_count, delta_statistics,
-    delta_statistics_less, index_count, index_references, index_statistics, index_statistics_less,
-    is_constant_less, is_delta_constant, is_delta_constant_less, is_index_constant,
-    is_index_constant_less, least_index,
+    delta_statistics_less, is_constant_less, is_delta_constant, is_delta_constant_less,
 };
-use fl_types::Validity;
 use num_traits::WrappingSub;
 use std::alloc::Global;
 
@@ -37,8 +33,6 @@ pub(crate) enum Part {
     Items,
     /// Its deltas, as `delta_compress` makes them.
     Deltas,
-    /// Its run indices, as `rle::encode` makes them.
-    Indices,
 }
 
 /// The type of the items.
@@ -47,7 +41,6 @@ pub(crate) fn ptype_of(array: &PrimitiveArray, part: Part) -> PType
 {
     match part {
         Part::Items | Part::Deltas => array.ptype(),
-        Part::Indices => PType::U16,
     }
 }
 
@@ -58,27 +51,6 @@ pub(crate) fn len_of(array: &PrimitiveArray, part: Part) -> usize
     match part {
         Part::Items => array.len(),
         Part::Deltas => delta_count(array),
-        Part::Indices => index_count(array),
-    }
-}
-
-/// The bytes of this many bits.
-fn bytes_of_bits(count: usize) -> u128
-    ensures value { result ≡ bits_size count }
-    ensures few { result < 2 ^ 64 }
-{
-    count.div_ceil(8) as u128
-}
-
-/// The bytes of the validity of the run indices, which has a bit for each of them where the array's has bits.
-fn validity_bytes_of_indices(array: &PrimitiveArray) -> u128
-    ensures value { result ≡ validity_bytes (length (encode_runs array.now).indices.slots) (encode_runs array.now).indices.validity }
-    ensures few { result < 2 ^ 64 }
-{
-    match array.validity() {
-        Validity::NonNullable | Validity::AllValid => 0,
-        Validity::AllInvalid => bytes_of_bits(index_count(array)),
-        Validity::Array(_bits) => bytes_of_bits(index_count(array)),
     }
 }
 
@@ -90,7 +62,6 @@ pub(crate) fn validity_bytes_of(array: &PrimitiveArray, part: Part) -> u128
     match part {
         Part::Items => validity_bytes(array.validity(), array.len()),
         Part::Deltas => 0,
-        Part::Indices => validity_bytes_of_indices(array),
     }
 }
 
@@ -102,24 +73,12 @@ pub(crate) fn plain_bytes(array: &PrimitiveArray, part: Part) -> u128
     slots_size(ptype_of(array, part), len_of(array, part)) + validity_bytes_of(array, part)
 }
 
-/// Whether there are run indices, and all of them are null.
-fn are_indices_null(array: &PrimitiveArray) -> bool
-    ensures { result ≡ (nat_lt 0 (length (encode_runs array.now).indices.slots) && list_all is_none (items_of_primitive (encode_runs array.now).indices)) }
-{
-    let _validity = array.validity();
-    if array.len() == 0 {
-        return false;
-    }
-    are_nulls(array)
-}
-
 /// Whether there are items, and all of them are null.
 pub(crate) fn is_all_null(array: &PrimitiveArray, part: Part) -> bool
     ensures { result ≡ (nat_lt 0 (length (part_of part array.now).slots) && list_all is_none (items_of_primitive (part_of part array.now))) }
 {
     match part {
         Part::Items => array.len() > 0 && are_nulls(array),
-        Part::Indices => are_indices_null(array),
         Part::Deltas => false,
     }
 }
@@ -135,7 +94,6 @@ pub(crate) fn is_constant(
     match part {
         Part::Items => Ok(array.is_constant()),
         Part::Deltas => Ok(is_delta_constant(alloc, array)?),
-        Part::Indices => Ok(is_index_constant(array)),
     }
 }
 
@@ -150,7 +108,6 @@ pub(crate) fn count_bits(
     match part {
         Part::Items => Ok(bit_statistics(array)),
         Part::Deltas => Ok(delta_statistics(alloc, array)?),
-        Part::Indices => Ok(index_statistics(array)),
     }
 }
 
@@ -168,7 +125,6 @@ pub(crate) fn is_less_constant<T: PhysicalPType + WrappingSub>(
     match part {
         Part::Items => Ok(is_constant_less(array, one, references)),
         Part::Deltas => Ok(is_delta_constant_less(alloc, array, one, references)?),
-        Part::Indices => Ok(is_index_constant_less(array, one, references)),
     }
 }
 
@@ -186,7 +142,6 @@ pub(crate) fn count_bits_less<T: PhysicalPType + WrappingSub>(
     match part {
         Part::Items => Ok(bit_statistics_less(array, one, references)),
         Part::Deltas => Ok(delta_statistics_less(alloc, array, one, references)?),
-        Part::Indices => Ok(index_statistics_less(array, one, references)),
     }
 }
 
@@ -208,10 +163,6 @@ pub(crate) fn leasts<T: PhysicalPType + WrappingSub>(
             Ok((references, least_item(array, order)))
         }
         Part::Deltas => Ok(delta_leasts(alloc, array, order)?),
-        Part::Indices => {
-            let references = index_references(alloc, array, order)?;
-            Ok((references, least_index(array, order)))
-        }
     }
 }
 
@@ -226,19 +177,6 @@ fn have_deltas_zero_leasts(array: &PrimitiveArray) -> bool
     array.ptype().is_unsigned()
 }
 
-/// Whether each chunk of the run indices begins with 0, and none is below it, as where none is null.
-fn have_indices_zero_leasts(array: &PrimitiveArray) -> bool
-    ensures { result ≡ true → HasZeroLeasts Natural (encode_runs array.now).indices }
-{
-    if array.len() == 0 {
-        return false;
-    }
-    match array.validity() {
-        Validity::NonNullable | Validity::AllValid => true,
-        _ => false,
-    }
-}
-
 /// Whether 0 is the least item by an order, and the reference of each chunk, as is known without a look at them. No frame of
 /// reference is cheaper then.
 pub(crate) fn has_zero_leasts(array: &PrimitiveArray, part: Part, order: ItemOrder) -> bool
@@ -246,7 +184,6 @@ pub(crate) fn has_zero_leasts(array: &PrimitiveArray, part: Part, order: ItemOrd
 {
     match (part, order) {
         (Part::Deltas, ItemOrder::Natural) => have_deltas_zero_leasts(array),
-        (Part::Indices, ItemOrder::Natural) => have_indices_zero_leasts(array),
         _ => false,
     }
 }

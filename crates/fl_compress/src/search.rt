@@ -3,11 +3,11 @@
 ghost use Rattle.std.specs.Prelude.{◌≡◌, ◌-◌, ◌<◌, ◌≤◌, ◌^◌, ℤ, List, [], ◌∷◌, IfOk, Ok, Some, map, option_map, true};
 ghost use Rattle.fl_types.specs.Refusals.{Answers};
 ghost use Rattle.fl_encode.specs.Shapes as shapes;
-ghost use Rattle.fl_compress.specs.Candidates.{candidates, delta_schemes, dictionary_schemes, framed_schemes, over_chunk_references, over_deltas, over_one_reference, over_runs, packed_schemes, run_schemes, where_allowed};
+ghost use Rattle.fl_compress.specs.Candidates.{candidates, delta_schemes, framed_schemes, over_chunk_references, over_one_reference, packed_schemes, run_schemes, where_allowed};
 ghost use Rattle.fl_codec.specs.FoRColumns.{chunk_references, chunked_slots, least_by, reading};
 ghost use Rattle.fl_codec.specs.Parts.{items_of_primitive, non_nullable, subtract_reference};
 ghost use Rattle.fl_serde.specs.ByteCounts.{primitive_bytes};
-ghost use Rattle.fl_compress.specs.Cheapest.{beside, cheaper, cheapest, combined};
+ghost use Rattle.fl_compress.specs.Cheapest.{cheaper, cheapest, combined};
 ghost use Rattle.fl_compress.specs.Choices.{AreAll, CostsNoMore, HoldDifferences, chosen, chosen_in, or_frames, part_of, run_values_of, runs_of, two, with_slots};
 ghost use Rattle.fl_compress.specs.EncodedBytes.{encoded_bytes};
 
@@ -20,10 +20,10 @@ use crate::parts::{
     leasts, plain_bytes, ptype_of,
 };
 use crate::single_runs::are_runs_single;
-use crate::sorted::{are_items_distinct, dictionaries_of};
+use crate::sorted::{are_items_distinct, are_sorted, dictionaries_of};
 use fl_codec::delta::blocks::delta_bases;
 use fl_codec::for_::{ItemOrder, common_reference};
-use fl_codec::rle::blocks::run_values;
+use fl_codec::rle::{self, Runs};
 use fl_column::laws::stored_integers_are_in_range;
 use fl_column::{FastLanesError, PhysicalPType, PrimitiveArray};
 use fl_encode::Scheme;
@@ -394,128 +394,64 @@ fn choose_framed(
     )
 }
 
-/// The cheapest delta array over these bases and a choice of deltas, beside so many bytes of its own.
-fn choose_over_bases(
-    alloc: Global,
-    bases: &PrimitiveArray,
-    deltas: Choice,
-    own: u128,
-    limits: &Limits,
-    depth: u8,
-) -> Result<Choice, FastLanesError>
-    requires deltas { deltas.bytes < 2 ^ 68 }
-    requires own { own < 2 ^ 64 }
-    ensures { Answers chosen result (Ok (combined shapes.Delta (cheapest (encoded_bytes bases.now) (framed_schemes limits.now depth)) (beside own (chosen deltas)))) }
-{
-    let bases = choose_framed(alloc, bases, Part::Items, limits, depth)?;
-    choice::over_deltas(alloc, bases, deltas, own)
-}
-
-/// The cheaper of another choice, and of the cheapest delta array whose children are framed. Of the deltas no list is made.
-/// Where they already take as many bytes, the bases are not looked at.
-fn choose_deltas(
-    alloc: Global,
-    array: &PrimitiveArray,
-    limits: &Limits,
-    depth: u8,
-    first: Choice,
-) -> Result<Choice, FastLanesError>
-    ensures choice { Answers chosen result (Ok (cheaper (chosen first) (cheapest (encoded_bytes array.now) (over_deltas (framed_schemes limits.now depth))))) }
-    ensures most { IfOk result (λ choice. choice.bytes ≤ first.bytes) }
-{
-    let own = validity_bytes(array.validity(), array.len());
-    let deltas = choose_framed(alloc, array, Part::Deltas, limits, depth)?;
-    if first.bytes <= deltas.bytes + own {
-        return Ok(first);
-    }
-    let bases = delta_bases(alloc, array)?;
-    let made = choose_over_bases(alloc, &bases, deltas, own, limits, depth)?;
-    Ok(cheaper(first, Some(made)))
-}
-
-/// The cheapest of a framed array, and of a delta array whose children are framed.
+/// The cheapest of a framed array, and of a delta array whose deltas are framed and whose bases are framed or deltas in turn,
+/// `nested` of them in one another. Of the deltas no list is made. Where they already take as many bytes, the bases are not
+/// looked at.
 fn choose_framed_or_deltas(
     alloc: Global,
     array: &PrimitiveArray,
+    nested: u8,
     limits: &Limits,
     depth: u8,
 ) -> Result<Choice, FastLanesError>
-    ensures choice { Answers chosen result (Ok (cheapest (encoded_bytes array.now) (delta_schemes limits.now depth))) }
+    ensures choice { Answers chosen result (Ok (cheapest (encoded_bytes array.now) (delta_schemes nested limits.now depth))) }
     ensures few { IfOk result (λ choice. choice.bytes < 2 ^ 68) }
 {
     let framed = choose_framed(alloc, array, Part::Items, limits, depth)?;
     if framed.bytes == 0 {
         return Ok(framed);
     }
+    if nested == 0 {
+        return Ok(framed);
+    }
     if !has_level(limits.delta, depth) {
         return Ok(framed);
     }
-    choose_deltas(alloc, array, limits, depth - 1, framed)
-}
-
-/// The cheapest run-length encoded array over these run values, a choice of run indices, and one of run offsets.
-fn choose_over_values(
-    alloc: Global,
-    which: RunValues,
-    values: &PrimitiveArray,
-    indices: Choice,
-    offsets: Choice,
-    limits: &Limits,
-    depth: u8,
-) -> Result<Choice, FastLanesError>
-    requires indices { indices.bytes < 2 ^ 68 }
-    requires offsets { offsets.bytes < 2 ^ 68 }
-    ensures { Answers chosen result (Ok (combined (runs_of (run_values_of which)) (cheapest (encoded_bytes values.now) (delta_schemes limits.now depth)) (combined two (chosen indices) (chosen offsets)))) }
-{
-    let values = choose_framed_or_deltas(alloc, values, limits, depth)?;
-    choice::over_runs(alloc, which, values, indices, offsets)
-}
-
-/// The cheaper of another choice, and of a run-length encoded array over these parts. Where the run indices and the
-/// run offsets already take as many bytes, the run values are not looked at.
-fn choose_run_parts(
-    alloc: Global,
-    which: RunValues,
-    values: &PrimitiveArray,
-    indices: Choice,
-    offsets: &PrimitiveArray,
-    limits: &Limits,
-    depth: u8,
-    first: Choice,
-) -> Result<Choice, FastLanesError>
-    requires { indices.bytes < 2 ^ 68 }
-    ensures choice { Answers chosen result (Ok (cheaper (chosen first) (combined (runs_of (run_values_of which)) (cheapest (encoded_bytes values.now) (delta_schemes limits.now depth)) (combined two (chosen indices) (cheapest (encoded_bytes offsets.now) (framed_schemes limits.now depth)))))) }
-    ensures most { IfOk result (λ choice. choice.bytes ≤ first.bytes) }
-{
-    let offsets = choose_framed(alloc, offsets, Part::Items, limits, depth)?;
-    if first.bytes <= indices.bytes + offsets.bytes {
-        return Ok(first);
+    let own = validity_bytes(array.validity(), array.len());
+    let deltas = choose_framed(alloc, array, Part::Deltas, limits, depth - 1)?;
+    if framed.bytes <= deltas.bytes + own {
+        return Ok(framed);
     }
-    let made = choose_over_values(alloc, which, values, indices, offsets, limits, depth)?;
-    Ok(cheaper(first, Some(made)))
+    let bases = delta_bases(alloc, array)?;
+    let chosen_bases = choose_framed_or_deltas(alloc, &bases, nested - 1, limits, depth - 1)?;
+    let made = choice::over_deltas(alloc, chosen_bases, deltas, own)?;
+    Ok(cheaper(framed, Some(made)))
 }
 
-/// The cheaper of another choice, and of the cheapest run-length encoded array of runs. Of the run indices no list is made.
-/// Where they already take as many bytes, the run values and the run offsets are not made.
-fn choose_runs(
+/// The cheaper of another choice, and of the cheapest run-length encoded array over these parts. Where some of them already
+/// take as many bytes, the others are not looked at.
+fn choose_over_runs(
     alloc: Global,
-    array: &PrimitiveArray,
+    which: RunValues,
+    runs: &Runs,
     limits: &Limits,
     depth: u8,
     first: Choice,
 ) -> Result<Choice, FastLanesError>
-    ensures choice { Answers chosen result (Ok (cheaper (chosen first) (cheapest (encoded_bytes array.now) (over_runs shapes.Runs (delta_schemes limits.now depth) (framed_schemes limits.now depth) (framed_schemes limits.now depth))))) }
+    ensures choice { Answers chosen result (Ok (cheaper (chosen first) (combined (runs_of (run_values_of which)) (cheapest (encoded_bytes runs.now.values) (delta_schemes 2 limits.now depth)) (combined two (cheapest (encoded_bytes runs.now.indices) (delta_schemes 2 limits.now depth)) (cheapest (encoded_bytes runs.now.offsets) (framed_schemes limits.now depth)))))) }
     ensures most { IfOk result (λ choice. choice.bytes ≤ first.bytes) }
 {
-    let indices = choose_framed(alloc, array, Part::Indices, limits, depth)?;
+    let indices = choose_framed_or_deltas(alloc, &runs.indices, 2, limits, depth)?;
     if first.bytes <= indices.bytes {
         return Ok(first);
     }
-    let (values, offsets) = run_values(alloc, array)?;
-    let which = RunValues::Runs;
-    choose_run_parts(
-        alloc, which, &values, indices, &offsets, limits, depth, first,
-    )
+    let offsets = choose_framed(alloc, &runs.offsets, Part::Items, limits, depth)?;
+    if first.bytes <= indices.bytes + offsets.bytes {
+        return Ok(first);
+    }
+    let values = choose_framed_or_deltas(alloc, &runs.values, 2, limits, depth)?;
+    let made = choice::over_runs(alloc, which, values, indices, offsets)?;
+    Ok(cheaper(first, Some(made)))
 }
 
 /// The cheaper of another choice, which takes no more bytes than framed arrays and deltas of a level less, and of the cheapest
@@ -527,8 +463,8 @@ fn choose_with_runs(
     limits: &Limits,
     first: Choice,
 ) -> Result<Choice, FastLanesError>
-    requires { CostsNoMore first.bytes (cheapest (encoded_bytes array.now) (delta_schemes limits.now (limits.now.depth - 1))) }
-    ensures choice { Answers chosen result (Ok (cheaper (chosen first) (cheapest (encoded_bytes array.now) (run_schemes limits.now limits.now.depth)))) }
+    requires { CostsNoMore first.bytes (cheapest (encoded_bytes array.now) (delta_schemes 2 limits.now (limits.now.depth - 1))) }
+    ensures choice { Answers chosen result (Ok (cheaper (chosen first) (cheapest (encoded_bytes array.now) (run_schemes shapes.Runs limits.now.rle limits.now limits.now.depth)))) }
     ensures most { IfOk result (λ choice. choice.bytes ≤ first.bytes) }
 {
     if !has_level(limits.rle, limits.depth) {
@@ -537,49 +473,29 @@ fn choose_with_runs(
     if are_runs_single(array) {
         return Ok(first);
     }
-    choose_runs(alloc, array, limits, limits.depth - 1, first)
-}
-
-/// The cheaper of another choice, and of the cheapest run-length encoded array of a dictionary for each chunk. Where the
-/// indices already take as many bytes, the distinct items are not looked at.
-fn choose_dictionaries(
-    alloc: Global,
-    array: &PrimitiveArray,
-    limits: &Limits,
-    depth: u8,
-    first: Choice,
-) -> Result<Choice, FastLanesError>
-    ensures { Answers chosen result (Ok (cheaper (chosen first) (cheapest (encoded_bytes array.now) (over_runs shapes.Dictionary (delta_schemes limits.now depth) (delta_schemes limits.now depth) (framed_schemes limits.now depth))))) }
-{
-    let runs = dictionaries_of(alloc, array)?;
-    let ranks = choose_framed_or_deltas(alloc, &runs.indices, limits, depth)?;
-    if first.bytes <= ranks.bytes {
-        return Ok(first);
-    }
-    let which = RunValues::Dictionary;
-    choose_run_parts(
+    let runs = rle::encode(alloc, array)?;
+    choose_over_runs(
         alloc,
-        which,
-        &runs.values,
-        ranks,
-        &runs.offsets,
+        RunValues::Runs,
+        &runs,
         limits,
-        depth,
+        limits.depth - 1,
         first,
     )
 }
 
-/// The cheaper of another choice, which takes no more bytes than framed arrays and deltas of a level less, and of the cheapest
-/// run-length encoded array of dictionaries, where they are allowed. Where the distinct items are the array itself,
-/// dictionaries are not tried.
+/// The cheaper of another choice, which takes no more bytes than framed arrays and deltas of a level less, and no more than runs,
+/// and of the cheapest run-length encoded array of dictionaries, where they are allowed. Where the distinct items are the array
+/// itself, or the dictionaries are the runs, dictionaries are not tried.
 fn choose_with_dictionaries(
     alloc: Global,
     array: &PrimitiveArray,
     limits: &Limits,
     first: Choice,
 ) -> Result<Choice, FastLanesError>
-    requires { CostsNoMore first.bytes (cheapest (encoded_bytes array.now) (delta_schemes limits.now (limits.now.depth - 1))) }
-    ensures { Answers chosen result (Ok (cheaper (chosen first) (cheapest (encoded_bytes array.now) (dictionary_schemes limits.now limits.now.depth)))) }
+    requires deltas { CostsNoMore first.bytes (cheapest (encoded_bytes array.now) (delta_schemes 2 limits.now (limits.now.depth - 1))) }
+    requires runs { CostsNoMore first.bytes (cheapest (encoded_bytes array.now) (run_schemes shapes.Runs limits.now.rle limits.now limits.now.depth)) }
+    ensures { Answers chosen result (Ok (cheaper (chosen first) (cheapest (encoded_bytes array.now) (run_schemes shapes.Dictionary limits.now.dict limits.now limits.now.depth)))) }
 {
     if !has_level(limits.dict, limits.depth) {
         return Ok(first);
@@ -587,7 +503,18 @@ fn choose_with_dictionaries(
     if are_items_distinct(array) {
         return Ok(first);
     }
-    choose_dictionaries(alloc, array, limits, limits.depth - 1, first)
+    if limits.rle && are_sorted(array) {
+        return Ok(first);
+    }
+    let runs = dictionaries_of(alloc, array)?;
+    choose_over_runs(
+        alloc,
+        RunValues::Dictionary,
+        &runs,
+        limits,
+        limits.depth - 1,
+        first,
+    )
 }
 
 /// The first scheme of the candidates by which the array takes fewest bytes, and these.
@@ -598,7 +525,7 @@ pub(crate) fn choose(
 ) -> Result<Choice, FastLanesError>
     ensures { Answers chosen result (Ok (cheapest (encoded_bytes array.now) (candidates limits.now))) }
 {
-    let best = choose_framed_or_deltas(alloc, array, limits, limits.depth)?;
+    let best = choose_framed_or_deltas(alloc, array, 2, limits, limits.depth)?;
     if best.bytes == 0 {
         return Ok(best);
     }

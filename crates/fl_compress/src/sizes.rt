@@ -8,10 +8,10 @@ ghost use Rattle.fl_encode.specs.SchemeShapes.{shape};
 ghost use Rattle.fl_serde.specs.ByteCounts.{tree_bytes};
 ghost use Rattle.fl_compress.specs.Cheapest.{both};
 ghost use Rattle.fl_compress.specs.EncodedBytes.{encoded_bytes};
-ghost use Rattle.fl_compress.specs.Statistics.{by_order, capped, chunk_size, delta_size, framed_size, is_candidate, packed_size, reference_size, size_in, statistics_of};
+ghost use Rattle.fl_compress.specs.Statistics.{base_size, by_order, capped, chunk_size, delta_size, framed_size, is_candidate, packed_size, reference_size, run_size, size_in, statistics_of};
 
 use crate::statistics::{
-    ChunkSizes, DeltaSizes, DictionarySizes, FrameSizes, FramedSizes, PackedSizes, Statistics,
+    BaseSizes, ChunkSizes, DeltaSizes, FrameSizes, FramedSizes, PackedSizes, RunSizes, Statistics,
 };
 use fl_codec::for_::ItemOrder;
 use fl_encode::{Child, Packing, Scheme};
@@ -108,12 +108,36 @@ fn framed_child(sizes: &FramedSizes, child: &Child) -> Option<u64>
     }
 }
 
+fn base_size(sizes: &BaseSizes, scheme: &Scheme) -> Option<u64>
+    ensures { result ≡ capped (base_size sizes.now (shape scheme.now)) }
+{
+    match scheme {
+        Scheme::Delta { bases, deltas } => both(
+            framed_child(&sizes.bases, bases),
+            both(
+                framed_child(&sizes.deltas, deltas),
+                Some(capped(sizes.validity)),
+            ),
+        ),
+        _ => framed_size(&sizes.framed, scheme),
+    }
+}
+
+fn base_child(sizes: &BaseSizes, child: &Child) -> Option<u64>
+    ensures { result ≡ capped (base_size sizes.now child.now) }
+{
+    match child.scheme() {
+        None => Some(capped(sizes.framed.packed.plain)),
+        Some(scheme) => base_size(sizes, scheme),
+    }
+}
+
 fn delta_size(sizes: &DeltaSizes, scheme: &Scheme) -> Option<u64>
     ensures { result ≡ capped (delta_size sizes.now (shape scheme.now)) }
 {
     match scheme {
         Scheme::Delta { bases, deltas } => both(
-            framed_child(&sizes.bases, bases),
+            base_child(&sizes.bases, bases),
             both(
                 framed_child(&sizes.deltas, deltas),
                 Some(capped(sizes.validity)),
@@ -132,13 +156,8 @@ fn delta_child(sizes: &DeltaSizes, child: &Child) -> Option<u64>
     }
 }
 
-fn dictionary_size(
-    sizes: &DictionarySizes,
-    values: &Child,
-    indices: &Child,
-    offsets: &Child,
-) -> Option<u64>
-    ensures { result ≡ capped (both (delta_size sizes.now.values values.now) (both (delta_size sizes.now.indices indices.now) (framed_size sizes.now.offsets offsets.now))) }
+fn run_size(sizes: &RunSizes, values: &Child, indices: &Child, offsets: &Child) -> Option<u64>
+    ensures { result ≡ capped (run_size sizes.now values.now indices.now offsets.now) }
 {
     both(
         delta_child(&sizes.values, values),
@@ -157,18 +176,12 @@ fn candidate_size(scheme: &Scheme, statistics: &Statistics) -> Option<u64>
             values,
             indices,
             offsets,
-        } => both(
-            delta_child(&statistics.values, values),
-            both(
-                framed_child(&statistics.indices, indices),
-                framed_child(&statistics.offsets, offsets),
-            ),
-        ),
+        } => run_size(&statistics.runs, values, indices, offsets),
         Scheme::Dict {
             values,
             indices,
             offsets,
-        } => dictionary_size(&statistics.dictionaries, values, indices, offsets),
+        } => run_size(&statistics.dictionaries, values, indices, offsets),
         _ => delta_size(&statistics.items, scheme),
     }
 }

@@ -34,7 +34,7 @@ fn are_sorted_typed<T: NativePType>(array: &PrimitiveArray) -> bool
 }
 
 /// Whether no item is null, and none is below the one before. The dictionaries are the runs then.
-fn are_sorted(array: &PrimitiveArray) -> bool
+pub(crate) fn are_sorted(array: &PrimitiveArray) -> bool
     ensures { result ≡ true → encode_dictionaries array.now ≡ encode_runs array.now }
 {
     match_each_integer_ptype!(array.ptype(), are_sorted_typed(array))

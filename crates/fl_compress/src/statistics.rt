@@ -3,9 +3,9 @@
 ghost use Rattle.std.specs.Prelude.{◌≡◌, ℤ, List, Ok, map, option_map};
 ghost use Rattle.fl_types.specs.Refusals.{Answers};
 ghost use Rattle.fl_codec.specs.FoRColumns.{chunk_references, chunked_slots, least_by, reading};
-ghost use Rattle.fl_codec.specs.Parts.{items_of_primitive, less_references, subtract_reference};
+ghost use Rattle.fl_codec.specs.Parts.{items_of_primitive, less_references, run_parts, subtract_reference};
 ghost use Rattle.fl_compress.specs.Choices.{HoldDifferences, part_of, with_slots};
-ghost use Rattle.fl_compress.specs.Statistics.{chunk_sizes, delta_sizes, dictionary_sizes, frame_sizes, framed_sizes, packed_sizes, statistics_of};
+ghost use Rattle.fl_compress.specs.Statistics.{base_sizes, chunk_sizes, delta_sizes, frame_sizes, framed_sizes, packed_sizes, run_sizes, statistics_of};
 
 use crate::packing::{at_best_width, at_best_widths};
 use crate::parts::{
@@ -15,7 +15,7 @@ use crate::parts::{
 use crate::sorted::dictionaries_of;
 use fl_codec::delta::blocks::delta_bases;
 use fl_codec::for_::{ItemOrder, common_reference};
-use fl_codec::rle::blocks::run_values;
+use fl_codec::rle::{self, Runs};
 use fl_column::{FastLanesError, PhysicalPType, PrimitiveArray};
 use fl_serde::byte_counts::validity_bytes;
 use fl_types::match_each_integer_ptype;
@@ -66,27 +66,40 @@ pub struct FramedSizes {
     pub signed: FrameSizes,
 }
 
-/// The same, and those of the parts of its delta array.
+/// The same of bases, and those of the parts of their delta array.
+#[derive(Clone, Copy)]
+pub struct BaseSizes {
+    /// As they are.
+    pub framed: FramedSizes,
+    /// Their bases.
+    pub bases: FramedSizes,
+    /// Their deltas.
+    pub deltas: FramedSizes,
+    /// The bytes of the validity.
+    pub validity: u128,
+}
+
+/// The same of an array, and those of the parts of its delta array.
 #[derive(Clone, Copy)]
 pub struct DeltaSizes {
     /// As it is.
     pub framed: FramedSizes,
     /// Its bases.
-    pub bases: FramedSizes,
+    pub bases: BaseSizes,
     /// Its deltas.
     pub deltas: FramedSizes,
     /// The bytes of its validity.
     pub validity: u128,
 }
 
-/// The bytes of the parts of a dictionary for each chunk.
+/// The bytes of the parts of a run-length encoded array.
 #[derive(Clone, Copy)]
-pub struct DictionarySizes {
-    /// The distinct items of each chunk.
+pub struct RunSizes {
+    /// The run values, or the distinct items of each chunk.
     pub values: DeltaSizes,
     /// The index of each item.
     pub indices: DeltaSizes,
-    /// The number of distinct items before each chunk.
+    /// The number of values before each chunk.
     pub offsets: FramedSizes,
 }
 
@@ -95,14 +108,10 @@ pub struct DictionarySizes {
 pub struct Statistics {
     /// As it is.
     pub items: DeltaSizes,
-    /// Its run values.
-    pub values: DeltaSizes,
-    /// The run index of each item.
-    pub indices: FramedSizes,
-    /// The number of run values before each chunk.
-    pub offsets: FramedSizes,
+    /// Its runs.
+    pub runs: RunSizes,
     /// A dictionary for each chunk.
-    pub dictionaries: DictionarySizes,
+    pub dictionaries: RunSizes,
 }
 
 /// The bytes of a part by each packed scheme. Its bits are counted once.
@@ -282,12 +291,28 @@ fn framed_sizes(
     })
 }
 
+fn base_sizes(alloc: Global, array: &PrimitiveArray) -> Result<BaseSizes, FastLanesError>
+    ensures { Answers (λ sizes. sizes) result (Ok (base_sizes array.now)) }
+{
+    let framed = framed_sizes(alloc, array, Part::Items)?;
+    let bases = delta_bases(alloc, array)?;
+    let bases = framed_sizes(alloc, &bases, Part::Items)?;
+    let deltas = framed_sizes(alloc, array, Part::Deltas)?;
+    let validity = validity_bytes(array.validity(), array.len());
+    Ok(BaseSizes {
+        framed,
+        bases,
+        deltas,
+        validity,
+    })
+}
+
 fn delta_sizes(alloc: Global, array: &PrimitiveArray) -> Result<DeltaSizes, FastLanesError>
     ensures { Answers (λ sizes. sizes) result (Ok (delta_sizes array.now)) }
 {
     let framed = framed_sizes(alloc, array, Part::Items)?;
     let bases = delta_bases(alloc, array)?;
-    let bases = framed_sizes(alloc, &bases, Part::Items)?;
+    let bases = base_sizes(alloc, &bases)?;
     let deltas = framed_sizes(alloc, array, Part::Deltas)?;
     let validity = validity_bytes(array.validity(), array.len());
     Ok(DeltaSizes {
@@ -298,25 +323,21 @@ fn delta_sizes(alloc: Global, array: &PrimitiveArray) -> Result<DeltaSizes, Fast
     })
 }
 
-fn dictionary_sizes(
-    alloc: Global,
-    array: &PrimitiveArray,
-) -> Result<DictionarySizes, FastLanesError>
-    ensures { Answers (λ sizes. sizes) result (Ok (dictionary_sizes array.now)) }
+fn run_sizes(alloc: Global, runs: &Runs) -> Result<RunSizes, FastLanesError>
+    ensures { Answers (λ sizes. sizes) result (Ok (run_sizes (run_parts runs.now))) }
 {
-    let runs = dictionaries_of(alloc, array)?;
     let values = delta_sizes(alloc, &runs.values)?;
     let indices = delta_sizes(alloc, &runs.indices)?;
     let offsets = framed_sizes(alloc, &runs.offsets, Part::Items)?;
-    Ok(DictionarySizes {
+    Ok(RunSizes {
         values,
         indices,
         offsets,
     })
 }
 
-/// The statistics of an array. Deltas, run indices and differences are counted chunk by chunk and none is kept; only bases,
-/// run values, run offsets and dictionaries are made.
+/// The statistics of an array. Deltas and differences are counted chunk by chunk and none is kept; only bases, runs and
+/// dictionaries are made.
 ///
 /// # Errors
 /// Only `OutOfMemory`.
@@ -324,16 +345,13 @@ pub fn statistics_of(alloc: Global, array: &PrimitiveArray) -> Result<Statistics
     ensures { Answers (λ statistics. statistics) result (Ok (statistics_of array.now)) }
 {
     let items = delta_sizes(alloc, array)?;
-    let indices = framed_sizes(alloc, array, Part::Indices)?;
-    let (values, offsets) = run_values(alloc, array)?;
-    let values = delta_sizes(alloc, &values)?;
-    let offsets = framed_sizes(alloc, &offsets, Part::Items)?;
-    let dictionaries = dictionary_sizes(alloc, array)?;
+    let runs = rle::encode(alloc, array)?;
+    let runs = run_sizes(alloc, &runs)?;
+    let dictionaries = dictionaries_of(alloc, array)?;
+    let dictionaries = run_sizes(alloc, &dictionaries)?;
     Ok(Statistics {
         items,
-        values,
-        indices,
-        offsets,
+        runs,
         dictionaries,
     })
 }

@@ -4,6 +4,4 @@ pub mod Signs
 pub mod WidthTotals
 pub mod Differences
 pub mod DeltaBlocks
-pub mod IndexBlocks
-pub mod IndexLeasts
 pub mod Slots

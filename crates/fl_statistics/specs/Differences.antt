@@ -4,7 +4,7 @@ use Rattle.fl_types.specs.declared.dtype.PType.{PType}
 use Rattle.fl_types.specs.Bits.{tabulate}
 use Rattle.fl_types.specs.Integers.{read_as, wrap}
 use Rattle.fl_column.specs.Columns.{PrimitiveParts}
-use Rattle.fl_codec.specs.Parts.{compress_deltas, encode_runs, items_of_primitive}
+use Rattle.fl_codec.specs.Parts.{compress_deltas, items_of_primitive}
 
 -- an integer less a reference, modulo 2 to the type's bits
 abbrev pub difference : PType → ℤ → ℤ → ℤ
@@ -18,10 +18,6 @@ less_references ptype one references items =
 -- the deltas of an array, none of which is null
 abbrev pub deltas_of : PrimitiveParts → List (Option ℤ)
 deltas_of p = items_of_primitive (compress_deltas p).1
-
--- the run indices of an array, null where it is
-abbrev pub indices_of : PrimitiveParts → List (Option ℤ)
-indices_of p = items_of_primitive (encode_runs p).indices
 
 -- the integer of an item, 0 of a null
 abbrev pub slot_of : Option ℤ → ℤ

@@ -3,7 +3,6 @@
 
 pub mod constants;
 pub mod deltas;
-pub mod indices;
 mod items;
 mod sources;
 pub mod widths;
@@ -11,9 +10,5 @@ pub mod widths;
 pub use crate::constants::is_constant_less;
 pub use crate::deltas::{
     delta_count, delta_statistics, delta_statistics_less, is_delta_constant, is_delta_constant_less,
-};
-pub use crate::indices::leasts::{index_references, least_index};
-pub use crate::indices::{
-    index_count, index_statistics, index_statistics_less, is_index_constant, is_index_constant_less,
 };
 pub use crate::widths::{BitStatistics, bit_statistics, bit_statistics_less};

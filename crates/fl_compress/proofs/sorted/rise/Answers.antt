@@ -1,5 +1,4 @@
-use Rattle.std.proofs.Common.{◌≡◌, ◌+◌, ◌-◌, map, get_or, pos, ap, sym, subst, ◌∙◌, arith, inl, inr}
-use Rattle.std.specs.Prelude.{◌≤ℤ◌}
+use Rattle.std.proofs.Common.{◌≡◌, ◌+◌, ◌-◌, map, get_or, pos, ap, sym, ◌∙◌, arith, inl, inr}
 use Rattle.std.proofs.lemmas.Bool.{cases_eq}
 use Rattle.std.proofs.lemmas.Int.{ints}
 use Rattle.fl_codec.proofs.ReferenceLaws.{value_read}
