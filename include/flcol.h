@@ -798,9 +798,9 @@ int32_t flcol_file_chunk(const uint8_t *bytes, size_t len, const flcol_chunk *ch
    of one whose end was lost. FLCOL_FILE_TOO_SHORT. FLCOL_BAD_MARK: the file begins in another way, or no beginning has a foot. */
 int32_t flcol_file_recover(const uint8_t *bytes, size_t len, size_t *end);
 
-/* Reads each chunk, and compares it with what the foot says. FLCOL_BAD_CHUNK, FLCOL_BAD_CONTAINER and 2 to 40 as of
-   flcol_file_chunk, FLCOL_BAD_STATISTICS: the statistics or the type are not those of the chunk's items; of the first chunk
-   that has one. */
+/* Reads each chunk, and compares it with what the foot says. Of the first chunk that has one: FLCOL_BAD_CHUNK,
+   FLCOL_BAD_CONTAINER and 2 to 40 as of flcol_file_chunk, FLCOL_TYPE_MISMATCH: its array is of another type than the file,
+   FLCOL_BAD_STATISTICS: a statistic is not that of its items. */
 int32_t flcol_file_verify(const uint8_t *bytes, size_t len);
 
 /* How many items there are, and how many of them are null. FLCOL_LENGTH_OVERFLOW: 2^64 or more. */
@@ -824,8 +824,9 @@ int32_t flcol_file_plan_between(const uint8_t *bytes, size_t len, const flcol_in
                                 uint8_t lower_strict, uint8_t upper_strict, uint8_t *plan, size_t count);
 
 /* How many items are valid and compare so with a constant, or lie between two bounds. The chunks alone are read that
-   flcol_file_plan says FLCOL_READ of. FLCOL_BAD_OPERATOR, before the foot is read. FLCOL_BAD_CHUNK, FLCOL_BAD_CONTAINER and 2
-   to 40 as of flcol_file_chunk, of the first chunk that has one. FLCOL_LENGTH_OVERFLOW: 2^64 or more. */
+   flcol_file_plan says FLCOL_READ of. FLCOL_BAD_OPERATOR, before the foot is read. Of the first of these chunks that has one:
+   FLCOL_BAD_CHUNK, FLCOL_BAD_CONTAINER and 2 to 40 as of flcol_file_chunk, FLCOL_TYPE_MISMATCH as of flcol_file_verify,
+   FLCOL_BAD_STATISTICS: it has another number of items. FLCOL_LENGTH_OVERFLOW: 2^64 or more. */
 int32_t flcol_file_count_trusting(const uint8_t *bytes, size_t len, uint8_t op, const flcol_integer *constant,
                                   uint64_t *passing);
 int32_t flcol_file_count_between_trusting(const uint8_t *bytes, size_t len, const flcol_integer *lower,

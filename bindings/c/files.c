@@ -125,8 +125,8 @@ static void strangers(void) {
     uint8_t dtype = 77;
     small(&file);
     CHECK(with_word(0, FLCOL_I32 + FLCOL_NULLABLE) == FLCOL_OK && with_word(0, 8) == FLCOL_BAD_FIELD && with_word(0, 24) == FLCOL_BAD_FIELD);
-    CHECK(with_word(0, UINT64_MAX) == FLCOL_BAD_FIELD && with_word(0, FLCOL_I32) == FLCOL_BAD_STATISTICS);
-    CHECK(with_word(0, FLCOL_I16 + FLCOL_NULLABLE) == FLCOL_BAD_STATISTICS && with_word(0, FLCOL_U8) == FLCOL_BAD_FIELD);
+    CHECK(with_word(0, UINT64_MAX) == FLCOL_BAD_FIELD && with_word(0, FLCOL_I32) == FLCOL_TYPE_MISMATCH);
+    CHECK(with_word(0, FLCOL_I16 + FLCOL_NULLABLE) == FLCOL_TYPE_MISMATCH && with_word(0, FLCOL_U8) == FLCOL_BAD_FIELD);
     CHECK(with_word(FIRST, 0) == FLCOL_BAD_PLACE && with_word(FIRST, 65) == FLCOL_BAD_PLACE && with_word(FIRST, 1ull << 63) == FLCOL_BAD_PLACE);
     CHECK(with_word(FIRST, UINT64_MAX - 63) == FLCOL_BAD_PLACE && with_word(SECOND, 64) == FLCOL_BAD_PLACE);
     CHECK(with_word(SECOND, file.chunks[1].offset + 64) == FLCOL_BAD_PLACE && with_word(FIRST + 8, file.chunks[0].size - 1) == FLCOL_BAD_CHUNK);

@@ -17,3 +17,4 @@ pub mod PassingLaws
 pub mod RecordLaws
 pub mod FeetLaws
 pub mod FileLaws
+pub mod CallLaws

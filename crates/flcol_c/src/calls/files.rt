@@ -154,7 +154,10 @@ pub extern "C" fn flcol_file_verify(alloc: Global, bytes: &[u8]) -> i32
     ensures status { IsVerdictStatus bytes.now result }
     ensures verified { result ≡ pos 0 → (columns : List Column) × FileHolds bytes.now columns }
 {
-    status_of(files::verify(alloc, bytes))
+    match files::verify(alloc, bytes) {
+        Ok(()) => DONE,
+        Err(fault) => fault.status(),
+    }
 }
 
 /// Writes how many items a file has, as its foot says.

@@ -1,4 +1,5 @@
-use Rattle.std.proofs.Common.{◌≡◌, ℤ, Ok, of_z, rules, subst, sym, to_z, w128}
+use Rattle.std.proofs.Common.{◌≡◌, ℤ, Ok, of_z, rules, subst, sym, to_z}
+use Rattle.std.specs.Int.{w128}
 use Rattle.flcol_c.specs.Files.{GivesSum}
 use Rattle.fl_file.specs.FileReading.{foot_of_reader}
 use Rattle.flcol_c.proofs.FileLaws.{foot_given, foot_read, held_by, sum_refused, sum_unread}
