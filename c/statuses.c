@@ -56,6 +56,15 @@ static const struct status statuses[] = {
     {FLCOL_BAD_OPERATOR, "BadOperator", "the operator of comparison is not known"},
     {FLCOL_STREAM, "Stream", "the stream failed"},
     {FLCOL_BAD_ENCODINGS, "BadEncodings", "a bit stands for no encoding"},
+    {FLCOL_FILE_TOO_SHORT, "FileTooShort", "the file has fewer bytes than a file of chunks"},
+    {FLCOL_BAD_MARK, "BadMark", "the file doesn't begin or end as a file of chunks does, or was not finished"},
+    {FLCOL_BAD_FOOT_LENGTH, "BadFootLength", "the foot of the file can't have the length that stands there"},
+    {FLCOL_BAD_FOOT_CHECKSUM, "BadFootChecksum", "the bytes of the file's foot are not those that its checksum is of"},
+    {FLCOL_BAD_FIELD, "BadField", "a field of the foot is out of its range, or the foot names no type"},
+    {FLCOL_BAD_PLACE, "BadPlace", "a chunk doesn't lie where chunks of the file can lie"},
+    {FLCOL_BAD_CHUNK, "BadChunk", "the bytes of a chunk are not those that its checksum is of"},
+    {FLCOL_FILE_TOO_LONG, "FileTooLong", "the file would have 2^63 bytes or more"},
+    {FLCOL_BAD_STATISTICS, "BadStatistics", "the statistics of a chunk are not those of its items"},
 };
 
 static const struct status unknown = {-1, "Unknown", "no status has this number"};

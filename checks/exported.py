@@ -15,6 +15,8 @@ TYPES = {f"{sign}{bits}": f"{'u' * (sign == 'u')}int{bits}_t" for sign in "ui" f
     "usize": "size_t",
     "ArrayHandle": "flcol_array",
     "ItemRange": "flcol_range",
+    "Integer": "flcol_integer",
+    "ChunkRecord": "flcol_chunk",
 }
 #: Parameters that are text to C, and those whose name is a word of C++.
 TEXTS = ("scheme", "text")

@@ -54,6 +54,15 @@ SENTENCES = {
     "BadScheme": "the text says no scheme, or nests too deep",
     "BadOperator": "the operator of comparison is not known",
     "BadEncodings": "a bit stands for no encoding",
+    "FileTooShort": "the file has fewer bytes than a file of chunks",
+    "BadMark": "the file doesn't begin or end as a file of chunks does, or was not finished",
+    "BadFootLength": "the foot of the file can't have the length that stands there",
+    "BadFootChecksum": "the bytes of the file's foot are not those that its checksum is of",
+    "BadField": "a field of the foot is out of its range, or the foot names no type",
+    "BadPlace": "a chunk doesn't lie where chunks of the file can lie",
+    "BadChunk": "the bytes of a chunk are not those that its checksum is of",
+    "FileTooLong": "the file would have 2^63 bytes or more",
+    "BadStatistics": "the statistics of a chunk are not those of its items",
     "Stream": "the stream failed",
 }
 #: The statuses of calls that are written in C.

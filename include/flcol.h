@@ -69,6 +69,26 @@ typedef struct flcol_range {
     size_t len;
 } flcol_range;
 
+/* An integer of 128 bits in two's complement, high * 2^64 + low: it holds any item of any type, and the sum of fewer than
+   2^63 items. */
+typedef struct flcol_integer {
+    uint64_t low;
+    int64_t high;
+} flcol_integer;
+
+/* What the foot of a file of chunks says of a chunk: 96 bytes, as they stand there. */
+typedef struct flcol_chunk {
+    uint64_t offset;        /* where its bytes begin in the file, a multiple of 64 */
+    uint64_t size;          /* how many bytes it has */
+    uint64_t checksum;      /* the CRC-32C of these bytes */
+    uint64_t len;           /* how many items it has */
+    uint64_t null_count;    /* how many of them are null */
+    uint64_t is_sorted;     /* 1 where no item is above the next and a null is below every integer, else 0 */
+    flcol_integer least;    /* of the valid items, 0 where there is none */
+    flcol_integer greatest; /* of the valid items, 0 where there is none */
+    flcol_integer sum;      /* of the valid items */
+} flcol_chunk;
+
 /* Statuses. 1 to 40 are the refusals of the library, 42 that of a container; from 100 on those of this interface.
    flcol_status_message says what each means. */
 enum {
@@ -120,7 +140,16 @@ enum {
     FLCOL_BAD_SCHEME = 103,   /* the text says no scheme */
     FLCOL_BAD_OPERATOR = 104, /* no operator has the number */
     FLCOL_STREAM = 105,       /* the stream failed */
-    FLCOL_BAD_ENCODINGS = 106 /* a bit stands for no encoding */
+    FLCOL_BAD_ENCODINGS = 106, /* a bit stands for no encoding */
+    FLCOL_FILE_TOO_SHORT = 107,
+    FLCOL_BAD_MARK = 108,
+    FLCOL_BAD_FOOT_LENGTH = 109,
+    FLCOL_BAD_FOOT_CHECKSUM = 110,
+    FLCOL_BAD_FIELD = 111,
+    FLCOL_BAD_PLACE = 112,
+    FLCOL_BAD_CHUNK = 113,
+    FLCOL_FILE_TOO_LONG = 114,
+    FLCOL_BAD_STATISTICS = 115
 };
 
 /* Types, by the numbers that containers have; with FLCOL_NULLABLE added items may be null. FLCOL_BOOL is the type of
@@ -731,6 +760,97 @@ int32_t flcol_serialized_len(flcol_array *array, size_t *len);
 /* The array as a container, in the first of `room` bytes; `len` is how many it has, and those behind it stay as they were.
    FLCOL_NO_ARRAY. FLCOL_BAD_CONTAINER. FLCOL_WRONG_LENGTH: the container is longer. */
 int32_t flcol_serialize(flcol_array *array, uint8_t *bytes, size_t room, size_t *len);
+
+/* ---- Files of chunks ---- */
+
+/* A column that is longer than memory is a file of chunks, each the container of a part of it; docs/FILE.md has every byte.
+   `bytes` are those of the whole file, in memory or mapped; they are the caller's, and nothing of them is kept behind a call.
+   Each call with the bytes of a file but flcol_file_chunk reads the foot, and its first statuses are those of a foot, in the
+   order of docs/FILE.md: FLCOL_FILE_TOO_SHORT, FLCOL_BAD_MARK, FLCOL_BAD_FOOT_LENGTH, FLCOL_BAD_FOOT_CHECKSUM,
+   FLCOL_BAD_FIELD, FLCOL_BAD_PLACE. A checksum finds accidents, and nobody who made it on purpose. So what is answered from
+   statistics is true where they are those of the chunks: `_trusting` says so, and flcol_file_verify compares them. */
+
+/* The mark that a file of chunks begins with. */
+#define FLCOL_FILE_MARK "FLC2"
+
+/* A room that is long enough for the end of a file of so many chunks. */
+#define FLCOL_FOOT_ROOM(count) (96 * (count) + 91)
+
+/* What the statistics of a chunk say of a test. */
+enum {
+    FLCOL_SKIP = 0, /* no valid item passes */
+    FLCOL_READ = 1, /* some may pass and some not: the chunk has to be read */
+    FLCOL_ALL = 2   /* each valid item passes */
+};
+
+/* The type of the items, as of flcol_dtype, and how many chunks there are. */
+int32_t flcol_file_look(const uint8_t *bytes, size_t len, uint8_t *dtype, size_t *count);
+
+/* What the foot says of each chunk. FLCOL_WRONG_LENGTH: `count` is not the number of chunks. */
+int32_t flcol_file_chunks(const uint8_t *bytes, size_t len, flcol_chunk *chunks, size_t count);
+
+/* The array of a chunk, whose bytes are copied. No foot is read: of `chunk` the offset, the size and the checksum are looked
+   at. FLCOL_BAD_PLACE: the chunk does not lie in the file. FLCOL_BAD_CHUNK: the checksum is another one.
+   FLCOL_BAD_CONTAINER. Any of 2 to 40: its array is not sound. */
+int32_t flcol_file_chunk(const uint8_t *bytes, size_t len, const flcol_chunk *chunk, flcol_array *out);
+
+/* The length of the longest beginning of a file that has a foot and ends at a multiple of 64: a file of chunks, which is left
+   of one whose end was lost. FLCOL_FILE_TOO_SHORT. FLCOL_BAD_MARK: the file begins in another way, or no beginning has a foot. */
+int32_t flcol_file_recover(const uint8_t *bytes, size_t len, size_t *end);
+
+/* Reads each chunk, and compares it with what the foot says. Of the first chunk that has one: FLCOL_BAD_CHUNK,
+   FLCOL_BAD_CONTAINER and 2 to 40 as of flcol_file_chunk, FLCOL_TYPE_MISMATCH: its array is of another type than the file,
+   FLCOL_BAD_STATISTICS: a statistic is not that of its items. */
+int32_t flcol_file_verify(const uint8_t *bytes, size_t len);
+
+/* How many items there are, and how many of them are null. FLCOL_LENGTH_OVERFLOW: 2^64 or more. */
+int32_t flcol_file_len_trusting(const uint8_t *bytes, size_t len, uint64_t *items);
+int32_t flcol_file_null_count_trusting(const uint8_t *bytes, size_t len, uint64_t *nulls);
+
+/* The sum of the valid items. FLCOL_LENGTH_OVERFLOW: that of the items of the first chunks has more than 128 bits, so that
+   there are 2^63 items or more. */
+int32_t flcol_file_sum_trusting(const uint8_t *bytes, size_t len, flcol_integer *sum);
+
+/* The least and the greatest valid item, and 0; or two zeros and 1, where no item is valid. */
+int32_t flcol_file_min_max_trusting(const uint8_t *bytes, size_t len, flcol_integer *least, flcol_integer *greatest,
+                                    uint8_t *is_none);
+
+/* For each chunk FLCOL_SKIP, FLCOL_READ or FLCOL_ALL: what its statistics say of how its items compare with a constant, and
+   of whether they lie between two bounds, of which one is left out where its `strict` is not 0. Constants may be of no item's
+   type. FLCOL_BAD_OPERATOR, before the foot is read. FLCOL_WRONG_LENGTH: `count` is not the number of chunks. */
+int32_t flcol_file_plan(const uint8_t *bytes, size_t len, uint8_t op, const flcol_integer *constant, uint8_t *plan,
+                        size_t count);
+int32_t flcol_file_plan_between(const uint8_t *bytes, size_t len, const flcol_integer *lower, const flcol_integer *upper,
+                                uint8_t lower_strict, uint8_t upper_strict, uint8_t *plan, size_t count);
+
+/* How many items are valid and compare so with a constant, or lie between two bounds. The chunks alone are read that
+   flcol_file_plan says FLCOL_READ of. FLCOL_BAD_OPERATOR, before the foot is read. Of the first of these chunks that has one:
+   FLCOL_BAD_CHUNK, FLCOL_BAD_CONTAINER and 2 to 40 as of flcol_file_chunk, FLCOL_TYPE_MISMATCH as of flcol_file_verify,
+   FLCOL_BAD_STATISTICS: it has another number of items. FLCOL_LENGTH_OVERFLOW: 2^64 or more. */
+int32_t flcol_file_count_trusting(const uint8_t *bytes, size_t len, uint8_t op, const flcol_integer *constant,
+                                  uint64_t *passing);
+int32_t flcol_file_count_between_trusting(const uint8_t *bytes, size_t len, const flcol_integer *lower,
+                                          const flcol_integer *upper, uint8_t lower_strict, uint8_t upper_strict,
+                                          uint64_t *passing);
+
+/* A file is written from its beginning to its end: FLCOL_FILE_MARK without the 0 behind it, then for each array what
+   flcol_file_append writes, with `place` the number of bytes that the file has then, then what flcol_file_finish writes. To
+   add to a file that is there, arrays are appended at its end, whose bytes stay, and it is finished with the chunks that its
+   foot says and those that came; until then flcol_file_recover finds the file that was there. */
+
+/* The bytes to add to a file of `place` bytes for an array, zeros up to a multiple of 64 and its container, over the first of
+   the room's, how many they are, and what is known of the chunk. An array is written as it is encoded.
+   FLCOL_NO_ARRAY. FLCOL_NOT_INTEGER. FLCOL_BAD_CONTAINER: it has none. FLCOL_FILE_TOO_LONG: the file would have 2^63 bytes.
+   FLCOL_WRONG_LENGTH: there is no room for them; flcol_serialized_len and 63 more are enough. */
+int32_t flcol_file_append(flcol_array *array, uint64_t place, uint8_t *bytes, size_t room, size_t *written,
+                          flcol_chunk *chunk);
+
+/* The bytes that end a file of `place` bytes, zeros and the foot, over the first of the room's, and how many they are; behind
+   them the file ends at a multiple of 64. The arrays of the chunks were of this type, which is not compared.
+   FLCOL_UNKNOWN_TYPE: no integer type has the number. FLCOL_BAD_FIELD, FLCOL_BAD_PLACE: no foot says such chunks of a file of
+   `place` bytes. FLCOL_FILE_TOO_LONG. FLCOL_WRONG_LENGTH: there is no room for them; FLCOL_FOOT_ROOM(count) is enough. */
+int32_t flcol_file_finish(uint8_t dtype, const flcol_chunk *chunks, size_t count, uint64_t place, uint8_t *bytes, size_t room,
+                          size_t *written);
 
 /* Frees the array, if one is held, which is none from then on. */
 void flcol_free(flcol_array *array);

@@ -32,7 +32,7 @@ static void statuses(void) {
     for (int32_t status = -300; status <= 300; status++) {
         const char *name = flcol_status_name(status), *message = flcol_status_message(status);
         int is_refusal = status >= FLCOL_OK && status <= FLCOL_CHILD_MISMATCH;
-        int is_own = status == FLCOL_BAD_CONTAINER || (status >= FLCOL_NO_ARRAY && status <= FLCOL_BAD_ENCODINGS);
+        int is_own = status == FLCOL_BAD_CONTAINER || (status >= FLCOL_NO_ARRAY && status <= FLCOL_BAD_STATISTICS);
         CHECK((strcmp(name, no_name) != 0) == (is_refusal || is_own) && (strcmp(message, no_message) != 0) == (is_refusal || is_own));
         CHECK(strlen(name) > 1 && strlen(message) > 10 && message[strlen(message) - 1] != '.');
     }

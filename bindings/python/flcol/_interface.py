@@ -22,6 +22,21 @@ class Range(Structure):
     _fields_ = [("start", c_size_t), ("len", c_size_t)]
 
 
+class Integer(Structure):
+    """An integer of 128 bits: two words, of which the high one has the sign."""
+
+    _fields_ = [("low", c_uint64), ("high", c_int64)]
+
+
+class Chunk(Structure):
+    """What the foot of a file says of a chunk."""
+
+    _fields_ = [
+        *((name, c_uint64) for name in ("offset", "size", "checksum", "len", "null_count", "is_sorted")),
+        *((name, Integer) for name in ("least", "greatest", "sum")),
+    ]
+
+
 # fmt: off
 #: What each call answers, and what it takes.
 CALLS: dict[str, tuple[Any, list[Any]]] = {
@@ -228,6 +243,21 @@ CALLS: dict[str, tuple[Any, list[Any]]] = {
     "flcol_import_arrow_stream": (c_int32, [c_void_p, POINTER(Handle)]),
     "flcol_serialized_len": (c_int32, [POINTER(Handle), POINTER(c_size_t)]),
     "flcol_serialize": (c_int32, [POINTER(Handle), c_void_p, c_size_t, POINTER(c_size_t)]),
+    "flcol_file_look": (c_int32, [c_void_p, c_size_t, POINTER(c_uint8), POINTER(c_size_t)]),
+    "flcol_file_chunks": (c_int32, [c_void_p, c_size_t, c_void_p, c_size_t]),
+    "flcol_file_chunk": (c_int32, [c_void_p, c_size_t, POINTER(Chunk), POINTER(Handle)]),
+    "flcol_file_recover": (c_int32, [c_void_p, c_size_t, POINTER(c_size_t)]),
+    "flcol_file_verify": (c_int32, [c_void_p, c_size_t]),
+    "flcol_file_len_trusting": (c_int32, [c_void_p, c_size_t, POINTER(c_uint64)]),
+    "flcol_file_null_count_trusting": (c_int32, [c_void_p, c_size_t, POINTER(c_uint64)]),
+    "flcol_file_sum_trusting": (c_int32, [c_void_p, c_size_t, POINTER(Integer)]),
+    "flcol_file_min_max_trusting": (c_int32, [c_void_p, c_size_t, POINTER(Integer), POINTER(Integer), POINTER(c_uint8)]),
+    "flcol_file_plan": (c_int32, [c_void_p, c_size_t, c_uint8, POINTER(Integer), c_void_p, c_size_t]),
+    "flcol_file_plan_between": (c_int32, [c_void_p, c_size_t, POINTER(Integer), POINTER(Integer), c_uint8, c_uint8, c_void_p, c_size_t]),
+    "flcol_file_count_trusting": (c_int32, [c_void_p, c_size_t, c_uint8, POINTER(Integer), POINTER(c_uint64)]),
+    "flcol_file_count_between_trusting": (c_int32, [c_void_p, c_size_t, POINTER(Integer), POINTER(Integer), c_uint8, c_uint8, POINTER(c_uint64)]),
+    "flcol_file_append": (c_int32, [POINTER(Handle), c_uint64, c_void_p, c_size_t, POINTER(c_size_t), POINTER(Chunk)]),
+    "flcol_file_finish": (c_int32, [c_uint8, c_void_p, c_size_t, c_uint64, c_void_p, c_size_t, POINTER(c_size_t)]),
     "flcol_free": (None, [POINTER(Handle)]),
     "flcol_status_name": (c_char_p, [c_int32]),
     "flcol_status_message": (c_char_p, [c_int32]),
@@ -284,6 +314,15 @@ STATUSES: dict[int, tuple[str, str]] = {
     104: ("BadOperator", "the operator of comparison is not known"),
     105: ("Stream", "the stream failed"),
     106: ("BadEncodings", "a bit stands for no encoding"),
+    107: ("FileTooShort", "the file has fewer bytes than a file of chunks"),
+    108: ("BadMark", "the file doesn't begin or end as a file of chunks does, or was not finished"),
+    109: ("BadFootLength", "the foot of the file can't have the length that stands there"),
+    110: ("BadFootChecksum", "the bytes of the file's foot are not those that its checksum is of"),
+    111: ("BadField", "a field of the foot is out of its range, or the foot names no type"),
+    112: ("BadPlace", "a chunk doesn't lie where chunks of the file can lie"),
+    113: ("BadChunk", "the bytes of a chunk are not those that its checksum is of"),
+    114: ("FileTooLong", "the file would have 2^63 bytes or more"),
+    115: ("BadStatistics", "the statistics of a chunk are not those of its items"),
 }
 UNKNOWN = ("Unknown", "no status has this number")
 # fmt: on

@@ -149,6 +149,24 @@ errors! {
     Stream = 105, "the stream failed";
     /// A bit stands for no encoding.
     BadEncodings = 106, "a bit stands for no encoding";
+    /// The file has fewer bytes than a file of chunks.
+    FileTooShort = 107, "the file has fewer bytes than a file of chunks";
+    /// The file doesn't begin or end as a file of chunks does, or was not finished.
+    BadMark = 108, "the file doesn't begin or end as a file of chunks does, or was not finished";
+    /// The foot of the file can't have the length that stands there.
+    BadFootLength = 109, "the foot of the file can't have the length that stands there";
+    /// The bytes of the file's foot are not those that its checksum is of.
+    BadFootChecksum = 110, "the bytes of the file's foot are not those that its checksum is of";
+    /// A field of the foot is out of its range, or the foot names no type.
+    BadField = 111, "a field of the foot is out of its range, or the foot names no type";
+    /// A chunk doesn't lie where chunks of the file can lie.
+    BadPlace = 112, "a chunk doesn't lie where chunks of the file can lie";
+    /// The bytes of a chunk are not those that its checksum is of.
+    BadChunk = 113, "the bytes of a chunk are not those that its checksum is of";
+    /// The file would have 2^63 bytes or more.
+    FileTooLong = 114, "the file would have 2^63 bytes or more";
+    /// The statistics of a chunk are not those of its items.
+    BadStatistics = 115, "the statistics of a chunk are not those of its items";
 }
 
 impl std::error::Error for Error {}

@@ -25,6 +25,29 @@ pub struct ItemRange {
     pub len: usize,
 }
 
+/// An integer of 128 bits, as C writes it: two words, of which the high one has the sign.
+#[repr(C)]
+#[derive(Clone, Copy, Default)]
+pub struct Integer {
+    pub low: u64,
+    pub high: i64,
+}
+
+/// What the foot of a file says of a chunk, as C writes it.
+#[repr(C)]
+#[derive(Clone, Copy, Default)]
+pub struct Chunk {
+    pub offset: u64,
+    pub size: u64,
+    pub checksum: u64,
+    pub len: u64,
+    pub null_count: u64,
+    pub is_sorted: u64,
+    pub least: Integer,
+    pub greatest: Integer,
+    pub sum: Integer,
+}
+
 #[rustfmt::skip]
 extern "C" {
     pub fn flcol_abi_version() -> u32;
@@ -234,6 +257,21 @@ extern "C" {
     pub fn flcol_import_arrow_stream(stream: *mut ArrowArrayStream, out: *mut Handle) -> i32;
     pub fn flcol_serialized_len(array: *mut Handle, len: *mut usize) -> i32;
     pub fn flcol_serialize(array: *mut Handle, bytes: *mut u8, bytes_len: usize, len: *mut usize) -> i32;
+    pub fn flcol_file_look(bytes: *const u8, bytes_len: usize, dtype: *mut u8, count: *mut usize) -> i32;
+    pub fn flcol_file_chunks(bytes: *const u8, bytes_len: usize, chunks: *mut Chunk, chunks_len: usize) -> i32;
+    pub fn flcol_file_chunk(bytes: *const u8, bytes_len: usize, chunk: *const Chunk, out: *mut Handle) -> i32;
+    pub fn flcol_file_recover(bytes: *const u8, bytes_len: usize, end: *mut usize) -> i32;
+    pub fn flcol_file_verify(bytes: *const u8, bytes_len: usize) -> i32;
+    pub fn flcol_file_len_trusting(bytes: *const u8, bytes_len: usize, items: *mut u64) -> i32;
+    pub fn flcol_file_null_count_trusting(bytes: *const u8, bytes_len: usize, nulls: *mut u64) -> i32;
+    pub fn flcol_file_sum_trusting(bytes: *const u8, bytes_len: usize, sum: *mut Integer) -> i32;
+    pub fn flcol_file_min_max_trusting(bytes: *const u8, bytes_len: usize, least: *mut Integer, greatest: *mut Integer, is_none: *mut u8) -> i32;
+    pub fn flcol_file_plan(bytes: *const u8, bytes_len: usize, operator: u8, constant: *const Integer, plan: *mut u8, plan_len: usize) -> i32;
+    pub fn flcol_file_plan_between(bytes: *const u8, bytes_len: usize, lower: *const Integer, upper: *const Integer, lower_strict: u8, upper_strict: u8, plan: *mut u8, plan_len: usize) -> i32;
+    pub fn flcol_file_count_trusting(bytes: *const u8, bytes_len: usize, operator: u8, constant: *const Integer, passing: *mut u64) -> i32;
+    pub fn flcol_file_count_between_trusting(bytes: *const u8, bytes_len: usize, lower: *const Integer, upper: *const Integer, lower_strict: u8, upper_strict: u8, passing: *mut u64) -> i32;
+    pub fn flcol_file_append(array: *mut Handle, place: u64, bytes: *mut u8, bytes_len: usize, written: *mut usize, chunk: *mut Chunk) -> i32;
+    pub fn flcol_file_finish(dtype: u8, chunks: *const Chunk, chunks_len: usize, place: u64, bytes: *mut u8, bytes_len: usize, written: *mut usize) -> i32;
     pub fn flcol_free(array: *mut Handle);
     pub fn flcol_status_name(status: i32) -> *const c_char;
     pub fn flcol_status_message(status: i32) -> *const c_char;

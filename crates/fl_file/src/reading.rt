@@ -99,7 +99,7 @@ fn placed_foot(alloc: Global, end: u64, body: &[u8]) -> Result<Foot, FileError>
 
 /// Whether the chunks lie one after another from `start` to `end`, each at a multiple of 64.
 #[tactic(auto, using(crate::proofs::FootSteps::next_place))]
-fn lie_between(start: u64, end: u64, chunks: &[ChunkEntry]) -> bool
+pub fn lie_between(start: u64, end: u64, chunks: &[ChunkEntry]) -> bool
     ensures { result ≡ lie_between start end chunks.now }
 {
     let mut place = start;
@@ -168,7 +168,7 @@ fn ptype_numbered(number: u64) -> Option<PType>
 }
 
 /// The type that a word stands for, and whether nulls may stand.
-fn type_of_word(word: u64) -> Option<(PType, Nullability)>
+pub fn type_of_word(word: u64) -> Option<(PType, Nullability)>
     ensures { result ≡ type_of_word word }
 {
     if word < 16 {
@@ -264,7 +264,7 @@ fn statistics_at(ptype: PType, bytes: &[u8]) -> Option<ChunkStatistics>
 
 /// What is known of items by these fields, where none is out of its range.
 #[tactic(auto, unfolding(crate::specs::FootReading::statistics_of))]
-fn statistics_of(
+pub fn statistics_of(
     ptype: PType,
     len: u64,
     null_count: u64,

@@ -165,7 +165,7 @@ impl<S: Append + Drop> Writer<S> {
 }
 
 /// How many bytes a place is short of a multiple of 64.
-fn gap_behind(place: u64) -> usize
+pub fn gap_behind(place: u64) -> usize
     ensures gap { result ≡ padding_len place }
     ensures few { result < 64 }
 {
@@ -173,7 +173,7 @@ fn gap_behind(place: u64) -> usize
 }
 
 /// Where a chunk begins behind a place; `None` where it would not end below 2^63.
-fn offset_behind(place: u64, size: usize) -> Option<u64>
+pub fn offset_behind(place: u64, size: usize) -> Option<u64>
     ensures { result ≡ (if nat_lt (place + padding_len place + size) (2 ^ 63) then Some (place + padding_len place) else None) }
 {
     if place >= 1 << 63 || size >= 1 << 63 {

@@ -14,3 +14,7 @@ pub mod NullCounts
 pub mod BooleanLaws
 pub mod PlainLaws
 pub mod PassingLaws
+pub mod RecordLaws
+pub mod FeetLaws
+pub mod FileLaws
+pub mod CallLaws

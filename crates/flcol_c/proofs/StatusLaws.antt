@@ -44,7 +44,7 @@ told : {A : Type 0} (r : Result A Fault) (s : ℤ) → Told r s → s ≢ pos 1 
 told (Ok x) s t other = t other
 told (Err fault) s t other = t
 
-told_first : {A : Type 0} (r : Result A Fault) (s : ℤ) (fault : Fault) → Told r s → fault_in r ≡ Some fault → s ≡ status_of fault
+pub told_first : {A : Type 0} (r : Result A Fault) (s : ℤ) (fault : Fault) → Told r s → fault_in r ≡ Some fault → s ≡ status_of fault
 told_first (Ok x) s fault t e = absurd (no_fault fault e)
 told_first (Err other) s fault t e = t ∙ ap status_of (let same : other ≡ fault = cc in same)
 

@@ -19,3 +19,6 @@ pub mod Selections
 pub mod Booleans
 pub mod Logic
 pub mod Plain
+pub mod Records
+pub mod Feet
+pub mod Files

@@ -4,7 +4,7 @@ use Rattle.fl_types.specs.declared.error.FastLanesError.{FastLanesError}
 use Rattle.fl_types.specs.declared.error.FastLanesError.TheVariants.{OutOfMemory}
 use Rattle.fl_types.specs.Refusals.{number_of}
 use Rattle.flcol_c.specs.declared.fault.Fault.{Fault}
-use Rattle.flcol_c.specs.declared.fault.Fault.TheVariants.{BadContainer, BadEncodings, BadOperator, BadScheme, NoArray, Refused, WrongLength, WrongType}
+use Rattle.flcol_c.specs.declared.fault.Fault.TheVariants.{BadChunk, BadContainer, BadEncodings, BadField, BadFootChecksum, BadFootLength, BadMark, BadOperator, BadPlace, BadScheme, BadStatistics, FileTooLong, FileTooShort, NoArray, Refused, WrongLength, WrongType}
 
 -- the status that says a fault: a refusal's number, 42 of containers, from 100 on those of the calls alone
 abbrev pub status_of : Fault → ℤ
@@ -16,6 +16,15 @@ status_of WrongLength = pos 102
 status_of BadScheme = pos 103
 status_of BadOperator = pos 104
 status_of BadEncodings = pos 106
+status_of FileTooShort = pos 107
+status_of BadMark = pos 108
+status_of BadFootLength = pos 109
+status_of BadFootChecksum = pos 110
+status_of BadField = pos 111
+status_of BadPlace = pos 112
+status_of BadChunk = pos 113
+status_of FileTooLong = pos 114
+status_of BadStatistics = pos 115
 
 -- the status that says the first fault, or 0 where there is none
 abbrev pub status_at : Option Fault → ℤ

@@ -4,6 +4,7 @@ pub mod aggregates;
 pub mod answers;
 pub mod blocks;
 pub mod encode;
+pub mod files;
 pub mod give_back;
 pub mod look;
 pub mod make;

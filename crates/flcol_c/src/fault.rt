@@ -1,6 +1,6 @@
 //! Why a call does nothing.
 
-ghost use Rattle.std.specs.Prelude.{◌≡◌, pos};
+ghost use Rattle.std.specs.Prelude.{◌≡◌, ◌≢◌, IsOkAnd, pos};
 ghost use Rattle.fl_types.specs.declared.error.FastLanesError.TheVariants.{OutOfMemory};
 ghost use Rattle.flcol_c.specs.declared.fault.Fault.TheVariants as faults;
 ghost use Rattle.flcol_c.specs.Statuses.{status_in, status_of};
@@ -30,6 +30,24 @@ pub enum Fault {
     BadOperator,
     /// A bit stands for no encoding.
     BadEncodings,
+    /// The bytes are fewer than a file of chunks has.
+    FileTooShort,
+    /// The file does not begin and end as one of chunks.
+    BadMark,
+    /// No foot has the length that the file says.
+    BadFootLength,
+    /// The checksum is not that of the foot's bytes.
+    BadFootChecksum,
+    /// What is said of a chunk is out of its range.
+    BadField,
+    /// A chunk does not lie where it has to.
+    BadPlace,
+    /// The checksum is not that of the chunk's bytes.
+    BadChunk,
+    /// The file would have 2^63 bytes.
+    FileTooLong,
+    /// The statistics of a chunk are not those of its items.
+    BadStatistics,
 }
 
 impl Fault {
@@ -46,6 +64,15 @@ impl Fault {
             Fault::BadScheme => 103,
             Fault::BadOperator => 104,
             Fault::BadEncodings => 106,
+            Fault::FileTooShort => 107,
+            Fault::BadMark => 108,
+            Fault::BadFootLength => 109,
+            Fault::BadFootChecksum => 110,
+            Fault::BadField => 111,
+            Fault::BadPlace => 112,
+            Fault::BadChunk => 113,
+            Fault::FileTooLong => 114,
+            Fault::BadStatistics => 115,
         }
     }
 }
@@ -56,6 +83,21 @@ pub(crate) fn status_of(answer: Result<(), Fault>) -> i32
 {
     match answer {
         Ok(()) => DONE,
+        Err(fault) => fault.status(),
+    }
+}
+
+/// Writes what a call answered, and gives its status.
+pub(crate) fn write_answer<T: Copy>(answer: Result<T, Fault>, out: &mut T) -> i32
+    ensures status { result ≡ status_in answer }
+    ensures written { result ≡ pos 0 → IsOkAnd answer (λ found. out.new ≡ found) }
+    ensures unwritten { result ≢ pos 0 → out.new ≡ out.old }
+{
+    match answer {
+        Ok(found) => {
+            *out = found;
+            DONE
+        }
         Err(fault) => fault.status(),
     }
 }
