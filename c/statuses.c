@@ -64,7 +64,7 @@ static const struct status statuses[] = {
     {FLCOL_BAD_PLACE, "BadPlace", "a chunk doesn't lie where chunks of the file can lie"},
     {FLCOL_BAD_CHUNK, "BadChunk", "the bytes of a chunk are not those that its checksum is of"},
     {FLCOL_FILE_TOO_LONG, "FileTooLong", "the file would have 2^63 bytes or more"},
-    {FLCOL_BAD_STATISTICS, "BadStatistics", "the statistics or the type of a chunk are not those of its items"},
+    {FLCOL_BAD_STATISTICS, "BadStatistics", "the statistics of a chunk are not those of its items"},
 };
 
 static const struct status unknown = {-1, "Unknown", "no status has this number"};

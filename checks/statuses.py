@@ -62,7 +62,7 @@ SENTENCES = {
     "BadPlace": "a chunk doesn't lie where chunks of the file can lie",
     "BadChunk": "the bytes of a chunk are not those that its checksum is of",
     "FileTooLong": "the file would have 2^63 bytes or more",
-    "BadStatistics": "the statistics or the type of a chunk are not those of its items",
+    "BadStatistics": "the statistics of a chunk are not those of its items",
     "Stream": "the stream failed",
 }
 #: The statuses of calls that are written in C.

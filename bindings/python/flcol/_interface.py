@@ -322,7 +322,7 @@ STATUSES: dict[int, tuple[str, str]] = {
     112: ("BadPlace", "a chunk doesn't lie where chunks of the file can lie"),
     113: ("BadChunk", "the bytes of a chunk are not those that its checksum is of"),
     114: ("FileTooLong", "the file would have 2^63 bytes or more"),
-    115: ("BadStatistics", "the statistics or the type of a chunk are not those of its items"),
+    115: ("BadStatistics", "the statistics of a chunk are not those of its items"),
 }
 UNKNOWN = ("Unknown", "no status has this number")
 # fmt: on

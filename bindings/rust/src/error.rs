@@ -165,8 +165,8 @@ errors! {
     BadChunk = 113, "the bytes of a chunk are not those that its checksum is of";
     /// The file would have 2^63 bytes or more.
     FileTooLong = 114, "the file would have 2^63 bytes or more";
-    /// The statistics or the type of a chunk are not those of its items.
-    BadStatistics = 115, "the statistics or the type of a chunk are not those of its items";
+    /// The statistics of a chunk are not those of its items.
+    BadStatistics = 115, "the statistics of a chunk are not those of its items";
 }
 
 impl std::error::Error for Error {}
