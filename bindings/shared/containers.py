@@ -35,16 +35,16 @@ def bools(flags):
     return node("vortex.bool", 8, len(flags), buffers=[bits(flags)])
 
 
-def plain_node(type_name, items):
-    dtype = TYPES.index(type_name) + (NULLABLE if None in items else 0)
+def plain_node(type_name, items, is_nullable=False):
+    dtype = TYPES.index(type_name) + (NULLABLE if is_nullable or None in items else 0)
     values = b"".join((item or 0).to_bytes(bytes_of(type_name), "little", signed=type_name[0] == "i") for item in items)
     validity = [bools([item is not None for item in items])] if None in items else []
     return node("vortex.primitive", dtype, len(items), buffers=[values], children=validity)
 
 
-def plain(type_name, items):
+def plain(type_name, items, is_nullable=False):
     """The container of a plain column; None is a null."""
-    return b"FLC1" + plain_node(type_name, items)
+    return b"FLC1" + plain_node(type_name, items, is_nullable)
 
 
 def constant(type_name, value, length):
@@ -156,16 +156,16 @@ def foot(dtype, entries):
     return body + number(crc32c(body), 8) + number(len(body) + 8, 8) + FILE_MARK
 
 
-def chunk_file(type_name, parts, encode=plain, changed=lambda entries: entries, is_nullable=None):
+def chunk_file(type_name, parts, encode=None, changed=lambda entries: entries, is_nullable=None):
     """A file of these parts of a column; `changed` may change what the foot says of them."""
     data, entries = FILE_MARK, []
+    if is_nullable is None:
+        is_nullable = any(None in items for items in parts)
     for items in parts:
-        blob = encode(type_name, items)
+        blob = encode(type_name, items) if encode else plain(type_name, items, is_nullable)
         data += bytes(-len(data) % 64)
         entries.append({"offset": len(data), "size": len(blob), "checksum": crc32c(blob), **statistics(items)})
         data += blob
-    if is_nullable is None:
-        is_nullable = any(None in items for items in parts)
     end = foot(TYPES.index(type_name) + NULLABLE * is_nullable, changed(entries))
     return data + bytes(-(len(data) + len(end)) % 64) + end
 
